@@ -207,6 +207,16 @@ def hold(office, rust, alone, path, rounds):
         )
 
 
+def name_rows(office, path, rounds):
+    """Prints the time of a check with the lines of its rows beside one without, where every second row is bad."""
+    rows = distinct_rows(ROWS, short_row)
+    for at in range(1, ROWS, 2):
+        rows[at] += "x"
+    write(path, rows)
+    plain, named = (statistics.median(taken) for taken in in_turn([office], path, rounds, beside=[office + ["--rows"]]))
+    print(f"\n{ROWS // 2} bad rows of {ROWS}: check {plain:.1f} ms, check --rows {named:.1f} ms, ratio {named / plain:.2f}")
+
+
 def grow(office, path, rounds):
     """Prints the time and the memory of the program by the number of rows."""
     print("\n  rows     MiB   office ms   us a row   office MiB")
@@ -232,6 +242,7 @@ def main():
         alone = [str(args.csv or build_office(Path(folder), "csv_alone", ["@rattle//csv"]))]
         compare(office, rust, path, args.rounds)
         hold(office, rust, alone, path, args.rounds)
+        name_rows(office, path, args.rounds)
         grow(office, path, args.rounds)
 
 

@@ -94,7 +94,8 @@ def read_rows(file):
         separator = ";" if ";" in lines.readline() else ","
         lines.seek(0)
         reader = csv.reader(lines, delimiter=separator, strict=True)
-        rows = [(reader.line_num, row) for row in reader if row]
+        # (a spreadsheet may leave a row of separators alone)
+        rows = [(reader.line_num, row) for row in reader if any(row)]
     need(len(rows) > 1, f"{file}: there are no rows in it")
     return rows[0][1], rows[1:]
 

@@ -36,11 +36,12 @@ import urllib.error
 import urllib.request
 from dataclasses import dataclass, field
 from datetime import datetime
+from functools import partial
 from pathlib import Path
 
 from press_data import (OPEN, STATION, adds_up, con_csv, con_json, datapackage, feed, goes_on, index_csv, index_json, json_text, manifest,
                         record_csv, results_csv, returns_csv, returns_in, schemas)
-from press_pages import aged, con_bodies, con_page, count_page, details_page, index_page, stations_pages, unaged
+from press_pages import aged, con_bodies, con_page, count_pages, details_page, index_pages, stations_pages, unaged
 from press_site import Site, Wrong
 
 # How long an answer may take: an import may have the office before.
@@ -349,12 +350,15 @@ def put_head(folder, file):
     return head
 
 
+def con_of(page):
+    """The constituency that a page is of, by its name, or None."""
+    found = re.fullmatch(r"con-([\w-]+)\.html|(?:details|stations)-([\w-]+)-\d+\.html", page)
+    return found and (found[1] or found[2])
+
+
 def mark_old(site, file):
-    """Says on a page that is there how old it is; whether there is one."""
-    if not file.exists():
-        return False
+    """Says on a page how old it is."""
     put(file.parent, file.name, aged(site, text_of(file), datetime.now().astimezone()))
-    return True
 
 
 # ---- the returns of stations
@@ -461,13 +465,18 @@ def write_open(office, folder, site, con, row, entry, seen, may_ask):
 
 def write_stations(folder, site, code, con, entry, file, states=None):
     """Writes the pages of the stations from a file of returns."""
-    write_parts(folder, f"stations-{code}", list(stations_pages(site, code, con, entry, text_of(folder / file), states)) if file else [])
+    write_parts(folder, f"stations-{code}", stations_pages(site, code, con, entry, text_of(folder / file), states) if file else [])
 
 
 def write_parts(folder, name, pages):
-    """Writes pages that follow one another, and removes those of before that are not of them."""
-    for place, text in enumerate(pages, 1):
-        put(folder, f"{name}-{place}.html", text)
+    """Writes pages that follow one another, each a text or a function of its moment, and removes those of before that are not of
+    them."""
+    moment = datetime.now().astimezone()
+    for place, one in enumerate(pages, 1):
+        if callable(one):
+            put_dated(folder, f"{name}-{place}.html", one, moment)
+        else:
+            put(folder, f"{name}-{place}.html", one)
     for page in folder.glob(f"{name}-*.html"):
         place = re.fullmatch(rf"{re.escape(name)}-(\d+)\.html", page.name)
         if place and int(place[1]) > len(pages):
@@ -497,7 +506,7 @@ def write_con(folder, site, row, con, entry, returns, seen):
     now = datetime.now().astimezone()
     body, *more = con_bodies(site, code, con, row, entry, returns)
     moment = put_dated(folder, f"con-{code}.html", lambda moment: con_page(site, con, row, body, moment), now)
-    write_parts(folder, f"details-{code}", [details_page(site, code, con, row, of_page) for of_page in more])
+    write_parts(folder, f"details-{code}", [partial(details_page, site, code, con, row, of_page) for of_page in more])
     if OPEN not in returns:
         write_stations(folder, site, code, con, entry, returns.get(row["edition"]) if row["certified"] and entry else None)
         remove(folder, open_file(code))
@@ -510,8 +519,12 @@ def write_index(folder, site, progress, text, failed, setup, seen, head):
     cons = {row["con"]: seen.cons[row["con"]] for row in progress if row["con"] in seen.cons}
     names = {code: entry["name"] for code, entry in setup.items()} | {code: con["tally"]["name"] for code, con in cons.items()}
     moment, changed = datetime.now().astimezone(), max((seen.moments[code] for code in cons), default=None)
-    put(folder, "index.html", index_page(site, progress, cons, failed, setup, names, moment, changed, seen.country))
-    put(folder, "count.html", count_page(site, progress, text, cons, names, moment, changed, head))
+    first, *more = index_pages(site, progress, cons, failed, setup, names, moment, changed, seen.country)
+    put(folder, "index.html", first)
+    write_parts(folder, "cons", more)
+    first, *more = count_pages(site, progress, text, cons, names, moment, changed, head)
+    put(folder, "count.html", first)
+    write_parts(folder, "count", more)
     put(folder, "index.csv", index_csv(progress))
     put_dated(folder, "index.json", lambda since: index_json(progress, since), moment)
     put(folder, "results.csv", results_csv(cons, setup))
@@ -570,11 +583,17 @@ class Round:
 
     def leave_as_it_is(self):
         """What is of all offices is of all of them, or stays as it is."""
-        here = {f"con-{row['con']}.html" for _, row in self.rows}
-        pages = [file for file in [self.folder / "index.html", self.folder / "count.html", *sorted(self.folder.glob("con-*.html"))]
-                 if file.name not in here and mark_old(self.site, file)]
+        here = {row["con"] for _, row in self.rows}
+        pages = [file for file in self.folder.glob("*.html") if con_of(file.name) not in here]
+        for page in pages:
+            self.mark_old(page)
         self.failures[-1] += f"; left as they are: {len(pages)} pages"
-        self.seen.written = {code: written for code, written in self.seen.written.items() if f"con-{code}.html" in here}
+
+    def mark_old(self, page):
+        """Says on a page how old it is; that of a constituency is written again once there is an answer."""
+        mark_old(self.site, page)
+        self.seen.written.pop(con_of(page.name), None)
+        self.seen.stations.pop(con_of(page.name), None)
 
     def each(self, act, order=None):
         """Does this for each constituency that has not failed."""
@@ -585,8 +604,9 @@ class Round:
             try:
                 act(office, code, row)
             except NoAnswer as error:
-                mark_old(self.site, self.folder / f"con-{code}.html")
-                self.seen.written.pop(code, None)
+                for page in self.folder.glob("*.html"):
+                    if con_of(page.name) == code:
+                        self.mark_old(page)
                 self.failed.add(code)
                 self.failures.append(str(error))
 

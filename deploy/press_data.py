@@ -137,8 +137,11 @@ def schemas():
 # ---- the CSV files, as a data package (Frictionless)
 
 # In CSV a share is a number, a time a time, and this flag a word. In JSON a share is a text, with
-# its zeros.
-IN_CSV = {"share": {"type": "number"}, "time": {"type": "datetime"}, "takes_part": {"type": "boolean", "trueValues": ["yes"], "falseValues": ["no"]}}
+# its zeros, and a name is as it is.
+QUOTED = "One that begins with = + - or @ has an apostrophe in front."
+IN_CSV = {"share": {"type": "number"}, "time": {"type": "datetime"}, "takes_part": {"type": "boolean", "trueValues": ["yes"], "falseValues": ["no"]},
+          "name": {"description": f"{LIST['name']['description']} {QUOTED}"},
+          "con_name": {"description": f"{RESULTS['con_name']['description']} {QUOTED}"}}
 
 
 def table_field(name, kind):
@@ -205,9 +208,14 @@ def csv_text(heads, rows):
     return out.getvalue()
 
 
+def in_a_cell(name):
+    """A name that a spreadsheet shows, whatever it begins with: it would compute a formula."""
+    return f"'{name}" if name.startswith(("=", "+", "-", "@")) else name
+
+
 def list_rows(con):
     seats = con["seats"]["seats"] if "seats" in con else {}
-    return [[row["code"], row["name"], row["votes"], row["share"], "yes" if row["eligible"] else "no",
+    return [[row["code"], in_a_cell(row["name"]), row["votes"], row["share"], "yes" if row["eligible"] else "no",
              seats.get(row["code"], "")] for row in con["tally"]["lists"]]
 
 
@@ -219,7 +227,7 @@ def results_csv(cons, setup):
     """Votes and seats of all constituencies that are known, in one table."""
     def of_con(code, con):
         electors = sum(station["electors"] for station in setup[code]["stations"]) if code in setup else ""
-        return [code, con["tally"]["name"], *(con["view"][key] for key in ("stations", "closed", "edition", "certified")), electors,
+        return [code, in_a_cell(con["tally"]["name"]), *(con["view"][key] for key in ("stations", "closed", "edition", "certified")), electors,
                 *(con["tally"][key] for key in ("valid", "blank", "spoiled"))]
 
     return csv_text(RESULTS, [of_con(code, con) + row for code, con in cons.items() for row in list_rows(con)])

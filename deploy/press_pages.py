@@ -7,6 +7,7 @@ import math
 import re
 import unicodedata
 from datetime import datetime
+from functools import partial
 from pathlib import Path
 
 from press_country import first_list, seats_before, shares_before, together
@@ -40,9 +41,16 @@ SEARCH_HASH = base64.b64encode(hashlib.sha256(SEARCH.encode()).digest()).decode(
 QUOTIENTS_WIDE = 8
 # Lists without a seat that the page of the country shows, and bars that a page shows.
 SHOWN_WITHOUT_SEAT, SHOWN_BARS = 20, 12
-# Bytes of sections or of rows on a page, which with all else is then below 60 kB, and of rows in
-# a table.
-PAGE_ROOM, TABLE_ROOM = 44_000, 40_000
+# Seats and lists of which a half circle can be made out, and letters of a name in a link to a page.
+MOST_DOTS, MOST_LABELS, LETTERS = 1_000, 60, 24
+# Bytes of a page, which is then below 60 kB with a line that says how old it is too; and of rows in
+# a table, where there is more than one page.
+PAGE_ROOM, TABLE_ROOM = 56_000, 26_000
+# Bytes of rows that the tables of seats and of votes may have on the page of a constituency, which
+# has the first of these with which it is no longer than a page may be: the other rows are on the
+# pages on which it goes on. And of rows that the table of lists may have on that of the country.
+TABLES_OF_CON = ((math.inf, math.inf), (math.inf, 12_000), (math.inf, 6_000), (10_000, 6_000), (6_000, 4_000))
+TABLES_OF_COUNTRY = (math.inf, 16_000, 12_000, 8_000, 4_000)
 
 
 # ---- parts of a page
@@ -64,19 +72,25 @@ def pieces(texts, room):
     return groups
 
 
-def tables(caption, heads, rows, kind="", wide=False, room=TABLE_ROOM):
-    """A table of cells that are HTML already; the first of a row is its head. A head that begins with # is of a column of numbers,
-    which the table names by its place. One that may be wider than a phone can be moved sideways, by keys too. Rows that have more
-    bytes than there is room for are in several tables."""
+def row_of(first, *rest):
+    """A row of cells that are HTML already; the first is its head."""
+    cells = "".join(cell if cell.startswith("<td") else f"<td>{cell}</td>" for cell in rest)
+    return f'<tr><th scope="row">{first}</th>{cells}</tr>\n'
+
+
+def framed(caption, heads, rows, kind="", wide=False):
+    """A table of such rows. A head that begins with # is of a column of numbers, which the table names by its place. One that may be
+    wider than a phone can be moved sideways, by keys too."""
     classes = " ".join([*kind.split(), *(f"n{place}" for place, head in enumerate(heads, 1) if head.startswith("#"))])
     top = "".join(f'<th scope="col">{head.removeprefix("#")}</th>' for head in heads)
-    body = []
-    for first, *rest in rows:
-        cells = "".join(cell if cell.startswith("<td") else f"<td>{cell}</td>" for cell in rest)
-        body.append(f'<tr><th scope="row">{first}</th>{cells}</tr>\n')
     reached = f' tabindex="0" role="region" aria-label="{caption}"' if wide else ""
-    return [f'<div class="scroll"{reached}><table class="{classes}">\n<caption>{caption}</caption>\n<thead><tr>{top}</tr></thead>\n'
-            f'<tbody>\n{"".join(part)}</tbody>\n</table></div>\n' for part in pieces(body, room)]
+    return (f'<div class="scroll"{reached}><table class="{classes}">\n<caption>{caption}</caption>\n<thead><tr>{top}</tr></thead>\n'
+            f'<tbody>\n{"".join(rows)}</tbody>\n</table></div>\n')
+
+
+def tables(caption, heads, rows, kind="", wide=False, room=TABLE_ROOM):
+    """A table of cells; where the rows have more bytes than there is room for, several."""
+    return [framed(caption, heads, part, kind, wide) for part in pieces([row_of(*row) for row in rows], room)]
 
 
 def table(caption, heads, rows, kind="", wide=False):
@@ -84,10 +98,10 @@ def table(caption, heads, rows, kind="", wide=False):
     return tables(caption, heads, rows, kind, wide, math.inf)[0]
 
 
-def sections(title, said, parts):
-    """A section with a title, and one for each further part."""
+def sections(title, said, parts, after=""):
+    """A section with a title, with what is said before and after its part, and one for each further part."""
     first, *more = parts
-    return [f"<section><h2>{title}</h2>\n{said}{first}</section>\n", *(f"<section>\n{part}</section>\n" for part in more)]
+    return [f"<section><h2>{title}</h2>\n{said}{first}{after}</section>\n", *(f"<section>\n{part}</section>\n" for part in more)]
 
 
 def list_name(code, name=None):
@@ -151,15 +165,16 @@ def half_circle(site, seats, total, open_seats=0, majority=None):
     """The seats as a half circle of dots, by list in the order of seats, each list named beside its own; then the open ones."""
     groups = sorted(((code, many) for code, many in seats.items() if many), key=lambda group: -group[1])
     dots, size = places_of_dots(total)
+    at = majority_angle(dots, majority) if majority else None
     drawn, labels, start, ring, before = "", [], 0, False, None
     for code, many in [*groups, *([(None, open_seats)] if open_seats else [])]:
         own, start = dots[start:start + many], start + many
         ring = bool(code and before and like(site.colours_of(before), site.colours_of(code)) and not ring)
         drawn, before = drawn + group_of_dots(code, own, size, ring), code
-        labels.append(((own[0][0] + own[-1][0]) / 2, f"{code or site.say('open_seats')} {many}"))
+        labels.append((clear_of(at, (own[0][0] + own[-1][0]) / 2), f"{code or site.say('open_seats')} {many}"))
     words, width, top, bottom = placed_labels(labels, 100 + size)
     said = ", ".join([*(f"{code} {many}" for code, many in groups), *([f"{site.say('open_seats')} {open_seats}"] if open_seats else [])])
-    line = majority_line(dots, majority, 100 + size) if majority else ""
+    line = majority_line(at, 100 + size) if majority else ""
     caption = f'<figcaption>{site.say("majority", majority=site.number(majority), chamber=site.number(total))}</figcaption>\n' if majority else ""
     return (f'<figure class="seats" role="img" aria-label="{escaped(site.say("circle_said", said=said))}">\n'
             f'<svg viewBox="{-width:.0f} {top:.0f} {2 * width:.0f} {bottom - top:.0f}" stroke-width="{2 * size:.1f}" aria-hidden="true">\n'
@@ -175,9 +190,17 @@ def group_of_dots(code, dots, size, ring):
     return f'<g class="{f"list-{escaped(code)}" if code else "open-seats"}"><path d="{path}"/>{inner}</g>\n'
 
 
-def majority_line(dots, majority, outer):
-    """A line between the dots before the majority's and its own."""
-    angle = (dots[majority - 2][0] + dots[majority - 1][0]) / 2 if majority > 1 else math.pi
+def majority_angle(dots, majority):
+    """Between the dot before the majority's and its own."""
+    return (dots[majority - 2][0] + dots[majority - 1][0]) / 2 if majority > 1 else math.pi
+
+
+def clear_of(line, angle):
+    """The angle of a label; beside that of the line, where it would be on it."""
+    return angle if line is None or abs(angle - line) > 0.12 else line + math.copysign(0.2, angle - line)
+
+
+def majority_line(angle, outer):
     x, y = math.cos(angle), -math.sin(angle)
     return f'<line class="majority" x1="{30 * x:.1f}" y1="{30 * y:.1f}" x2="{(outer + 5) * x:.1f}" y2="{(outer + 5) * y:.1f}"/>\n'
 
@@ -237,13 +260,13 @@ def map_part(shape, cons):
 # ---- sections of the page of the country
 
 
-def country_section(site, country, cons, names):
-    """Seats and votes of each list over all constituencies."""
+def country_section(site, country, cons, names, room):
+    """Seats and votes of each list over all constituencies; of the lists as many as have room."""
     seats = {party.code: party.seats for party in country.parties}
     total = country.chamber if country.chamber is not None else country.certified
     missing = total - country.certified
     figure = ""
-    if total and country.certified:
+    if 0 < total <= MOST_DOTS and 0 < sum(map(bool, seats.values())) <= MOST_LABELS:
         figure = half_circle(site, seats, total, missing, country.majority)
     bars = [{"code": party.code, "name": party.name, "share": hundredths(party.votes, country.base), "eligible": True}
             for party in sorted(country.parties, key=lambda party: -party.votes) if party.votes]
@@ -252,7 +275,7 @@ def country_section(site, country, cons, names):
     own = "" if country.same is None else " " + site.say("country_same" if country.same else "country_other")
     return (f'<section><h2>{site.say("seats_and_votes")}</h2>\n<p class="lead">{certified_said(site, country)}</p>\n'
             + not_counted(site, "withdrawn", country.withdrawn, names) + not_counted(site, "unknown", country.unknown, names)
-            + f'<div class="pair">\n<div class="figures">{figure}{shares}</div>\n{parties_table(site, country, cons)}</div>\n'
+            + f'<div class="pair">\n<div class="figures">{figure}{shares}</div>\n{parties_table(site, country, cons, room)}</div>\n'
             + f'<p>{site.say("shares_of", base=base)}{changes_said(site, country, cons)}{own}</p></section>\n')
 
 
@@ -295,20 +318,22 @@ def changes_said(site, country, cons):
     return (f' {site.say("change_seats")}' if seats is not None else "") + (f' {site.say("change_shares")}' if shares is not None else "")
 
 
-def parties_table(site, country, cons):
+def parties_table(site, country, cons, room):
     seats, shares = former_of(site, country, cons)
-    without = [party for party in country.parties if not party.seats]
-    left = without[SHOWN_WITHOUT_SEAT:]
+    given = sum(1 for party in country.parties if party.seats)
     rows = []
-    for party in country.parties[:len(country.parties) - len(left)]:
+    for party in country.parties[:given + SHOWN_WITHOUT_SEAT]:
         share = hundredths(party.votes, country.base)
         rows.append([list_name(party.code, party.name),
                      changed(site, party.code, party.seats, seats, site.number) if country.certified else "–", site.number(party.votes),
                      changed(site, party.code, share, shares, site.per_cent, " %")])
-    if left:
-        votes = sum(party.votes for party in left)
-        rows.append([site.say("others", number=site.number(len(left))), "0" if country.certified else "–", site.number(votes),
-                     site.per_cent(hundredths(votes, country.base)) + " %"])
+        room -= len("".join(rows[-1]).encode())
+        if room < 0:
+            break
+    if left := country.parties[len(rows):]:
+        votes, of_seats = (sum(getattr(party, what) for party in left) for what in ("votes", "seats"))
+        rows.append([site.say("others" if of_seats else "others_without", number=site.number(len(left))),
+                     site.number(of_seats) if country.certified else "–", site.number(votes), site.per_cent(hundredths(votes, country.base)) + " %"])
     rows.append([site.say("total"), site.number(country.certified), site.number(sum(party.votes for party in country.parties)), ""])
     heads = (site.say("list"), changing(site, "seats", seats), f"#{site.say('votes').lower()}", changing(site, "share", shares))
     return table(site.say("table_country"), heads, rows, "totalled")
@@ -362,17 +387,25 @@ def in_order(text):
     return "".join(letter for letter in unicodedata.normalize("NFD", text.casefold()) if not unicodedata.combining(letter))
 
 
-def cons_section(site, progress, cons, names):
+def in_order_of_names(progress, names):
+    return sorted(progress, key=lambda row: in_order(names.get(row["con"], row["con"])))
+
+
+def cons_rows(site, progress, cons, names):
+    """The constituencies in the order of their names, a row each."""
     rows = []
-    for row in sorted(progress, key=lambda row: in_order(names.get(row["con"], row["con"]))):
+    for row in in_order_of_names(progress, names):
         con = cons.get(row["con"])
         first = con and first_list(con)
         given = " ".join(f'<span class="piece">{escaped(code)} {many}</span>' for code, many in seats_of(con) if many)
-        rows.append([f'{con_link(row["con"], names)} <span class="name">{site.say(state_of(row, con))}</span>', list_name(first) if first else "–",
-                     given or "–", site.per_cent(hundredths(row["closed"], row["stations"])) + " %"])
+        rows.append(row_of(f'{con_link(row["con"], names)} <span class="name">{site.say(state_of(row, con))}</span>', list_name(first) if first else "–",
+                           given or "–", site.per_cent(hundredths(row["closed"], row["stations"])) + " %"))
+    return rows
+
+
+def cons_table(site, rows):
     heads = (site.say("con"), site.say("first"), site.say("seats").lower(), f"#{site.say('counted_head')}")
-    return (f'<section><h2>{site.say("cons")}</h2>\n{map_figure(site, cons)}{search_field(site)}'
-            + table(site.say("table_cons"), heads, rows, "searched cons") + "</section>\n")
+    return search_field(site) + framed(site.say("table_cons"), heads, rows, "searched cons")
 
 
 def seats_of(con):
@@ -403,7 +436,7 @@ def links_list(site, links):
 # ---- the page of the count
 
 
-def count_section(site, progress, cons, names):
+def count_sections(site, progress, cons, names):
     rows = []
     for row in progress:
         state = state_of(row, cons.get(row["con"]))
@@ -412,8 +445,8 @@ def count_section(site, progress, cons, names):
     certified = sum(row["certified"] for row in progress)
     said = site.say("certified_cons", certified=site.number(certified), cons=site.number(len(progress)))
     heads = (site.say("con"), site.say("certificate"), *(f"#{site.say(key)}" for key in COUNTED))
-    return (f"<section><h2>{site.say('cons')}</h2>\n<p>{said}.</p>\n{progress_bar(said, certified, len(progress))}"
-            + table(site.say("table_count"), heads, rows, "count", wide=True) + "</section>\n")
+    return sections(site.say("cons"), f"<p>{said}.</p>\n{progress_bar(said, certified, len(progress))}",
+                    tables(site.say("table_count"), heads, rows, "count", wide=True))
 
 
 COUNTED = ("stations", "missing", "received", "queried", "corrected", "closed")
@@ -436,11 +469,12 @@ def former_con(site, code, con, entry):
     return seats_before(site.former, [code]) if "seats" in con else None, shares_before(site.former, [code]) if whole else None
 
 
-def seats_section(site, code, con, row, entry):
+def seats_sections(site, code, con, row, entry, room):
+    """The seats, with as many rows of their table as have room, and the others."""
     if not con["view"]["certified"]:
         why = site.say("why_returns" if row["closed"] < row["stations"] else "why_board")
         what = site.say("none_withdrawn" if con["past"] else "none_open")
-        return f'<section><h2>{site.say("seats")}</h2>\n<p class="none"><b>{what}</b> {why} {site.say("no_seat")}</p></section>\n'
+        return [f'<section><h2>{site.say("seats")}</h2>\n<p class="none"><b>{what}</b> {why} {site.say("no_seat")}</p></section>\n']
     seats, total = con["seats"]["seats"], con["seats"]["total"]
     before, _ = former_con(site, code, con, entry)
     rows = [[list_name(listed["code"], listed["name"]), changed(site, listed["code"], seats[listed["code"]], before, site.number)]
@@ -452,11 +486,12 @@ def seats_section(site, code, con, row, entry):
     drawn = f'<p>{site.say("lot", lists=escaped(site.say("lot_then").join(lot)))}</p>\n' if lot else ""
     heads = (site.say("list"), changing(site, "seats", before))
     ordered = {listed["code"]: seats[listed["code"]] for listed in by_votes(con)}
-    return (f'<section><h2>{site.say("seats")}</h2>\n<p>{said}</p>\n<div class="pair">\n{half_circle(site, ordered, total) if total else ""}'
-            + table(site.say("table_seats"), heads, rows, "totalled") + f"</div>\n{drawn}</section>\n")
+    return sections(site.say("seats"), f'<p>{said}</p>\n<div class="pair">\n{half_circle(site, ordered, total) if total else ""}',
+                    tables(site.say("table_seats"), heads, rows, "totalled", room=room), f"</div>\n{drawn}")
 
 
-def votes_section(site, code, con, entry):
+def votes_sections(site, code, con, entry, room):
+    """The votes, with as many rows of their table as have room, and the others."""
     _, before = former_con(site, code, con, entry)
     lists = [row | {"share": int(row["share"].replace(".", ""))} for row in by_votes(con)]
     rows = [[list_name(row["code"], row["name"]), site.number(row["votes"]), changed(site, row["code"], row["share"], before, site.per_cent, " %"),
@@ -469,8 +504,8 @@ def votes_section(site, code, con, entry):
     heads = (site.say("list"), f"#{site.say('votes').lower()}", changing(site, "share", before), site.say("takes_part"))
     shares = site.say("shares_of", base=base) if entry else site.say("shares_in")
     changes = "" if before is None else f' {site.say("change_shares")}'
-    return (f'<section><h2>{site.say("votes")}</h2>\n{so_far}<div class="pair">\n{vote_bars(site, lists, entry["threshold"] if entry else 0, limit)}'
-            + table(site.say("table_votes"), heads, rows) + f'</div>\n<p>{shares} {site.say("takes_part_said")}{changes}</p></section>\n')
+    return sections(site.say("votes"), f'{so_far}<div class="pair">\n{vote_bars(site, lists, entry["threshold"] if entry else 0, limit)}',
+                    tables(site.say("table_votes"), heads, rows, room=room), f'</div>\n<p>{shares} {site.say("takes_part_said")}{changes}</p>')
 
 
 def counted_section(site, code, con, row, entry, published):
@@ -495,11 +530,11 @@ def holders_sections(site, con, order, candidates):
     rows = [[list_name(row["list"]), "–" if row["place"] is None else site.number(row["place"]),
              f'<i>{site.say("empty")}</i>' if row["place"] is None else escaped(row["name"])]
             for row in sorted(con["holders"], key=lambda row: order[row["list"]])]
-    gone = "".join(f'<li>{list_name(row["list"])}, {site.say("gone_place", place=row["place"])}'
-                   f'{candidate(candidates, row)}: <q>{escaped(row["note"])}</q></li>\n' for row in con["view"]["gone"])
-    left = f'<h3>{site.say("gone")}</h3>\n<ul>\n{gone}</ul>\n' if gone else ""
-    *parts, last = tables(site.say("table_holders"), (site.say("list"), f"#{site.say('place')}", site.say("name")), rows)
-    return sections(site.say("holders"), "", [*parts, last + left])
+    gone = [f'<li>{list_name(row["list"])}, {site.say("gone_place", place=row["place"])}'
+            f'{candidate(candidates, row)}: <q>{escaped(row["note"])}</q></li>\n' for row in con["view"]["gone"]]
+    left = [f'<h3>{site.say("gone")}</h3>\n<ul>\n{"".join(part)}</ul>\n' for part in pieces(gone, TABLE_ROOM) if part]
+    parts = tables(site.say("table_holders"), (site.say("list"), f"#{site.say('place')}", site.say("name")), rows)
+    return sections(site.say("holders"), "", [*parts[:-1], parts[-1] + "".join(left[:1]), *left[1:]])
 
 
 def candidate(candidates, row):
@@ -529,11 +564,11 @@ def quotients_sections(site, con, order):
         rows = [[list_name(code), *(quotient(site, value, won) for value, won in row[start:end])] for code, row in lists]
         caption = site.say("table_quotients") if many <= QUOTIENTS_WIDE else site.say("table_quotients_part", first=start + 1, last=end)
         heads = (site.say("list"), *(f"#{site.say('seat_number', number=place)}" for place in range(start + 1, end + 1)))
-        parts.append(table(caption, heads, rows, "quotients", wide=True))
+        parts += tables(caption, heads, rows, "quotients", wide=True)
     short = [[list_name(row["list"]), site.number(row["seats"]), "–" if row["short"] is None else site.number(row["short"])]
              for row in sorted(con["short"], key=lambda row: order[row["list"]])]
     heads = (site.say("list"), f"#{site.say('seats').lower()}", f"#{site.say('short')}")
-    parts.append(table(site.say("table_short"), heads, short))
+    parts += tables(site.say("table_short"), heads, short)
     return sections(site.say("quotients"), f'<p>{site.say("quotients_said")}</p>\n', parts)
 
 
@@ -543,27 +578,27 @@ def quotient(site, value, won):
     return f'<td class="won"><b>{site.number(value)}</b><span aria-hidden="true"> ★</span><span class="unseen"> {site.say("won")}</span></td>'
 
 
-def quota_section(site, con, order):
+def quota_sections(site, con, order):
     if "quota" not in con:
-        return ""
+        return []
     rows = [[list_name(row["list"]), *(site.number(row[key]) for key in ("votes", "whole", "remainder", "seats"))]
             for row in sorted(con["quota"]["lists"], key=lambda row: order[row["list"]])]
     heads = (site.say("list"), f"#{site.say('votes').lower()}", f"#{site.say('whole')}", f"#{site.say('remainder')}", f"#{site.say('seats').lower()}")
     said = site.say("quotas_said", votes=site.number(con["quota"]["votes"]), seats=site.number(con["quota"]["seats"]))
-    return f'<section><h2>{site.say("quotas")}</h2>\n<p>{said}</p>\n' + table(site.say("table_quotas"), heads, rows, wide=True) + "</section>\n"
+    return sections(site.say("quotas"), f"<p>{said}</p>\n", tables(site.say("table_quotas"), heads, rows, wide=True))
 
 
-def past_section(site, con, order, returns):
+def past_sections(site, con, order, returns):
     if not con["past"]:
-        return f'<section><h2>{site.say("past")}</h2>\n<p>{site.say("past_none")}</p></section>\n'
-    note = con["view"]["note"]
-    parts = f'<p>{site.say("past_note")} <q>{escaped(note)}</q></p>\n' if note else ""
+        return [f'<section><h2>{site.say("past")}</h2>\n<p>{site.say("past_none")}</p></section>\n']
+    note, parts = con["view"]["note"], []
     for past in con["past"]:
         rows = [[list_name(row["code"], row["name"]), site.number(row["seats"])] for row in sorted(past["lists"], key=lambda row: order[row["code"]])]
         of_stations = returns.get(past["edition"])
         link = f'<p><a href="{of_stations}">{site.say("past_returns")}</a></p>\n' if of_stations else ""
-        parts += table(site.say("table_past", edition=past["edition"]), (site.say("list"), f"#{site.say('seats').lower()}"), rows, "withdrawn") + link
-    return f'<section><h2>{site.say("past")}</h2>\n{parts}</section>\n'
+        *more, last = tables(site.say("table_past", edition=past["edition"]), (site.say("list"), f"#{site.say('seats').lower()}"), rows, "withdrawn")
+        parts += [*more, last + link]
+    return sections(site.say("past"), f'<p>{site.say("past_note")} <q>{escaped(note)}</q></p>\n' if note else "", parts)
 
 
 def files_section(site, code, edition, returns):
@@ -580,7 +615,7 @@ def texts_sections(site, texts):
     """The office's own texts, one after the other; one that is longer than a page may be is in pieces of whole lines."""
     said = f'<h2>{site.say("texts")}</h2>\n<p>{site.say("texts_said")}</p>\n'
     for name, text in texts.items():
-        for place, piece in enumerate(pieces(escaped(text).splitlines(keepends=True), PAGE_ROOM)):
+        for place, piece in enumerate(pieces(escaped(text).splitlines(keepends=True), TABLE_ROOM)):
             part = f"{name}-{place}" if place else name
             yield (f'<section>{said}<h3 id="text-{part}">{name}</h3>\n<pre tabindex="0" role="region" aria-labelledby="text-{part}">'
                    f'{"".join(piece)}</pre></section>\n')
@@ -630,33 +665,58 @@ def codes_of(con):
     return [row["code"] for row in con["tally"]["lists"]]
 
 
+def room_beside(*parts):
+    """Bytes that a page has room for, beside these parts of it."""
+    return PAGE_ROOM - sum(len(part.encode()) for part in parts)
+
+
+def divided(parts, room, links):
+    """Parts in groups that have room on a page each, beside the links from each page to the others, which this function makes of
+    groups and the place of one."""
+    groups, before = pieces(parts, room), 0
+    while before < len(groups):
+        before = len(groups)
+        groups = pieces(parts, room - len(links(groups, 0).encode()))
+    return groups
+
+
 def con_bodies(site, code, con, row, entry, returns):
     """What the page of a constituency has, and, where that is too long for one, the pages on which it goes on; `entry` is what the
     setup says of the constituency, or None."""
     order = {listed["code"]: place for place, listed in enumerate(by_votes(con))}
     candidates = {listed["code"]: listed["candidates"] for listed in entry["lists"]} if entry else {}
-    first = (seats_section(site, code, con, row, entry) + votes_section(site, code, con, entry)
-             + counted_section(site, code, con, row, entry, (row["edition"] if row["certified"] else OPEN) in returns))
+    counted = counted_section(site, code, con, row, entry, (row["edition"] if row["certified"] else OPEN) in returns)
     details = [*holders_sections(site, con, order, candidates), *awards_sections(site, con), *quotients_sections(site, con, order),
-               quota_section(site, con, order)]
-    last = past_section(site, con, order, returns) + files_section(site, code, row["edition"], returns)
+               *quota_sections(site, con, order)]
+    past, files = past_sections(site, con, order, returns), files_section(site, code, row["edition"], returns)
     texts = list(texts_sections(site, con["texts"]))
-    whole = first + "".join(details) + last + "".join(texts)
-    if len(whole.encode()) <= PAGE_ROOM:
-        return [whole]
-    parts = pieces([*filter(None, details), *texts], PAGE_ROOM)
-    above, *links = [details_links(site, code, parts, here) for here in (None, *range(len(parts)))]
-    return [first + above + last, *(link + "".join(part) for link, part in zip(links, parts))]
+    room = room_beside(details_page(site, code, con, row, "", datetime.now().astimezone()))
+
+    def links(groups, here):
+        return details_links(site, [f"details-{code}-{place}.html" for place in range(1, len(groups) + 1)], groups, here)
+
+    for of_seats, of_votes in TABLES_OF_CON:
+        seats, *more_seats = seats_sections(site, code, con, row, entry, of_seats)
+        votes, *more_votes = votes_sections(site, code, con, entry, of_votes)
+        whole = "".join([seats, *more_seats, votes, *more_votes, counted, *details, *past, files, *texts])
+        if len(whole.encode()) <= room:
+            return [whole]
+        groups = divided([*more_seats, *more_votes, *details, *past, *texts], room, links)
+        first = seats + votes + counted + links(groups, None) + files
+        if len(first.encode()) <= room:
+            break
+    return [first, *(links(groups, here) + "".join(group) for here, group in enumerate(groups))]
 
 
-def details_links(site, code, parts, here):
-    """Links to the pages on which that of a constituency goes on, by the tables and the texts of each."""
+def details_links(site, files, groups, here):
+    """Links to the pages on which another goes on, by the tables and the texts of each."""
     items = ""
-    for place, part in enumerate(parts):
-        names = ", ".join(one or other for one, other in re.findall("<caption>(.*?)</caption>|<h3[^>]*>(.*?)</h3>", "".join(part)))
-        link = f'<a href="details-{escaped(code)}-{place + 1}.html">{names}</a>'
-        items += f"<li>{f'<b>{names}</b>' if place == here else link}</li>\n"
-    return f'<section><h2>{site.say("details")}</h2>\n<ul>\n{items}</ul></section>\n'
+    for place, (file, group) in enumerate(zip(files, groups)):
+        heads = re.findall("<caption>(.*?)</caption>|<h3[^>]*>(.*?)</h3>", "".join(group))
+        said = ", ".join(dict.fromkeys(one or other for one, other in heads))
+        link = f'<a href="{escaped(file)}">{said}</a>'
+        items += f"<li>{f'<b>{said}</b>' if place == here else link}</li>\n"
+    return f'<section><h2>{site.say("details")}</h2>\n<ol>\n{items}</ol></section>\n'
 
 
 def state_line(site, con, row):
@@ -664,18 +724,23 @@ def state_line(site, con, row):
     return f'<p class="state state-{state}">{site.say(f"con_{state}", edition=row["edition"])}</p>'
 
 
+def changed_line(site, moment):
+    """When a page changed last, and where it says when the office was asked."""
+    asked = f'<a href="index.html">{site.say("all_results")}</a>'
+    return f'<p class="moment">{site.say("changed", moment=site.moment(moment), link=asked)}</p>\n'
+
+
 def con_page(site, con, row, body, moment):
     """The page of a constituency, which has this."""
-    asked = f'<a href="index.html">{site.say("all_results")}</a>'
-    line = f'<p class="moment">{site.say("changed", moment=site.moment(moment), link=asked)}</p>\n'
-    return page(site, escaped(con["tally"]["name"]), body, codes_of(con), line, links_above(site) + state_line(site, con, row))
+    above = links_above(site) + state_line(site, con, row)
+    return page(site, escaped(con["tally"]["name"]), body, codes_of(con), changed_line(site, moment), above)
 
 
-def details_page(site, code, con, row, body):
+def details_page(site, code, con, row, body, moment):
     """A page on which that of a constituency goes on."""
     name = escaped(con["tally"]["name"])
     above = links_above(site, f'<a href="con-{escaped(code)}.html">{name}</a>') + state_line(site, con, row)
-    return page(site, site.say("details_title", con=name), body, codes_of(con), "", above)
+    return page(site, site.say("details_title", con=name), body, codes_of(con), changed_line(site, moment), above)
 
 
 def asked_line(site, moment, changed):
@@ -686,27 +751,65 @@ def asked_line(site, moment, changed):
     return f'<p class="moment">{site.say("as_of", moment=site.moment(moment))}{last}</p>\n'
 
 
-def index_page(site, progress, cons, failed, setup, names, moment, changed, said=None):
-    """The page of the country: what the constituencies are together, and each of them. `said` is what the offices add up."""
-    country = together(progress, cons, failed, setup, said)
-    body = (country_section(site, country, cons, names) + turnout_section(site, country) + closest_section(site, country, names)
-            + cons_section(site, progress, cons, names) + programs_section(site, setup))
-    of = election(site)
+def index_pages(site, progress, cons, failed, setup, names, moment, changed, said=None):
+    """The page of the country: what the constituencies are together, and each of them; and the pages that the constituencies have
+    where there is no room for them. `said` is what the offices add up."""
+    country, of = together(progress, cons, failed, setup, said), election(site)
     above = f'<p class="election">{of}</p>' if of else ""
     head = (f'<link rel="alternate" type="application/atom+xml" href="feed.atom" title="{site.say("feed")}">\n'
             '<link rel="describedby" type="application/json" href="datapackage.json">\n')
-    codes = [party.code for party in country.parties]
-    return page(site, title_of(site), body, codes, asked_line(site, moment, changed), above, head, search=True)
+    asked, rows, title = asked_line(site, moment, changed), cons_rows(site, progress, cons, names), f'<section><h2>{site.say("cons")}</h2>\n'
+    for own, room in [(True, math.inf), *((False, room) for room in TABLES_OF_COUNTRY)]:
+        links, pages = ("", []) if own else cons_pages(site, rows, in_order_of_names(progress, names), names, asked)
+        of_cons = cons_table(site, rows) if own else links
+        body = (country_section(site, country, cons, names, room) + turnout_section(site, country) + closest_section(site, country, names)
+                + f"{title}{map_figure(site, cons)}{of_cons}</section>\n" + programs_section(site, setup))
+        codes = {*re.findall('class="(?:[^"]* )?list-([^" ]*)', body)}
+        text = page(site, title_of(site), body, [party.code for party in country.parties if party.code in codes], asked, above, head, search=own)
+        if len(text.encode()) <= PAGE_ROOM:
+            break
+    return [text, *pages]
 
 
-def count_page(site, progress, text, cons, names, moment, changed, head=None):
-    """The page of the count: how many returns of each constituency are in which state."""
-    body = count_section(site, progress, cons, names) + head_section(site, head) + "".join(texts_sections(site, {"progress": text}))
-    return page(site, site.say("count_title"), body, [], asked_line(site, moment, changed), links_above(site))
+def cons_pages(site, rows, progress, names, asked):
+    """Links to the pages of the constituencies, where they are on pages of their own; and these pages."""
+    def written(rows, links):
+        codes = dict.fromkeys(re.findall("list-([^\"]*)", rows))
+        body = f'<section>{links}{cons_table(site, [rows])}</section>\n'
+        return page(site, site.say("cons"), body, codes, asked, links_above(site), search=True)
+
+    said = [names.get(row["con"], row["con"]) for row in progress]
+    labels = [name if len(name) <= LETTERS else f"{name[:LETTERS - 1]}…" for name in said]
+    groups, links = searched("cons", rows, labels, written("", ""))
+    return links(groups, None), [written("".join(group), links(groups, here)) for here, group in enumerate(groups)]
+
+
+def count_pages(site, progress, text, cons, names, moment, changed, head=None):
+    """The page of the count: how many returns of each constituency are in which state; and those on which it goes on."""
+    def written(body):
+        return page(site, site.say("count_title"), body, [], asked_line(site, moment, changed), links_above(site))
+
+    def links(groups, here):
+        files = ["count.html", *(f"count-{place}.html" for place in range(1, len(groups)))]
+        return details_links(site, files, groups, here) if len(groups) > 1 else ""
+
+    parts = [*count_sections(site, progress, cons, names), head_section(site, head), *texts_sections(site, {"progress": text})]
+    groups = divided(parts, room_beside(written("")), links)
+    return [written(links(groups, here) + "".join(group)) for here, group in enumerate(groups)]
+
+
+def searched(name, rows, labels, empty):
+    """Rows in groups that have room on a page each that is otherwise so, and the function that makes the links between these pages, by
+    the labels of the first and the last row of each."""
+    def links(groups, here):
+        left = iter(labels)
+        return parts_links(name, [[next(left) for _ in group] for group in groups], here)
+
+    return divided(rows, room_beside(empty), links), links
 
 
 def stations_pages(site, code, con, entry, text, states=None):
-    """The pages of the stations of a constituency, from the file of their returns: each is as long as a page may be. Where there is no
+    """The pages of the stations of a constituency, from the file of their returns, each as a function of its moment. Where there is no
     certificate they are the closed returns so far, and each station's return has a state."""
     columns, returns = returns_in(text)
     order = {listed["code"]: place for place, listed in enumerate(by_votes(con))}
@@ -714,22 +817,19 @@ def stations_pages(site, code, con, entry, text, states=None):
     found = {row[0]: row for row in returns}
     heads = [site.say("station"), *([site.say("state")] if states else []), site.say("electors"),
              *(list_name(columns[place]) for place in lists), site.say("blank"), site.say("spoiled")]
-    top = "".join(f'<th scope="col">{head}</th>' for head in heads)
     rows = [station_row(site, station, found.get(station["code"]), (*lists, 2, 3), states) for station in entry["stations"]]
-    parts = pieces(rows, PAGE_ROOM - len(top.encode()))
-    codes = iter(station["code"] for station in entry["stations"])
-    names = [[next(codes) for _ in part] for part in parts]
     numbers = {"closed": site.number(len(returns)), "stations": site.number(len(entry["stations"]))}
     words = site.say("stations_open", **numbers) if states else site.say("stations_said", edition=con["seats"]["edition"], **numbers)
-    said = f"<p>{words}</p>\n"
     title = site.say("stations_title", con=escaped(con["tally"]["name"]))
     above = links_above(site, f'<a href="con-{escaped(code)}.html">{escaped(con["tally"]["name"])}</a>')
-    for place, part in enumerate(parts):
-        body = (f'<section>{said}{parts_links(code, names, place)}{search_field(site)}'
-                f'<div class="scroll" tabindex="0" role="region" aria-label="{site.say("table_stations")}"><table class="searched stations">\n'
-                f'<caption>{site.say("table_stations")}</caption>\n<thead><tr>{top}</tr></thead>\n'
-                f'<tbody>\n{"".join(part)}</tbody>\n</table></div></section>\n')
-        yield page(site, title, body, codes_of(con), "", above, search=True)
+
+    def written(rows, links, moment):
+        body = (f"<section><p>{words}</p>\n{links}{search_field(site)}"
+                + framed(site.say("table_stations"), heads, rows, "searched stations", wide=True) + "</section>\n")
+        return page(site, title, body, codes_of(con), changed_line(site, moment), above, search=True)
+
+    groups, links = searched(f"stations-{code}", rows, [station["code"] for station in entry["stations"]], written("", "", datetime.now().astimezone()))
+    return [partial(written, group, links(groups, here)) for here, group in enumerate(groups)]
 
 
 def station_row(site, station, row, places, states):
@@ -738,17 +838,17 @@ def station_row(site, station, row, places, states):
     name = f' <span class="name">{escaped(site.names[code])}</span>' if code in site.names else ""
     state = [site.words["states"][states[code]]] if states else []
     cells = [*state, site.number(station["electors"]), *(site.number(int(row[place])) if row else "–" for place in places)]
-    return f'<tr><th scope="row"><b>{escaped(code)}</b>{name}</th><td>{"</td><td>".join(cells)}</td></tr>\n'
+    return row_of(f"<b>{escaped(code)}</b>{name}", *cells)
 
 
-def parts_links(code, parts, here):
-    """Links to the pages of a constituency's stations, by the first and the last of each."""
-    if len(parts) == 1:
+def parts_links(name, parts, here):
+    """Links to pages of rows, by the labels of the first and the last row of each."""
+    if len(parts) == 1 and here == 0:
         return ""
-    names = [f"{codes[0]} – {codes[-1]}" for codes in parts]
+    names = [escaped(f"{labels[0]} – {labels[-1]}") for labels in parts]
     return '<p class="parts">' + " ".join(
-        f'<b class="piece">{name}</b>' if place == here else f'<a class="piece" href="stations-{escaped(code)}-{place + 1}.html">{name}</a>'
-        for place, name in enumerate(names)) + "</p>\n"
+        f'<b class="piece">{said}</b>' if place == here else f'<a class="piece" href="{escaped(name)}-{place + 1}.html">{said}</a>'
+        for place, said in enumerate(names)) + "</p>\n"
 
 
 # ---- a page that gets old

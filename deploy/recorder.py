@@ -6,7 +6,8 @@
 In FOLDER it listens on a socket for each desk, `1.sock`, `2.sock`, .., to which the proxy sends commands with the name, the
 role and the address of who gave them. A command that cannot be recorded is answered 503 and goes no further: so is each
 one while the file system of RECORD has less than --room bytes left, and while RECORD is another file than the one that was
-written to, or longer or shorter. A command that its role may not give is recorded and answered 403.
+written to, or longer or shorter. A command that its role may not give is recorded and answered 403. The trial of an import
+changes nothing and is not recorded.
 
 The record has a line of JSON for each command, with `n`, its own number, and another for the answer, with `to`, the number of
 the command; each has in `before` the SHA-256 of the line before it. So no line can be changed, removed or put between others
@@ -340,6 +341,8 @@ class Recorder:
         name, role = fields["office-name"], fields["office-role"]
         if role == "station" and self.limit.is_over(name):
             return TOO_MANY
+        if path.split("/")[3] == "trial":
+            return self.desk.ask(method, path, body)[1] if fields["office-allowed"] == "1" else FORBIDDEN
         entry = {"name": name, "role": role, "address": fields["office-address"], "office": self.office, "method": method, "path": path}
         try:
             if fields["office-allowed"] != "1":

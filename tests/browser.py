@@ -11,8 +11,9 @@ import socket
 import subprocess
 import time
 
+from running import PATIENCE
+
 DRIVER, CHROMIUM = shutil.which("chromedriver"), shutil.which("chromium") or shutil.which("chromium-browser")
-PATIENCE = 300  # seconds, on a machine that has much else to do
 KEY = "element-6066-11e4-a52e-4f735466cecf"  # the name of an element's number in the protocol
 
 
@@ -22,10 +23,10 @@ class Failed(Exception):
 
 class Browser:
     def __init__(self, port, session=None):
-        self.port, self.session = port, session
+        self.port, self.session, self.patience = port, session, PATIENCE
 
     def ask(self, method, path, body=None):
-        connection = http.client.HTTPConnection("127.0.0.1", self.port, timeout=PATIENCE)
+        connection = http.client.HTTPConnection("127.0.0.1", self.port, timeout=self.patience)
         with contextlib.closing(connection):
             connection.request(method, path, None if body is None else json.dumps(body), {"Content-Type": "application/json"})
             answer = connection.getresponse()
@@ -81,7 +82,7 @@ class Browser:
         self.of_session("POST", "/alert/dismiss", {})
         return text
 
-    def question(self, seconds=60):
+    def question(self, seconds=PATIENCE):
         end = time.monotonic() + seconds
         while not self.asked():
             if time.monotonic() > end:
@@ -96,7 +97,7 @@ class Browser:
         except Failed:
             return False
 
-    def wait(self, script, *arguments, seconds=60):
+    def wait(self, script, *arguments, seconds=PATIENCE):
         """Waits until a function's body returns something that is true."""
         end = time.monotonic() + seconds
         while not (found := self.run(script, *arguments)):
@@ -136,6 +137,8 @@ def browser(folder, *words, **environment):
         yield it
     finally:
         if it.session:
+            # (one that does not answer is ended all the same)
+            it.patience = 20
             with contextlib.suppress(Exception):
                 it.of_session("DELETE", "")
         # The browser too, where it was started and no session of it is known.
@@ -148,7 +151,7 @@ def capabilities(words):
     arguments = ["--headless=new", "--no-sandbox", "--disable-gpu", "--disable-dev-shm-usage", "--hide-scrollbars",
                  "--no-first-run", "--disable-background-networking", *words]
     options = {"binary": CHROMIUM, "args": arguments}
-    always = {"browserName": "chrome", "acceptInsecureCerts": True, "goog:chromeOptions": options,
+    always = {"browserName": "chrome", "acceptInsecureCerts": True, "goog:chromeOptions": options, "timeouts": {"script": PATIENCE * 1000},
               "unhandledPromptBehavior": "ignore"}
     return {"capabilities": {"alwaysMatch": always}}
 

@@ -14,6 +14,7 @@ import sys
 
 import program
 from program import Ran
+from running import PATIENCE
 
 HEADER = "station,slip,blank,spoiled,A,B\n"
 
@@ -87,6 +88,36 @@ s,p,0,0,1,2/s,p,0,0,2,1/S,p,0,0,1,2/ = 2, 0, 1, 0, 0, 2 7, 0, 0, 2, 4
 s,p,0,0,1,2/s,p,0,0,1,2/x/s,q,0,0,1,2/ = 1, 1, 1, 0, 1, 3 0, 0, 0, 1, 2
 """
 
+EXAMPLE_NAMED = """\
+row 4 7 differs s2
+row 5 0 bad_number A
+row 6 6 too_many_votes s4
+"""
+
+# Rows, and the lines that name them: what was neither lodged nor the same, with the first cause.
+NAMED = """
+ =
+s,p,0,0,1,2/s,p,0,0,1,2/t,p,0,0,1,2/ =
+""/ = row 1 0 fields 1
+s,p,0,0/ = row 1 0 fields 4
+s,p,0,0,1/ = row 1 0 fields 5
+s,p,0,0,1,2,3/ = row 1 0 fields 7
+,,x,x,x/ = row 1 0 fields 5
+,,x,x,x,x/ = row 1 0 bad_station
+s t,p,0,0,1,2/ = row 1 0 bad_station
+s,,x,x,x,x/ = row 1 0 bad_slip
+s,p,x,x,x,x/ = row 1 0 bad_number blank
+s,p,0,x,x,x/ = row 1 0 bad_number spoiled
+s,p,0,0,x,x/ = row 1 0 bad_number A
+s,p,0,0,1,x/ = row 1 0 bad_number B
+s,p,1234567890,0,1,2/ = row 1 0 bad_number blank
+s,p,0,0,1000001,0/ = row 1 4 bad_counts s
+s,p,0,0,1000001,x/ = row 1 0 bad_number B
+s,p,1000000,1,0,0/ = row 1 6 too_many_votes s
+s,p,0,0,1,2/s,q,0,0,1,2/ = row 2 7 differs s
+s,p,0,0,1,2/s,q,0,0,1000001,2/s,p,0,0,1,2/x/s,p,0,0,1,3/t,p,0,0,1,2/ = row 2 4 bad_counts s/row 4 0 fields 1/row 5 7 differs s
+"""
+
 # Headers: with the row below each is good or bad. `^` stands for a byte order mark.
 HEADERS = """
 good station,slip,blank,spoiled,A,B/
@@ -119,8 +150,16 @@ def meant(text):
 
 def check(text, *flags):
     text = text if isinstance(text, bytes) else text.encode()
-    ran = subprocess.run([program.PROGRAM, "check", *flags], input=text, capture_output=True, timeout=120)
+    ran = subprocess.run([program.PROGRAM, "check", *flags], input=text, capture_output=True, timeout=PATIENCE)
     return Ran(ran.returncode, ran.stdout.decode(), ran.stderr.decode())
+
+
+def named(text, wanted, *flags):
+    """The lines of the rows are these, after the text that comes without them; the first is that of `first`."""
+    ran, plain = check(text, "--rows", *flags), check(text, *flags)
+    compared(text, ran, Ran(0, plain.out + wanted, ""))
+    first = plain.out.split("first ")[1].split("\n")[0]
+    assert (first == "-") == (wanted == "") and (not wanted or wanted.startswith(f"row {first} ")), (text, first, wanted)
 
 
 def compared(text, ran, wanted):
@@ -149,6 +188,24 @@ def test_rows_and_what_is_counted_of_them():
 
 def test_the_worked_example():
     counted(EXAMPLE, EXAMPLE_COUNTS)
+    named(EXAMPLE, EXAMPLE_NAMED)
+    named(EXAMPLE.replace(",", ";"), EXAMPLE_NAMED, "--semicolon")
+
+
+def test_rows_that_are_named():
+    for line in lines(NAMED):
+        text, wanted = line.split(" =")
+        named(HEADER.encode() + meant(text), "".join(f"{row}\n" for row in wanted.strip().split("/") if row))
+
+
+def test_lists_that_are_called_as_other_columns_are():
+    named("station,slip,blank,spoiled,spoiled,blank\ns,p,0,0,x,1\nt,p,0,0,1,x\nu,p,x,0,1,1\n",
+          "row 1 0 bad_number spoiled\nrow 2 0 bad_number blank\nrow 3 0 bad_number blank\n")
+
+
+def test_a_text_that_is_refused_names_no_row():
+    refused("x\n", "bad_header", "--rows")
+    refused(HEADER + "x\n" * 20001, "too_long", "--rows")
 
 
 def test_headers():
@@ -182,6 +239,7 @@ def test_semicolons():
 def test_twenty_thousand_rows_and_one_more():
     most = HEADER + "x\n" * 19999 + ROW
     counted(most, "1, 0, 0, 0, 19999, 1 0, 0, 0, 1, 2")
+    named(most, "".join(f"row {n} 0 fields 1\n" for n in range(1, 20000)))
     refused(most + "x", "too_long")
     refused(most + "x\n", "bad_header", "--semicolon")
 
@@ -219,7 +277,7 @@ def answered_before_its_end(text):
         try:
             with contextlib.suppress(BrokenPipeError):
                 ran.stdin.write(text.encode())
-            return Ran(ran.wait(60), ran.stdout.read().decode(), ran.stderr.read().decode())
+            return Ran(ran.wait(PATIENCE), ran.stdout.read().decode(), ran.stderr.read().decode())
         except subprocess.TimeoutExpired:
             raise AssertionError("it waits for the end of the text") from None
         finally:
@@ -246,7 +304,7 @@ def test_a_small_memory():
         text = good + row * 10000
         assert 15000000 < len(text) <= 16777216, len(text)
         words = [program.PROGRAM, "check"]
-        ran = subprocess.run(words, input=text.encode(), capture_output=True, timeout=120, env={}, preexec_fn=limited)
+        ran = subprocess.run(words, input=text.encode(), capture_output=True, timeout=PATIENCE, env={}, preexec_fn=limited)
         found = Ran(ran.returncode, ran.stdout.decode(), ran.stderr.decode())
         numbers = zip(NAMES + ("A", "B"), ("10000", "0", "0", "0", "10000", "10001 0", "0", "0", "10000", "20000"), strict=True)
         compared(text, found, Ran(0, "".join(f"{name} {number}\n" for name, number in numbers), ""))
@@ -258,7 +316,7 @@ def test_a_small_stack():
 
     for text, status in ((EXAMPLE, 0), ('"' + "x" * 2000000, 1), ('"' + "x\n" * 1000000, 1)):
         words = [program.PROGRAM, "check"]
-        ran = subprocess.run(words, input=text.encode(), capture_output=True, timeout=120, env={}, preexec_fn=limited)
+        ran = subprocess.run(words, input=text.encode(), capture_output=True, timeout=PATIENCE, env={}, preexec_fn=limited)
         assert ran.returncode == status, (text[:9], ran)
 
 

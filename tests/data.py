@@ -11,6 +11,7 @@ import contextlib
 import csv
 import functools
 import hashlib
+import io
 import json
 import os
 import re
@@ -28,7 +29,8 @@ import model
 from deploy import (DEPLOY, EXAMPLES, NAME, REOPENED, ROOT, TWIN, answer_of, answering_desk, desk_with, done, free_port, needs, plain, press, proxy, ran,
                     read, readme_election, recording_desk, same, serving)
 from entry import with_a_second
-from office import LISTS, PROFILE, constituency, station, with_stations
+from office import LISTS, PROFILE, constituency, party_list, profile, station, with_stations
+from running import PATIENCE
 
 sys.path.append(str(DEPLOY))
 import press as rounds
@@ -311,6 +313,27 @@ def test_what_shares_are_of():
         same(second[6:10] + second[-2:], [electors, "100", "8", "5", "no", ""])
 
 
+def test_names_that_a_spreadsheet_would_compute():
+    """In the CSV files, and nowhere else, they have an apostrophe in front; the package says so."""
+    names = ["=HYPERLINK(A1)", "+1", "-2+3", "@SUM(1)", "'= 1", "a=b"]
+    shown = ["'=HYPERLINK(A1)", "'+1", "'-2+3", "'@SUM(1)", "'= 1", "a=b"]
+    setup = profile("d0") + constituency("c1", "=1+1", 1, "d0") + station("s1", 9) + "".join(
+        party_list(f"L{n}", name, "Ana") for n, name in enumerate(names))
+    Path("setup.toml").write_text(setup, encoding="utf-8")
+    with deploy.modelled(setup) as (_, port):
+        press(port, "--setup", "setup.toml")
+    same(package_faults(), [])
+    for file, columns in (("results.csv", {"con_name", "name"}), ("con-c1.csv", {"name"})):
+        rows = list(csv.DictReader(io.StringIO(read(file))))
+        same((file, [row["name"] for row in rows], {row.get("con_name") for row in rows}), (file, shown, {"'=1+1" if "con_name" in columns else None}))
+        fields = next(one for one in json.loads(read("datapackage.json"))["resources"] if one["path"] == file)["schema"]["fields"]
+        same((file, {one["name"] for one in fields if "apostrophe" in one["description"]}), (file, columns))
+    found = json.loads(read("con-c1.json"))["tally"]
+    same((found["name"], [row["name"] for row in found["lists"]]), ("=1+1", names))
+    same([row[0] for row in deploy.page_of("con-c1.html").tables["Votes of each list"][1:]], [f"L{n} {name}" for n, name in enumerate(names)])
+    same("apostrophe" in read("con.schema.json"), False)
+
+
 def test_what_the_office_says_of_its_data():
     """Title, licence, authority and language of the data package and of the feed are those of site.toml, and else none."""
     os.mkdir("site")
@@ -533,7 +556,7 @@ def test_the_manifest():
             Path("head").write_text(read("head", ".").replace(f"{n:064x}", hash_of), encoding="utf-8")
         with answering_desk(TWIN) as (port, _):
             round_of = subprocess.run([sys.executable, DEPLOY / "press.py", f"http://127.0.0.1:{port}", "pages", *words], capture_output=True, text=True,
-                                      timeout=60, check=True)
+                                      timeout=PATIENCE, check=True)
         same((n, "of the record, and pages/record.csv has more, or another" in round_of.stderr), (n, named))
     same([row[1] for row in rows_of("record.csv")[1:]], ["7", "9", "8", "9", "10"])
     # Without a head it has none, and an office that does not answer leaves it as it was.
@@ -785,7 +808,7 @@ def test_what_the_readme_says_of_the_data():
         Path(".curlrc").write_text(f'cacert = "{front.folder}/office/certificate.pem"\nconnect-to = "{NAME}:443:127.0.0.1:{front.port}"\n', encoding="utf-8")
 
         def typed(line, status=0):
-            done = subprocess.run(["sh", "-c", f"{setup.replace('results.example.org', NAME)}\n{line}"], capture_output=True, text=True, timeout=60,
+            done = subprocess.run(["sh", "-c", f"{setup.replace('results.example.org', NAME)}\n{line}"], capture_output=True, text=True, timeout=PATIENCE,
                                   env={**os.environ, "CURL_HOME": os.getcwd(), "HOME": os.getcwd()})
             assert done.returncode == status, (line, done)
             return done.stdout
@@ -875,7 +898,7 @@ def test_what_the_site_answers():
             for n, (method, target, roles, answers) in enumerate(operations()):
                 answered[target] |= asked_in_every_way(front, f"127.0.11.{n + 1}", method, target, roles, answers, public)
         for target in [target for _, target, _, answers in operations() if "304" in answers and "404" in answers]:
-            Path("pages", target[1:]).unlink()
+            Path(front.folder, "share" if target == "/setup.json" else "pages", target[1:]).unlink()
             answered[target].add(front.ask("GET", target, name="clara").status)
     # Nobody answers for the office now, and nothing is kept of what it said.
     for kept in front.folder.glob("temporary/answers/*"):

@@ -7,18 +7,22 @@ The program, the words and the last line are those of tests/deploy.py, whose off
 """
 
 import contextlib
+import html
 import json
 import os
 import re
 import subprocess
 import sys
+import tomllib
 from pathlib import Path
 
 import browser
 import deploy
-from deploy import (BOTH, DEPLOY, NAME, Proxy, a_command, chained, choose_con, choose_station, clerks_browser, confirmed, enter, needs,
-                    office_and_proxy, plain, press, proxy, recording_desk, said, same, serving, shows_well, type_slip)
-from office import LISTS, PROFILE, constituency, party_list, station, with_stations
+import model
+from deploy import (BOTH, DEPLOY, NAME, Proxy, a_command, answer_of, chained, choose_con, choose_station, clerks_browser, confirmed, desk_with,
+                    enter, needs, office_and_proxy, plain, press, proxy, recording_desk, said, same, serving, shows_well, type_slip)
+from office import LISTS, PROFILE, RETURNS, THREE_STATIONS, constituency, party_list, station, with_stations
+from running import PATIENCE
 
 sys.path.append(str(DEPLOY))
 import recorder
@@ -91,7 +95,7 @@ def test_who_may_enter_a_second_time():
         same(asked, [b"/station/s1/query", b"/station/s1/confirm", b"/station/s1/query"])
         messages.clear()
         for target in ("/station/s1/lodge", "/station/sara/lodge", "/station/s1/correct", "/station/s1/close", "/con/c1/import",
-                       "/con/c1/import/semicolon", *deploy.OF_BOARD):
+                       "/con/c1/import/semicolon", *deploy.TRIALS, *deploy.OF_BOARD):
             same((target, front.ask("POST", target, {}, "sara").status), (target, 403))
         same(messages, [])
         same([front.ask("GET", target, name="sara").status for target in ("/now/progress", "/clerk.html", "/con/c1")], [200] * 3)
@@ -397,6 +401,40 @@ def test_the_total_of_the_slip():
             shows_well(it, "entry")
 
 
+@needs("chromium", "nginx", "openssl")
+def test_whoever_may_write_the_press_pages():
+    """They exchange no two lists of a slip, and no page of theirs acts as the clerk who looks at it."""
+    with office_and_proxy(BOTH) as (desk, front):
+        pages = front.folder / "pages"
+        press(desk.port, "--setup", "setup.toml", folder=str(pages))
+        setup = json.loads((pages / "setup.json").read_text(encoding="utf-8"))
+        same(setup, json.loads(front.ask("GET", "/setup.json").body))
+        next(one for one in setup if one["code"] == "c1")["lists"].reverse()
+        (pages / "setup.json").write_text(json.dumps(setup), encoding="utf-8")
+        (pages / "setup.json.gz").unlink()
+        lodges = "fetch('/station/s2/lodge', { method: 'POST', body: '%s' })" % json.dumps(SLIP)
+        for name, text in (("own.html", f'<html lang="en"><title>Own</title><body onload="{html.escape(lodges)}"><script>document.title = "ran"; {lodges}</script>'
+                                        '<script src="own.js"></script>'),
+                           ("own.js", f"document.title = 'ran'; {lodges}"),
+                           ("own.svg", f'<svg xmlns="http://www.w3.org/2000/svg"><title>Own</title><script>{lodges}</script></svg>')):
+            (pages / name).write_text(text, encoding="utf-8")
+        with clerks_browser(front, "clara") as it:
+            choose_station(it, "s1")
+            same([name for _, name in it.named("textbox")][1:3], ["A Alpha", "B Beta"])
+            enter(it, "lodge", SLIP)
+            said(it, "Lodged, revision 1.")
+            page = it.run("return location.origin")
+            for name in ("own.html", "own.svg"):
+                it.open(f"{page}/{name}")
+                it.wait("return document.readyState === 'complete'")
+                same(it.run("return document.title"), "Own")
+            # The search of the pages is a script that the proxy names.
+            it.open(f"{page}/")
+            it.type(".search input", "twin")
+            it.wait("return document.querySelector('.search output').textContent === '1'")
+        same([line["path"] for line in front.record(1)], ["/station/s1/lodge"])
+
+
 WARNED = """return [...document.querySelectorAll('#lodge .warning > span')].map((e) =>
     [e.closest('.counts > div').querySelector('span').textContent.split(' ')[0], e.textContent])"""
 MORE, LESS = "More than twice its share in the constituency so far.", "Less than half of its share in the constituency so far."
@@ -450,7 +488,7 @@ def test_what_is_unusual_in_a_slip():
             it.click("#lodge button")
             assert it.text("#alert").startswith("Nothing was sent yet: a figure is unusual."), it.text("#alert")
             it.type("#lodge .counts > :nth-child(2) input", "20")
-            it.run("document.querySelectorAll('#lodge .warning input').forEach((e) => e.click())")
+            it.run("document.querySelectorAll('#lodge .warning input').forEach((e) => e.checked || e.click())")
             it.click("#lodge button")
             same((len(it.run(WARNED)), plain(desk.port, "GET", "/station/s2").status), (2, 404))
             it.run("document.querySelectorAll('#lodge .warning input').forEach((e) => e.checked || e.click())")
@@ -462,6 +500,68 @@ def test_what_is_unusual_in_a_slip():
                 type_slip(it, "lodge", {"slip": f"p{n}", "votes": votes, "blank": blank, "spoiled": spoiled})
                 it.click("#lodge button")
                 said(it, "Lodged, revision 1.")
+
+
+# Rows that are named for each cause, and how the page says it.
+FILE = RETURNS.replace("30,40", "31,40") + "s1,p1,0,0,10\ns?,p1,0,0,1,1\nt1,p1,0,0,1,1\ns1,?,0,0,1,1\ns1,p1,0,x,1,1\ns3,p4,0,1000001,1,1\ns3,p4,0,300,1,1\n"
+NAMED = ["Row 2, below the header: station s2: another return of its station is recorded.",
+         "Row 4, below the header: it has 5 fields, and the header has 6.", "Row 5, below the header: its station is not a code.",
+         "Row 6, below the header: its station is not one of this constituency.", "Row 7, below the header: its slip is not a code.",
+         "Row 8, below the header: under spoiled there is no whole number of 1 to 9 digits.",
+         "Row 9, below the header: station s3: a number is above 1,000,000.",
+         "Row 10, below the header: station s3: its votes are more than the station has electors."]
+
+
+@needs("chromium", "nginx", "openssl")
+def test_a_file_is_tried_before_it_is_imported():
+    """The page shows what the import would come to and why each row would not be accepted, and imports the file once it is asked
+    again. Before an office in plain Python."""
+    office, asked = model.Office(tomllib.loads(THREE_STATIONS)), []
+
+    def answered(head, body):
+        method, target = head.decode().split(" ")[:2]
+        asked.extend([target] if method == "POST" else [])
+        return answer_of((400, '{"word":"bad_header"}') if b";" in body else office.ask(method, target, body.decode()))
+
+    same(office.ask("POST", "/station/s2/lodge", json.dumps({"slip": "p2", "votes": [30, 40], "blank": 1, "spoiled": 0}))[0], 200)
+    for name, text in (("rows.csv", FILE), ("good.csv", RETURNS), ("other.csv", FILE.replace(",", ";"))):
+        Path(name).write_text(text)
+    Path("setup.toml").write_text(THREE_STATIONS)
+    give = lambda it, name: it.of_session("POST", f"/element/{it.find('#import input[type=file]')}/value", {"text": str(Path(name).resolve())})
+    state = lambda it: (it.visible("#trial"), it.text("#import button"), sorted(office.cons["c1"].returns))
+    with desk_with(answered) as port, proxy(port) as front:
+        press(port, "--setup", "setup.toml", folder=str(front.folder / "pages"))
+        with clerks_browser(front, "clara") as it:
+            same(state(it), (False, "Try this file", ["s2"]))
+            give(it, "other.csv")
+            it.click("#import button")
+            said(it, "The first line of the file is not station,slip,blank,spoiled and this constituency’s lists in order")
+            same((state(it), asked), ((False, "Try this file", ["s2"]), ["/con/c1/trial"]))
+            give(it, "rows.csv")
+            it.click("#import button")
+            said(it, "This is what an import of this file would come to now.")
+            same(state(it), (True, "Import this file", ["s2"]))
+            same(it.run("return [...document.querySelectorAll('#trial tr')].map((e) => e.textContent)"),
+                 ["Lodged2", "The same0", "Differing1", "Refused2", "Unreadable5"])
+            same(it.run("return [...document.querySelectorAll('#trial li')].map((e) => e.textContent)"), NAMED)
+            same(it.text("#trial > p"), "Nothing is lodged yet. Import this file into Twin Town?")
+            shows_well(it, "trial")
+            # Another separator or another file is to be tried first, too.
+            it.run("const e = document.querySelector('#import select'); e.value = '/semicolon'; e.dispatchEvent(new Event('change', { bubbles: true }))")
+            same(state(it), (False, "Try this file", ["s2"]))
+            it.run("const e = document.querySelector('#import select'); e.value = ''; e.dispatchEvent(new Event('change', { bubbles: true }))")
+            it.click("#import button")
+            said(it, "This is what an import of this file would come to now.")
+            give(it, "good.csv")
+            same(state(it), (False, "Try this file", ["s2"]))
+            it.click("#import button")
+            said(it, "This is what an import of this file would come to now.")
+            same((state(it), it.run("return document.querySelectorAll('#trial li').length")), ((True, "Import this file", ["s2"]), 0))
+            it.click("#import button")
+            said(it, "Lodged 2, the same 1, differing 0, refused 0, unreadable 0.")
+            same(state(it), (False, "Try this file", ["s1", "s2", "s3"]))
+        same(asked, ["/con/c1/trial"] * 4 + ["/con/c1/import"])
+        same([line["path"] for line in front.record(1)], ["/con/c1/import"])
 
 
 @needs("chromium", "nginx", "openssl")
@@ -502,6 +602,98 @@ def test_what_was_typed_and_not_sent():
         same(shown(desk, "s1")["rev"], 1)
 
 
+# The next command is done, and its answer is lost.
+LOST = """const ask = window.fetch; window.fetch = async (target, more) => {
+  const answer = await ask(target, more);
+  if (more.method !== "POST") return answer;
+  window.fetch = ask;
+  throw new TypeError("lost");
+};"""
+NO_ANSWER = "There was no answer. It may have been done. Look at what is shown once the office answers, or send it again: nothing is done twice."
+
+
+def offline(it, now):
+    it.command("Network.emulateNetworkConditions", offline=now, latency=0, downloadThroughput=-1, uploadThroughput=-1)
+
+
+@needs("chromium", "nginx", "openssl")
+def test_a_lost_connection():
+    """What was typed stays until it is recorded: a clerk and a station send it again; where the answer alone was lost, what is recorded
+    is shown, and the page does not ask whether to leave it unsent."""
+    with office_and_proxy(with_stations(4)) as (desk, front):
+        press(desk.port, "--setup", "setup.toml", folder=str(front.folder / "pages"))
+        front.name("stations", "s1")
+        typed = "return [...document.querySelectorAll('#lodge input:not([type=checkbox])')].map((e) => e.value)"
+        for name, code, again in (("s1", "s1", "retry"), ("clara", "s2", "again")):
+            with clerks_browser(front, name) as it:
+                if name == "clara":
+                    choose_station(it, code)
+                same(it.visible("#retry"), False)
+                type_slip(it, "lodge", SLIP)
+                offline(it, True)
+                it.click("#lodge button")
+                said(it, NO_ANSWER)
+                same((it.text("#alert").startswith(NO_ANSWER), forms(it), it.visible("#receipt")), (True, [], False))
+                same([it.visible(f"#{button}") for button in ("retry", "again")], [again == "retry", again == "again"])
+                offline(it, False)
+                it.click(f"#{again}")
+                said(it, "This is what the office has now.")
+                same((it.run(typed), it.visible("#retry"), plain(desk.port, "GET", f"/station/{code}").status), (["p1", "120", "71", "2", "1", "194"], False, 404))
+                it.click("#lodge button")
+                said(it, "Lodged, revision 1.")
+                same(it.run(typed), [""] * 6)
+        with clerks_browser(front, "bruno") as it:
+            choose_station(it, "s3")
+            type_slip(it, "lodge", SLIP)
+            it.run(LOST)
+            it.click("#lodge button")
+            said(it, NO_ANSWER)
+            assert "Station s3: received, revision 1." in it.text("#return")
+            same((it.run(typed), it.visible("#receipt")), ([""] * 6, False))
+            # What another one recorded meanwhile does not let what was typed go.
+            choose_station(it, "s4")
+            type_slip(it, "lodge", SLIP)
+            post(desk, "/station/s4/lodge", SLIP | {"votes": [71, 120]})
+            it.click("#lodge button")
+            said(it, "Another return of this station is recorded, in revision 1.")
+            same(it.run(typed), ["p1", "120", "71", "2", "1", "194"])
+        same([(line["name"], line["path"], line["status"]) for line in front.record(4)],
+             [("s1", "/station/s1/lodge", 200), ("clara", "/station/s2/lodge", 200), ("bruno", "/station/s3/lodge", 200), ("bruno", "/station/s4/lodge", 409)])
+
+
+@needs("chromium", "nginx", "openssl")
+def test_two_windows_of_a_clerk():
+    """What the other window did meanwhile is said, and what is typed in this one stays; no command acts on what it does not show."""
+    with office_and_proxy(BOTH) as (desk, front):
+        press(desk.port, "--setup", "setup.toml", folder=str(front.folder / "pages"))
+        with clerks_browser(front, "clara") as it:
+            choose_station(it, "s1")
+            one, page = it.of_session("GET", "/window"), it.run("return location.href")
+            two = it.of_session("POST", "/window/new", {"type": "tab"})["handle"]
+            it.of_session("POST", "/window", {"handle": two})
+            it.command("Network.enable")
+            it.command("Network.setExtraHTTPHeaders", headers={"Authorization": front.authorization("clara")})
+            it.open(page)
+            said(it, "This is what the office has now.")
+            choose_station(it, "s1")
+            enter(it, "lodge", SLIP | {"votes": [120, 17]})
+            said(it, "Lodged, revision 1.")
+            it.of_session("POST", "/window", {"handle": one})
+            enter(it, "lodge", SLIP)
+            said(it, "Another return of this station is recorded, in revision 1. Compare both with the slip; if the recorded one is wrong, query and correct it.")
+            same(dict(it.run(ROWS))["B Beta"], "17")
+            it.of_session("POST", "/window", {"handle": two})
+            it.type("#query input[name=note]", "71 for B")
+            it.click("#query button")
+            said(it, "Done: revision 2.")
+            it.of_session("POST", "/window", {"handle": one})
+            it.click("#close button")
+            same(it.accept(), "Close the return of s1, revision 1?")
+            said(it, "Somebody was here before you: it is now at 2.")
+        same((shown(desk, "s1")["status"], shown(desk, "s1")["votes"]), ("queried", [120, 17]))
+
+
+ROWS = "return [...document.querySelectorAll('#return tr')].map((row) => [...row.children].map((e) => e.textContent))"
 PRINTED = """return [...document.querySelectorAll('header, #said, #receipt, #receipt button, main')]
     .filter((e) => e.getClientRects().length).map((e) => e.id || e.tagName)"""
 
@@ -565,6 +757,8 @@ def test_the_clerks_page_for_a_screen_reader():
                  "Total of all these on the slip", "Fields are separated by"])
             same(unspoken(it), [])
             same(it.run("return [document.getElementById('status').role, document.getElementById('alert').role]"), ["status", "alert"])
+            # A browser offers no figure of another slip.
+            same(it.run("return [...document.querySelectorAll('form input:not([type=checkbox], [type=file], [name=note])')].map((e) => e.autocomplete)"), ["off"] * 18)
             enter(it, "correct", SLIP | {"votes": [301, 0], "total": 304})
             said(it, "are more than the station has electors.")
             same((it.text("#status"), focused(it)[0]), ("", "total"))
@@ -752,10 +946,11 @@ def test_logging_out():
             it.accept()
             it.wait("return document.querySelector('h1').textContent === 'You are logged out'")
             same(it.run("return [...document.body.children].map((e) => e.tagName)"), ["H1", "P", "P"])
-            # What it asks now bears nobody's name, or none, and is refused. (Chromium then asks for one.)
+            # What it asks now bears nobody's name, or none, and is refused. (Chromium then asks for
+            # one.)
             it.run("fetch('/now/progress')")
             asked = lambda: [line["name"] for line in front.refused() if line["request"] == "GET /now/progress"]
-            deploy.until(lambda: "logout" in asked(), 60)
+            deploy.until(lambda: "logout" in asked())
             same(set(asked()) - {"", "logout"}, set())
 
 
@@ -795,7 +990,7 @@ def entries(record, setup=TWICE):
     """What the tool says of a record: its bytes, or commands."""
     Path("entries.toml").write_text(setup, encoding="utf-8")
     done = subprocess.run([DEPLOY / "entries", "entries.toml"], input=record if isinstance(record, bytes) else record_of(record),
-                          capture_output=True, timeout=60, env={**os.environ, "PYTHONIOENCODING": "utf-8:strict"})
+                          capture_output=True, timeout=PATIENCE, env={**os.environ, "PYTHONIOENCODING": "utf-8:strict"})
     same(done.stderr, b"")
     return done.returncode, done.stdout.decode().splitlines()
 
@@ -906,8 +1101,9 @@ def test_a_name_that_changes_its_role():
         staff = front.folder / "office/staff.conf"
         staff.write_text(staff.read_text().replace("clara clerk;", "clara second;"))
         front.process.send_signal(deploy.signal.SIGHUP)
-        deploy.until(lambda: ask("/station/s2/close", {"rev": 1}, "clara") == 403, 20)
-        same(ask("/station/s2/confirm", {"rev": 1, **SLIP}, "clara"), 200)
+        deploy.until(lambda: ask("/station/s2/close", {"rev": 1}, "clara") == 403)
+        # (a process of the proxy that had the old roles may still take some requests)
+        deploy.until(lambda: ask("/station/s2/confirm", {"rev": 1, **SLIP}, "clara") == 200)
         times = [line["time"] for line in front.record(6) if "/s2/" in line["path"] and line["status"] == 200]
         record = (front.folder / "log/commands.log").read_bytes()
     same(entries(record), (1, [f"s2: both entries are by clara ({times[0]}, {times[1]})", "closed 2, of these by a second entry 2, to look at 1"]))

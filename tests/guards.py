@@ -25,6 +25,7 @@ import socket
 import sqlite3
 import ssl
 import stat
+import struct
 import subprocess
 import sys
 import threading
@@ -37,6 +38,7 @@ from attacks import LODGED
 from deploy import DEPLOY, NAME, a_command, answer_of, answering_desk, backup, chained, desk_with, needs, pipelined, proxy, ran, recording_desk, replayed, same
 from deploy import serving, until, whole_message, with_stations
 from office import SETUP
+from running import PATIENCE, tries
 
 
 def loaded(name):
@@ -68,19 +70,31 @@ def test_how_often_an_address_may_ask():
         def asked(place, target, status, at_once, rate):
             began = time.monotonic()
             same((target, pipelined(front, target, at_once + 3 * rate, f"127.0.12.{place}")), (target, {status: at_once + 3 * rate}))
-            return target, time.monotonic() - began
+            return target, time.monotonic() - began - (3 * rate - 1) / rate
 
-        with concurrent.futures.ThreadPoolExecutor(len(RATES)) as all_at_once:
-            for (_, _, _, rate), (target, took) in zip(RATES, all_at_once.map(lambda row: asked(row[0], *row[1]), enumerate(RATES, 1))):
-                assert -0.8 < took - (3 * rate - 1) / rate < 2.5, (target, took)
+        places = iter(range(1, 250))
+
+        def all_of(rows, most):
+            """Asks all at once, each from an address of its own; those that took longer by more than a busy machine explains."""
+            with concurrent.futures.ThreadPoolExecutor(len(rows)) as all_at_once:
+                found = list(all_at_once.map(lambda row: asked(next(places), *row), rows))
+            print(*(f"{target} {more:+.1f} s" for target, more in found), sep=", ")
+            assert all(more > -0.8 for _, more in found), found
+            return tuple(row for row, (_, more) in zip(rows, found) if more >= most)
+
+        late = RATES
+        for _ in range(3):
+            late = late and all_of(late, 2.5)
+        same(late, ())
 
 
 def opened(front, held, number, net):
     """So many connections of one address of a net, and that address: opened within four seconds, since the proxy ends those that wait
     for ten. Where the machine is too busy for that, others are opened, of another address."""
-    for n in range(1, 11):
+    for n in range(1, 21):
         began, source = time.monotonic(), f"{net}.{n}"
-        them = [held.enter_context(front.connect(source)) for _ in range(number)]
+        with concurrent.futures.ThreadPoolExecutor(8) as some:
+            them = list(some.map(lambda _: held.enter_context(front.connect(source)), range(number)))
         if time.monotonic() - began < 4:
             return source, them
         for one in them:
@@ -94,21 +108,45 @@ def test_what_is_refused_for_its_number():
     the others are refused; of a hundred requests that are under way none is refused, and of one more it is. No log has any."""
     with recording_desk() as (port, _), proxy(port) as front, contextlib.ExitStack() as held:
         asked = f"POST /con/c1/certify HTTP/1.1\r\nHost: {NAME}\r\nContent-Length: 0\r\n\r\n".encode()
-        _, all_of_them = opened(front, held, 240, "127.0.13")
-        for one in all_of_them:
-            one.sendall(asked)
-        statuses = [one.recv(65536)[9:12] for one in all_of_them]
-        assert 200 <= statuses.count(b"401") < 215 and set(statuses) == {b"401", b"429"}, statuses
-        begun = asked.replace(b"Length: 0", b"Length: 9")
-        source, under_way = opened(front, held, 99, "127.0.15")
-        for one in under_way:
-            one.sendall(begun)
-        time.sleep(0.5)
-        same(front.ask("GET", "/progress", source=source).status, 200)
-        held.enter_context(front.connect(source)).sendall(begun)
-        time.sleep(0.5)
-        same(front.ask("GET", "/progress", source=source).status, 429)
+        begun, nets = asked.replace(b"Length: 0", b"Length: 9"), iter(range(16, 22))
+
+        def at_once():
+            _, all_of_them = opened(front, held, 240, f"127.0.{next(nets)}")
+            for one in all_of_them:
+                one.sendall(asked)
+            statuses = [one.recv(65536)[9:12] for one in all_of_them]
+            assert 200 <= statuses.count(b"401") < 215 and set(statuses) == {b"401", b"429"}, statuses
+
+        def under_way():
+            source, them = opened(front, held, 99, f"127.0.{next(nets)}")
+            for one in them:
+                one.sendall(begun)
+            until(lambda: taken(front, them))
+            same(front.ask("GET", "/progress", source=source).status, 200)
+            one_more = held.enter_context(front.connect(source))
+            one_more.sendall(begun)
+            until(lambda: taken(front, [one_more]))
+            same(front.ask("GET", "/progress", source=source).status, 429)
+
+        tries(at_once)
+        tries(under_way)
         same(errors(front), "")
+
+
+def taken(front, connections):
+    """Whether the proxy has read all that was sent to it over these connections."""
+    own = {one.getsockname() for one in connections}
+    for line in Path("/proc/net/tcp").read_text().splitlines()[1:]:
+        _, here, there, _, queues = line.split()[:5]
+        to_send, to_read = (int(many, 16) for many in queues.split(":"))
+        if address(there)[1] == front.port and address(here) in own and to_send or address(here)[1] == front.port and address(there) in own and to_read:
+            return False
+    return True
+
+
+def address(words):
+    """An address and a port, as the system writes them."""
+    return socket.inet_ntoa(struct.pack("=I", int(words[:8], 16))), int(words[9:], 16)
 
 
 @needs("nginx", "openssl")
@@ -121,11 +159,11 @@ def test_fifteen_hundred_connections():
         front = held.enter_context(proxy(port, more={"worker_processes auto;": "worker_processes 1;"}))
         resource.setrlimit(resource.RLIMIT_NOFILE, (min(4096, before[1]), before[1]))
         for n in range(1500):
-            held.enter_context(socket.create_connection(("127.0.0.1", front.port), timeout=20, source_address=(f"127.0.14.{n % 20 + 1}", 0)))
+            held.enter_context(socket.create_connection(("127.0.0.1", front.port), timeout=PATIENCE, source_address=(f"127.0.14.{n % 20 + 1}", 0)))
         same(front.ask("GET", "/progress").status, 200)
         same(errors(front), "")
     with recording_desk() as (port, _), proxy(port) as front:
-        until(lambda: sum("worker" in Path(f"/proc/{child}/cmdline").read_text() for child in children(front)) == os.cpu_count(), 10)
+        until(lambda: sum("worker" in Path(f"/proc/{child}/cmdline").read_text() for child in children(front)) == os.cpu_count())
 
 
 def children(front):
@@ -159,7 +197,7 @@ def test_who_lets_the_proxy_wait():
         with concurrent.futures.ThreadPoolExecutor(4) as waits:
             ends = dict(zip(began, waits.map(ended, list(began)[:4])))
         for name, seconds in (("head", 10), ("no body", 10), ("body", 10), ("idle", 15)):
-            assert ends[name] - began[name] > seconds - 1 and ends[name] - asked[name] < seconds + 10, (name, began, asked, ends)
+            assert ends[name] - began[name] > seconds - 1 and ends[name] - asked[name] < seconds + 30, (name, began, asked, ends)
         # Nothing of what it did not read is kept for it: the connection itself is reset.
         read, connection = 0, waiting["reader"].fileno()
         os.set_blocking(connection, True)
@@ -190,7 +228,7 @@ def test_what_is_large_stays_in_memory():
         there.connect(("127.0.0.1", front.port))
         with front.tls.wrap_socket(there, server_hostname=NAME) as late:
             late.sendall(f"GET /now/con/c1 HTTP/1.1\r\nHost: {NAME}\r\nAuthorization: {front.authorization('clara')}\r\n\r\n".encode())
-            until(lambda: len(taken) == 2, 10)
+            until(lambda: len(taken) == 2)
             time.sleep(0.5)
             same(front.ask("GET", "/now/con/c1", name="berta").body.decode(), table)
         same(errors(front), "")
@@ -208,7 +246,8 @@ def test_how_long_a_body_may_be():
     same(len(patterns), 3)
     lengths = {*range(20_000), *range(99_990, 100_010), *range(999_000, 1_060_000, 7), *range(1_048_000, 1_049_000), *(10**n for n in range(5, 30))}
     for target, most in (("POST:/station/s1/lodge", 16_384), ("POST:/con/c1/certify", 16_384), ("POST:/con/c1/import", 1_048_576),
-                         ("POST:/con/c1/import/semicolon", 1_048_576), ("POST:/con/c1", 0), ("POST:/", 0), ("GET:/station/s1/lodge", 0), ("GET:/con/c1/import", 0),
+                         ("POST:/con/c1/import/semicolon", 1_048_576), ("POST:/con/c1/trial", 1_048_576),
+                         ("POST:/con/c1/trial/semicolon", 1_048_576), ("POST:/con/c1", 0), ("POST:/", 0), ("GET:/station/s1/lodge", 0), ("GET:/con/c1/import", 0),
                          ("PUT:/station/s1/lodge", 0), ("POST:/con/c1/import:1", 0)):
         may = {length for length in lengths for zeros in ("", "00")
                if any(re.search(pattern.replace(r"\z", r"\Z"), f"{target}:{zeros}{length}") for pattern in patterns)}
@@ -220,7 +259,8 @@ def test_what_is_too_long():
     """It is refused at once, without a name, and is written nowhere: nobody fills a disk with it."""
     with recording_desk() as (port, messages), proxy(port) as front:
         for line in ("GET /progress", "GET /", "GET /nonesuch", "GET /now/progress", "GET /clerk.html", "GET /logout", "HEAD /con/c1", "PUT /con/c1/certify",
-                     "POST /con/c1", "POST /station/s1/lodge", "POST /con/c1/import", "POST /con/c1/import/semicolon", "POST /con/c1/import?x"):
+                     "POST /con/c1", "POST /station/s1/lodge", "POST /con/c1/import", "POST /con/c1/import/semicolon", "POST /con/c1/import?x",
+                     "POST /con/c1/trial"):
             for length in ("1048577", "0001048577", "99999999999999999"):
                 with front.connect() as it:
                     it.sendall(f"{line} HTTP/1.1\r\nHost: {NAME}\r\nContent-Length: {length}\r\n\r\n".encode())
@@ -237,7 +277,7 @@ def test_an_import_whose_client_has_gone():
         with front.connect() as it:
             it.sendall(f"POST /con/c1/import HTTP/1.1\r\nHost: {NAME}\r\nAuthorization: {front.authorization('clara')}\r\n"
                        f"Content-Length: {len(body)}\r\n\r\n".encode() + body)
-            time.sleep(0.5)
+            until(lambda: taken(front, [it]))
         time.sleep(0.5)
         front.recorder.send_signal(signal.SIGCONT)
         line = front.record(1)[0]
@@ -254,7 +294,7 @@ def test_tables_without_a_recorder():
         same(front.ask("GET", "/con/c1").status, 502)
         with desk_with(lambda *_: answer_of("{}"), port):
             # (an answer is kept for a second)
-            until(lambda: front.ask("GET", "/con/c1").status == 200, 5)
+            until(lambda: front.ask("GET", "/con/c1").status == 200)
 
 
 @needs("nginx", "openssl")
@@ -267,10 +307,14 @@ def test_an_office_that_takes_no_connection():
             waiting.setblocking(False)
             waiting.connect_ex(("127.0.0.1", port))
         front = held.enter_context(proxy(port))
-        for target, name in (("/con/c1", None), ("/now/con/c1", "clara")):
+        def waits(target, name):
             began = time.monotonic()
             same((target, front.ask("GET", target, name=name).status), (target, 504))
-            assert 4 < time.monotonic() - began < 8
+            took = time.monotonic() - began
+            assert 4 < took < 8, took
+
+        for target, name in (("/con/c1", None), ("/now/con/c1", "clara")):
+            tries(lambda: waits(target, name))
 
 
 def test_who_waits_longer():
@@ -295,7 +339,7 @@ def test_versions_and_sessions_of_tls():
             tls.set_ciphers("DEFAULT:@SECLEVEL=0")
             tls.minimum_version = tls.maximum_version = version
             contexts[version] = tls = contexts.get(version, tls)
-            there = socket.create_connection(("127.0.0.1", front.port), timeout=20)
+            there = socket.create_connection(("127.0.0.1", front.port), timeout=PATIENCE)
             return tls.wrap_socket(there, server_hostname=NAME, session=session)
 
         contexts = {}
@@ -448,7 +492,7 @@ def recorder_alone(desk, *words, program=(), output=None):
         process = subprocess.Popen([sys.executable, *program, DEPLOY / "recorder.py", "recorder", "commands.log", "--room", "0", "--desk", f"127.0.0.1:{desk}",
                                     *words], stdout=output or copy, stderr=said, umask=0)
     try:
-        until(lambda: Path("recorder/head").exists() or process.poll() is not None, 20)
+        until(lambda: Path("recorder/head").exists() or process.poll() is not None)
         yield process
     finally:
         process.kill()
@@ -458,7 +502,7 @@ def recorder_alone(desk, *words, program=(), output=None):
 def command(target, body=b"{}", name="clara", role="clerk", allowed="1"):
     """Sends a command as the proxy does; the answer's status, or None where there is none."""
     with socket.socket(socket.AF_UNIX) as it:
-        it.settimeout(60)
+        it.settimeout(PATIENCE)
         it.connect("recorder/1.sock")
         it.sendall(f"POST {target} HTTP/1.0\r\nHost: recorder1\r\nOffice-Name: {name}\r\nOffice-Role: {role}\r\nOffice-Address: 192.0.2.1\r\n"
                    f"Office-Allowed: {allowed}\r\nContent-Length: {len(body)}\r\n\r\n".encode() + body)
@@ -475,7 +519,7 @@ def test_a_disk_that_does_not_keep_what_is_written():
         assert "Input/output error" in Path("said").read_text()
         # Nor is such a line shown.
         with recorder_alone(port, program=("-c", FAILING, "0")) as process:
-            same((process.wait(timeout=20) != 0, Path("recorder/head").exists()), (True, False))
+            same((process.wait(timeout=PATIENCE) != 0, Path("recorder/head").exists()), (True, False))
 
 
 def test_commands_one_after_the_other():
@@ -489,6 +533,8 @@ def test_commands_one_after_the_other():
             with lock:
                 under_way.add(connection)
                 most[0] = max(most[0], len(under_way))
+            # The first is answered once five are recorded.
+            until(lambda: Path("commands.log").read_bytes().count(b"\n") >= 5)
             time.sleep(0.05)
             with lock:
                 under_way.discard(connection)
@@ -539,7 +585,7 @@ def test_what_the_recorder_writes():
         same(command("/con/c1/certify", b"xyz", allowed=""), 403)
         same([body for _, body in messages], bodies)
         record = Path("commands.log").read_bytes()
-        until(lambda: json.loads(Path("recorder/head").read_text())["n"] == 2 * len(bodies) + 2, 10)
+        until(lambda: json.loads(Path("recorder/head").read_text())["n"] == 2 * len(bodies) + 2)
         # A body takes at most four thirds of its length, and what is text its length.
         lengths = [len(line) for line in record.splitlines()[2 * len(bodies) - 4:2 * len(bodies):2]]
         assert all(16_384 < length < most + 400 for length, most in zip(lengths, (21_848, 16_384))), lengths
@@ -556,7 +602,7 @@ def test_what_the_recorder_writes():
         # Who reads the head reads it whole: another file takes its place.
         with open("recorder/head", encoding="utf-8") as old:
             same(command("/station/s1/close"), 200)
-            until(lambda: json.loads(Path("recorder/head").read_text())["n"] == 2 * len(bodies) + 4, 10)
+            until(lambda: json.loads(Path("recorder/head").read_text())["n"] == 2 * len(bodies) + 4)
             same(json.loads(old.read())["n"], 2 * len(bodies) + 2)
 
 
@@ -581,7 +627,7 @@ def test_a_record_that_is_gone_on_with():
             if not round_of:
                 with open("commands.log", "ab") as it:
                     it.write(b'{"n": 201, "ti')
-    done = subprocess.run([DEPLOY / "replay", "--check"], input=Path("commands.log").read_bytes(), capture_output=True, timeout=60)
+    done = subprocess.run([DEPLOY / "replay", "--check"], input=Path("commands.log").read_bytes(), capture_output=True, timeout=PATIENCE)
     same((done.returncode, done.stdout.splitlines()[0], done.stdout.count(b"\n")), (1, b'line 201: not a line of a record: {"n": 201, "ti', 2))
     assert b"to look at 1; lines 401, " in done.stdout, done.stdout
 
@@ -601,7 +647,7 @@ def test_a_line_that_the_disk_cuts():
         resource.prlimit(process.pid, resource.RLIMIT_FSIZE, (len(lines) + len(lines.split(b"\n")[0]) + 1, resource.RLIM_INFINITY))
         same([command("/station/s5/close"), len(messages)], [200, 3])
     assert "the answer to 6 is not recorded" in Path("said").read_text()
-    done = subprocess.run([DEPLOY / "replay", "--check"], input=Path("commands.log").read_bytes(), capture_output=True, timeout=60)
+    done = subprocess.run([DEPLOY / "replay", "--check"], input=Path("commands.log").read_bytes(), capture_output=True, timeout=PATIENCE)
     cut, unanswered, end = done.stdout.decode().splitlines()
     assert done.returncode == 1 and cut.startswith("line 3: not a line of a record"), done
     assert unanswered.startswith("line 6: ") and end.startswith("to look at 2; lines 6, "), done
@@ -664,7 +710,7 @@ def test_a_second_recorder():
     """It ends, and the first one goes on."""
     with recording_desk() as (port, _), recorder_alone(port):
         with recorder_alone(port) as second:
-            assert second.wait(timeout=20)
+            assert second.wait(timeout=PATIENCE)
         same(command("/station/s1/close"), 200)
     same(len(Path("commands.log").read_bytes().splitlines()), 2)
 
@@ -944,7 +990,7 @@ def test_the_files_of_passwords():
     environment = {**os.environ, "PASSWORDS": "names", "SETUP": "setup.toml"}
 
     def password(*words):
-        return subprocess.run([DEPLOY / "password", *words], capture_output=True, text=True, timeout=60, env=environment, check=True).stdout.split()
+        return subprocess.run([DEPLOY / "password", *words], capture_output=True, text=True, timeout=PATIENCE, env=environment, check=True).stdout.split()
 
     with concurrent.futures.ThreadPoolExecutor(12) as at_once:
         given = list(at_once.map(lambda name: password("staff", name), names))
@@ -961,7 +1007,7 @@ def test_the_files_of_passwords():
     # A code that is a path is none.
     Path("setup.toml").write_text(with_stations(2).replace('"s2"', '"../s2"'), encoding="utf-8")
     before = sorted(os.listdir(folder / "stations"))
-    same([subprocess.run([DEPLOY / "password", "stations", code], capture_output=True, timeout=60, env=environment).returncode
+    same([subprocess.run([DEPLOY / "password", "stations", code], capture_output=True, timeout=PATIENCE, env=environment).returncode
           for code in ("../s2", "--all", "s1")], [2, 1, 0])
     same((sorted(os.listdir(folder / "stations")), (folder / "s2").exists()), (before, False))
     # Who has the old file open still reads it whole.
@@ -1105,15 +1151,15 @@ def test_what_the_services_start():
         deploy.new(SETUP, front.folder / "lib/office.db")
         with started("office.service", places) as office, started("office-recorder.service", places):
             assert office.stdout.readline().startswith("listening on ")
-            until(lambda: (front.folder / "recorder/head").exists(), 20)
+            until(lambda: (front.folder / "recorder/head").exists())
             same(front.ask("POST", "/station/s1/lodge", LODGED, "clara").status, 200)
-            until(lambda: json.loads((front.folder / "recorder/head").read_text())["n"] == 2, 10)
+            until(lambda: json.loads((front.folder / "recorder/head").read_text())["n"] == 2)
             with started("office-press.service", places) as press:
                 assert " pages 2 failed 0 " in press.stdout.readline()
             same(json.loads((front.folder / "pages/manifest.json").read_text(encoding="utf-8"))["record"]["lines"], 2)
             same(json.loads((front.folder / "pages/setup.json").read_text(encoding="utf-8"))[0]["code"], "c1")
             with started("office-backup.service", places) as copying:
-                same((copying.stdout.read().splitlines()[-1], copying.wait(timeout=60)), ("c1 agrees", 0))
+                same((copying.stdout.read().splitlines()[-1], copying.wait(timeout=PATIENCE)), ("c1 agrees", 0))
 
 
 # In place of ssh: what it was called with, and the other end on this machine.
@@ -1141,7 +1187,7 @@ def test_where_copies_are_sent():
         Path("log/commands.log").write_bytes(record)
         Path("asked").unlink(missing_ok=True)
         path = f"{Path.cwd()}/bin:{os.environ['PATH']}"
-        return subprocess.run(send, env={"PATH": path, **dict([environment]), **more}, timeout=60, stderr=subprocess.DEVNULL).returncode
+        return subprocess.run(send, env={"PATH": path, **dict([environment]), **more}, timeout=PATIENCE, stderr=subprocess.DEVNULL).returncode
 
     same((sent(b"one\n"), os.listdir("elsewhere"), Path("asked").exists()), (0, [], False))
     there = {"ELSEWHERE": f"keeper@host.example:{Path.cwd()}/elsewhere"}

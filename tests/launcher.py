@@ -19,7 +19,7 @@ import time
 from concurrent.futures import ThreadPoolExecutor
 from pathlib import Path
 
-from running import take_signals
+from running import PATIENCE, take_signals
 
 ROOT = Path(__file__).resolve().parent.parent
 PARTS = ("src", "specs", "proofs")
@@ -205,11 +205,11 @@ class Copy:
     def run(self, *words, **how):
         """Returns the status, the standard output and the standard error of one launch."""
         ran = self.start(*words, **how)
-        out, errors = ran.communicate(timeout=50)
+        out, errors = ran.communicate(timeout=PATIENCE)
         return ran.returncode, out, errors
 
     def wait_for(self, file):
-        until = time.monotonic() + 20
+        until = time.monotonic() + PATIENCE
         while not (file.exists() and file.read_text().strip()):
             assert time.monotonic() < until, f"{file.name} did not come"
             time.sleep(0.02)
@@ -254,8 +254,8 @@ def is_running(pid):
 
 
 def ends(pid):
-    """Returns whether a process ends within ten seconds: one that got a signal may need a while for it."""
-    until = time.monotonic() + 10
+    """Returns whether a process ends long before it would by itself: one that got a signal may need a while for it."""
+    until = time.monotonic() + PATIENCE / 2
     while is_running(pid):
         if time.monotonic() > until:
             return False
@@ -299,7 +299,7 @@ def two_launches_at_once_build_once(copy):
         assert ran.stderr.readline() == WAITS
     (copy.bin / "go").touch()
     for ran in [first, *others]:
-        out, errors = ran.communicate(timeout=60)
+        out, errors = ran.communicate(timeout=PATIENCE / 2)
         assert ran.returncode == 1 and out.startswith("build 1\n"), (ran.returncode, out, errors)
         assert WAITS not in errors, errors
     assert copy.runs() == 1
@@ -403,16 +403,19 @@ def a_current_program_starts_at_once(copy):
 
     # The shortest of many, since other work on the machine only adds to a time: of more, where it
     # does much of that. (People still take a tenth of a second for at once. It is some 25 ms on a
-    # machine that is not slow.)
-    with_launcher, alone = [], []
+    # machine that is not slow; on any it is some two times what it takes to list all files.)
+    listing = f"cd '{copy.root}' && find -L crates -printf '%p %i %s %C@\\n' | sha256sum >listed"
+    with_launcher, alone, listed = [], [], []
     for rounds in range(400):
         with_launcher.append(took(copy.root / "office", "check"))
         alone.append(took(copy.program, "check"))
-        more = min(with_launcher) - min(alone)
-        if rounds >= 40 and more <= 100:
+        listed.append(took("bash", "-c", listing))
+        more, most = min(with_launcher) - min(alone), max(100, 5 * min(listed))
+        if rounds >= 40 and more <= most:
             break
-    assert more <= 100, f"{more:.1f} ms more than the program"
-    return f"{more:.1f} ms more than the program"
+    said = f"{more:.1f} ms more than the program, and {min(listed):.1f} ms to list all files"
+    assert more <= most, said
+    return said
 
 
 def a_tree_that_cannot_be_written_is_status_3(copy):
@@ -603,6 +606,11 @@ def a_forecast_goes_along_the_crates(copy):
     says("about 23 min", ended={**read, "low": "240 again"}, queue=again, now=240)
 
 
+def times_as_long(copy):
+    """Returns how many times as long as is recorded a build of `TIMED` read, which a busy machine adds to."""
+    return int(re.search(r"^reading (\d+) new$", (copy.out / "office.ends").read_text(), re.M)[1]) / RECORDED["reading"]
+
+
 def a_build_says_how_many_minutes_are_left(copy):
     copy.record(RECORDED)
     copy.plan(TIMED.format(3))
@@ -612,14 +620,14 @@ def a_build_says_how_many_minutes_are_left(copy):
     assert 32 <= said <= 40, lines
     now = minutes_in(lines[2])
     wanted = f"office: tally_frac is proved, 28 functions: {CRATES - 1} of {CRATES} crates and about {now} min left"
-    assert lines[2] == wanted and 0.7 * said <= now <= 1.4 * said, lines
+    assert lines[2] == wanted and 0.7 <= now / said / times_as_long(copy) <= 1.3, lines
 
 
 def a_machine_that_is_slower_than_the_record_takes_longer(copy):
     copy.record(RECORDED)
     copy.plan(TIMED.format(6))
     lines = copy.run("check")[2].splitlines()
-    assert 1.4 <= minutes_in(lines[2]) / minutes_in(lines[1]) <= 2.6, lines
+    assert times_as_long(copy) >= 2 and 0.7 <= minutes_in(lines[2]) / minutes_in(lines[1]) / times_as_long(copy) <= 1.3, lines
 
 
 def minutes_left_shrink_as_a_build_goes_on(copy):
@@ -630,16 +638,16 @@ def minutes_left_shrink_as_a_build_goes_on(copy):
     lines = copy.run("check")[2].splitlines()
     assert minutes_in(lines[1]) >= 80 and minutes_in(lines[2]) >= 56, lines
     assert lines[3] == f"office: {CRATES - 3} of {CRATES} crates were proved before and are taken over", lines
-    assert f"1 of {CRATES} crates" in lines[4] and 15 <= minutes_in(lines[4]) <= 45, lines
+    assert f"1 of {CRATES} crates" in lines[4] and 15 <= minutes_in(lines[4]) <= 45 * times_as_long(copy), lines
 
 
 def what_an_earlier_build_left_is_taken_over(copy):
     copy.record(RECORDED)
-    kept = ["tally_frac", "tally_rules", "tally_door", "tally_rows"]
+    kept = ["tally_frac", "tally_rules", "tally_door", "tally_schema"]
     for crate in kept:
         copy.keep(crate)
     taken = f"of {CRATES} crates were proved before and are taken over"
-    copy.plan("".join(f"echo '== {crate}'\n" for crate in [*kept, "tally_schema"]) + "sleep 2; exit 1")
+    copy.plan("".join(f"echo '== {crate}'\n" for crate in [*kept, "tally_records"]) + "sleep 2; exit 1")
     lines = copy.run("check")[2].splitlines()
     assert lines[1] == f"office: 4 {taken}" and "about 3" in lines[2] and lines[3] == f"office: 5 {taken}", lines
     # What is above a crate that changed is proved again, over what is left of it.
@@ -664,7 +672,9 @@ def what_an_earlier_build_left_is_taken_over(copy):
 
 def a_build_notes_when_its_parts_ended(copy):
     copy.plan(TIMED.format(3).replace("printf", "echo '== tally_door'; echo '== tally_office'; echo logic=proved functions=1; printf"))
+    begun = time.monotonic()
     copy.run("check")
+    took = time.monotonic() - begun
     lines = [line.split() for line in (copy.out / "office.ends").read_text().splitlines()]
     assert [line[0] for line in lines] == ["workers", "reading", "tally_frac", "tally_door", "tally_office", "building"]
     assert [line[2] for line in lines[1:]] == ["new", "new", "kept", "new", "new"], lines
@@ -675,18 +685,21 @@ def a_build_notes_when_its_parts_ended(copy):
     subprocess.run([sys.executable, copy.root / "bench/building.py"], check=True, capture_output=True)
     written = dict(line.split() for line in record.read_text().splitlines() if not line.startswith("#"))
     assert [*written] == ["reading", "tally_door", "tally_frac", "tally_office", "building"], written
-    assert written["tally_door"] == "40" and 3 <= int(written["reading"]) <= 8 and int(written["tally_frac"]) <= 3, written
+    assert written["tally_door"] == "40" and 3 <= int(written["reading"]) <= took + 1 and int(written["tally_frac"]) <= max(took - 3, 3), written
 
 
 def a_build_that_is_silent_is_spoken_of_all_the_same(copy):
-    copy.plan("echo '== tally_frac'; exec sleep 60")
+    copy.plan("echo '== tally_frac'; exec sleep 900")
     ran = copy.start("check")
-    begun, seen = time.monotonic(), []
-    threading.Timer(30, ran.terminate).start()
+    timer, seen, still = threading.Timer(PATIENCE / 2, ran.terminate), [], f"still proving, {CRATES - 1} of {CRATES} crates left"
+    timer.start()
     for line in ran.stderr:
-        seen.append((time.monotonic() - begun, line))
-    still = [at for at, line in seen if f"still proving, {CRATES - 1} of {CRATES} crates left" in line]
-    assert still and still[0] < 30, seen
+        seen.append(line)
+        if still in line:
+            break
+    timer.cancel()
+    # After twenty seconds without a word.
+    assert still in seen[-1] and re.search(r", after 0 min [2-5]\d s$", seen[-1]), seen
 
 
 def a_launcher_that_is_ended_ends_its_build(copy):
@@ -694,30 +707,30 @@ def a_launcher_that_is_ended_ends_its_build(copy):
         (copy.bin / "pid").unlink(missing_ok=True)
         (copy.bin / "child").unlink(missing_ok=True)
         # The build has a process of its own, which the end of `rt` alone would not end.
-        copy.plan(f"sleep 60 & echo $! >'{copy.bin}/child'; wait")
+        copy.plan(f"sleep 900 & echo $! >'{copy.bin}/child'; wait")
         ran = copy.start("check")
         copy.wait_for(copy.bin / "child")
         waiting = copy.start("check")
         ran.send_signal(number)
-        # Long before the 60 seconds of the build.
-        ran.communicate(timeout=30)
+        # Long before the 900 seconds of the build.
+        ran.communicate(timeout=PATIENCE / 2)
         assert ran.returncode == -number, ran.returncode
         for name in ("pid", "child"):
             assert ends(int((copy.bin / name).read_text())), f"{number.name}: the build goes on"
         waiting.terminate()
-        waiting.communicate(timeout=30)
+        waiting.communicate(timeout=PATIENCE / 2)
         assert waiting.returncode == -signal.SIGTERM
 
 
 def after_a_build_that_was_ended_the_next_in_line_builds(copy):
-    copy.plan("echo begun >\"$here/begun\"; exec sleep 60")
+    copy.plan("echo begun >\"$here/begun\"; exec sleep 900")
     first = copy.start("check")
     copy.wait_for(copy.bin / "begun")
     copy.plan(PROVED)
     second = copy.start("check")
     assert second.stderr.readline() == WAITS
     first.terminate()
-    out, errors = second.communicate(timeout=60)
+    out, errors = second.communicate(timeout=PATIENCE / 2)
     assert second.returncode == 1 and out.startswith("build 1\n"), errors
 
 
@@ -781,18 +794,18 @@ def a_first_look_waits_for_no_build(copy):
     assert status == 1 and out.endswith("\ncheck\n") and errors == UNPROVED.format("check", "refused: bad_header\n"), errors
     assert first.poll() is None, "the build ended first"
     (copy.bin / "go").touch()
-    out, errors = first.communicate(timeout=60)
+    out, errors = first.communicate(timeout=PATIENCE / 2)
     assert out.startswith("build 1\n") and copy.runs() == 1, (out, errors)
 
 
 def a_first_look_that_is_ended_ends_what_it_runs(copy):
     for number in (signal.SIGTERM, signal.SIGINT, signal.SIGHUP):
         (copy.bin / "child").unlink(missing_ok=True)
-        copy.tries(f"sleep 60 & echo $! >'{copy.bin}/child'; wait")
+        copy.tries(f"sleep 900 & echo $! >'{copy.bin}/child'; wait")
         ran = copy.start("--unproved", "check")
         copy.wait_for(copy.bin / "child")
         ran.send_signal(number)
-        errors = ran.communicate(timeout=30)[1]
+        errors = ran.communicate(timeout=PATIENCE / 2)[1]
         assert ran.returncode == -number and errors.endswith("office: the first look was ended\n"), (ran.returncode, errors)
         for name in ("pid", "child"):
             assert ends(int((copy.bin / name).read_text())), f"{number.name}: it goes on"

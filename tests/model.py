@@ -5,6 +5,7 @@ Tests compare the program with it. It keeps all in dictionaries and counts every
 
 import json
 import math
+import re
 from functools import cached_property
 
 # The divisors of the rules, and what the votes are multiplied by: the modified rule divides by 1.4,
@@ -21,6 +22,8 @@ REFUSALS = dict(enumerate((
 STATUSES = ("received", "queried", "corrected", "closed")
 
 LAST = 9999
+
+CODE = "[A-Za-z0-9_-]{1,16}"
 
 
 class Refused(Exception):
@@ -170,6 +173,31 @@ class Con:
         return left[:self.certified[n]]
 
 
+def wrong_in(con, fields):
+    """The first of what is wrong with a row that cannot be read."""
+    header = ["station", "slip", "blank", "spoiled", *con.lists]
+    if len(fields) != len(header):
+        return f"fields {len(fields)}"
+    station, slip, *numbers = fields
+    if not re.fullmatch(CODE, station):
+        return "bad_station"
+    if station not in con.electors:
+        return "no_station"
+    if not re.fullmatch(CODE, slip):
+        return "bad_slip"
+    return next((f"bad_number {column}" for column, n in zip(header[2:], numbers) if not re.fullmatch("[0-9]{1,9}", n)), None)
+
+
+def counted(answers):
+    """How many rows came to what, and the first that is named, with its number."""
+    counts = dict.fromkeys(("lodged", "same", "differs", "refused", "bad"), 0) | {"first": None}
+    for row, (answer, of, _) in enumerate(answers, 1):
+        counts[answer] += 1
+        if of is not None and counts["first"] is None:
+            counts["first"] = [row, of]
+    return counts
+
+
 class Office:
     """What an office is and answers, by its setup as `tomllib` reads it."""
 
@@ -188,6 +216,8 @@ class Office:
             con = self.con(code)
             if verb == "import":
                 return 200, compact(self.imported(con, body))
+            if verb == "trial":
+                return 200, self.tried(con, body)
             return 200, compact(getattr(self, verb)(con, **json.loads(body)))
         except Refused as it:
             word, status = REFUSALS[it.number]
@@ -260,25 +290,35 @@ class Office:
         stands.update(given, status=ends, rev=rev + 1)
         return {"ok": "moved", "rev": rev + 1}
 
-    def imported(self, con, text):
-        """What comes of rows that are lodged one by one. No field of them is in quotes."""
-        counts = dict.fromkeys(("lodged", "same", "differs", "refused", "bad"), 0) | {"ok": "import", "first": None}
+    def answers(self, con, text):
+        """What rows come to that are lodged one by one: a word, and of those that are named the number and the words. No field of
+        them is in quotes."""
         header, *rows = text.splitlines()
         assert header.split(",") == ["station", "slip", "blank", "spoiled", *con.lists]
-        for number, row in enumerate(rows, 1):
-            station, slip, *numbers = row.split(",")
-            if station not in con.electors or not all(n.isdigit() for n in numbers):
-                answer, of = "bad", 0
-            else:
-                blank, spoiled, *votes = map(int, numbers)
-                try:
-                    answer, of = self.lodge(con, station, slip, votes, blank, spoiled)["ok"], None
-                except Refused as it:
-                    answer, of = "differs" if it.number == 7 else "refused", it.number
-            counts[answer] += 1
-            if of is not None and counts["first"] is None:
-                counts["first"] = [number, of]
-        return counts
+        for row in rows:
+            fields = row.split(",")
+            if why := wrong_in(con, fields):
+                yield "bad", 0, why
+                continue
+            station, slip, (blank, spoiled, *votes) = *fields[:2], map(int, fields[2:])
+            try:
+                yield self.lodge(con, station, slip, votes, blank, spoiled)["ok"], None, None
+            except Refused as it:
+                yield "differs" if it.number == 7 else "refused", it.number, f"{REFUSALS[it.number][0]} {station}"
+
+    def imported(self, con, text):
+        return counted(self.answers(con, text)) | {"ok": "import"}
+
+    def tried(self, con, text):
+        """The text of what an import would come to, which lodges nothing."""
+        before = dict(con.returns)
+        answers = list(self.answers(con, text))
+        con.returns = before
+        counts = counted(answers)
+        counts["first"] = " ".join(map(str, counts["first"] or "-"))
+        lines = [f"{word} {n}" for word, n in counts.items()]
+        lines += [f"row {number} {of} {words}" for number, (_, of, words) in enumerate(answers, 1) if words]
+        return "".join(f"{line}\n" for line in lines)
 
     # Constituencies.
 

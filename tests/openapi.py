@@ -165,7 +165,7 @@ def test_the_routes_are_those_of_the_desk():
     routes = dict(re.findall(r'"(/[^"]*)",\s*Route::(\w+)', ROUTES))
     gets = set(re.findall(r"Route::(\w+)", ROUTES.split("pub fn takes_get", 1)[1].split("=> false", 1)[0].rsplit("=> true", 1)[0]))
     want = {(path, "get" if name in gets else "post") for path, name in routes.items()}
-    assert len(want) == 25, f"{len(want)} routes were found"
+    assert len(want) == 27, f"{len(want)} routes were found"
     assert {(path, method) for path, method, _ in operations()} == want
 
 

@@ -15,6 +15,7 @@ line is `N passed, M failed, K skipped`.
 
 import base64
 import contextlib
+import functools
 import http.server
 import json
 import math
@@ -147,6 +148,7 @@ def chromium():
         for font, wanted in (("DejaVu Sans", round(100 * (1767 + 569) / 2048)), ("DejaVu Sans Mono", round(100 * 2 * 1233 / 2048))):
             if it.run(WIDTH, font, "Mi") != wanted:
                 raise Skipped(f"the font {font} is not there")
+        it.patience = 120
         yield it
 
 
@@ -155,9 +157,25 @@ def drawn(it):
     shots = []
     while len(shots) < 2 or shots[-1] != shots[-2]:
         assert len(shots) < 20, "each picture of the page is another one"
-        it.run_later("requestAnimationFrame(() => requestAnimationFrame(arguments[0]))")
+        if shots:
+            it.run_later("requestAnimationFrame(() => requestAnimationFrame(arguments[0]))")
         shots.append(it.command("Page.captureScreenshot", format="png")["data"])
     return shots[-1]
+
+
+def unless_it_hangs(test):
+    """A test that is made again, up to three times, where Chromium gives no picture at all, as it may on a machine that has much else
+    to do."""
+    @functools.wraps(test)
+    def run():
+        for left in (2, 1, 0):
+            try:
+                return test()
+            except TimeoutError:
+                if not left:
+                    raise
+                print("Chromium does not answer: again", flush=True)
+    return run
 
 
 def draw(it, view, style=""):
@@ -307,6 +325,7 @@ def against(name, found):
 
 
 @needs("chromium")
+@unless_it_hangs
 def test_the_pages_as_pictures():
     """Each page in each of its views is as it is stored."""
     wrong, names = [], set()
@@ -356,6 +375,7 @@ LIKE = ("body { -webkit-text-stroke: .1px; }", "body { transform: translate(.3px
 
 
 @needs("chromium")
+@unless_it_hangs
 def test_faults_that_the_pictures_show():
     """A page with a fault differs from its picture, and one that is drawn with other edges of its letters does not."""
     seen, tried = {}, set()

@@ -35,7 +35,7 @@ import model
 import openapi
 from office import CONSTITUENCY, DOUBLE, LISTS, PROFILE, RETURNS, SETUP, TABLES, THREE_STATIONS
 from office import constituency, party_list, profile, station
-from running import Skipped, free_port, run_tests, take_signals
+from running import PATIENCE, Skipped, free_port, run_tests, take_signals, tries
 
 ROOT = Path(__file__).resolve().parent.parent
 PROGRAM = ROOT / "crates/tally_office/out/tally_office"
@@ -56,7 +56,7 @@ class Ran:
 
 
 def office(*words, given=""):
-    ran = subprocess.run([PROGRAM, *words], input=given.encode(), capture_output=True, timeout=120)
+    ran = subprocess.run([PROGRAM, *words], input=given.encode(), capture_output=True, timeout=PATIENCE)
     return Ran(ran.returncode, ran.stdout.decode(), ran.stderr.decode())
 
 
@@ -158,7 +158,7 @@ def twin_town(db="office.db"):
 
 
 def recount(db="office.db", text="c1 agrees\n", status=0):
-    ran = subprocess.run([sys.executable, ROOT / "examples/recount.py", db], capture_output=True, text=True, timeout=120)
+    ran = subprocess.run([sys.executable, ROOT / "examples/recount.py", db], capture_output=True, text=True, timeout=PATIENCE)
     same(Ran(ran.returncode, ran.stdout, ran.stderr), Ran(status, text, ""))
 
 
@@ -222,8 +222,19 @@ def test_codes_that_begin_with_a_dash():
 
 
 def test_arguments_that_are_no_text():
-    ran = subprocess.run([PROGRAM, "show", b"--db", b"\xff"], capture_output=True, timeout=60)
+    ran = subprocess.run([PROGRAM, "show", b"--db", b"\xff"], capture_output=True, timeout=PATIENCE)
     same((ran.returncode, ran.stdout, ran.stderr), (2, b"", b"error: the arguments are not all UTF-8 text\n"))
+
+
+# The rows of the examples that are not lodged, as `examples/README.md` has them.
+NAMED = """\
+row 11 7 differs 01-002-A
+row 13 4 bad_counts 03-003-A
+row 14 0 bad_number HAYA
+row 15 0 fields 8
+row 16 7 differs 03-001-B
+row 17 6 too_many_votes 04-002-A
+"""
 
 
 def test_the_check_of_the_examples():
@@ -231,13 +242,14 @@ def test_the_check_of_the_examples():
     wanted = (ROOT / "examples/returns.txt").read_text(encoding="utf-8")
     same(office("check", given=returns), Ran(0, wanted, ""))
     same(office("check", "--semicolon", given=returns.replace(",", ";")), Ran(0, wanted, ""))
+    same(office("check", "--rows", given=returns), Ran(0, wanted + NAMED, ""))
     only()
 
 
 def check(text, **streams):
     """A check of a text or of a stream, and the streams that it writes on."""
     given = {"input": text} if isinstance(text, bytes) else {"stdin": text}
-    ran = subprocess.run([PROGRAM, "check"], **given, **{"stdout": subprocess.PIPE, "stderr": subprocess.PIPE, **streams}, timeout=60)
+    ran = subprocess.run([PROGRAM, "check"], **given, **{"stdout": subprocess.PIPE, "stderr": subprocess.PIPE, **streams}, timeout=PATIENCE)
     return ran.returncode, ran.stdout, ran.stderr
 
 
@@ -249,7 +261,7 @@ def test_a_check_over_streams_that_fail():
     same(check(folder), (3, b"", b"failed: read\n"))
     os.close(folder)
     with socket.create_server(("127.0.0.1", 0)) as listener:
-        there = socket.create_connection(listener.getsockname(), timeout=60)
+        there = socket.create_connection(listener.getsockname(), timeout=PATIENCE)
         here, _ = listener.accept()
         there.sendall(returns[:len(returns) // 2])
         reset(there)
@@ -258,7 +270,7 @@ def test_a_check_over_streams_that_fail():
     with open("/dev/full", "wb") as full:
         same(check(returns, stdout=full), (3, None, b"failed: write\n"))
         same(check(b"", stderr=full), (1, b"", None))
-        same(subprocess.run([PROGRAM], stderr=full, stdout=subprocess.PIPE, timeout=60).returncode, 2)
+        same(subprocess.run([PROGRAM], stderr=full, stdout=subprocess.PIPE, timeout=PATIENCE).returncode, 2)
     only("folder")
 
 
@@ -274,7 +286,7 @@ def test_a_report_of_a_constituency_wants_one():
 
 def test_help_of_each_command_names_its_arguments():
     for command, names in (
-        ("new", ("--db", "--setup")), ("import", ("--db", "--con", "--csv", "--semicolon")),
+        ("check", ("--semicolon", "--rows")), ("new", ("--db", "--setup")), ("import", ("--db", "--con", "--csv", "--semicolon", "--rows")),
         ("show", ("--db", "--report", "--con", "progress")), ("serve", ("--db", "--port", "--count")),
     ):
         text = office(command, "--help").err
@@ -311,12 +323,16 @@ def test_a_database_is_not_made_twice():
 def test_setups_that_are_refused_leave_no_file():
     long = SETUP + "#" * (8388609 - len(SETUP))
     for text, word in (
-        ("[[", "not_toml"), (b"a = \"\xff\"\n", "not_toml"), ("", "missing profile"), (SETUP.replace("seats = 3\n", ""), "missing seats"),
-        (SETUP.replace("seats = 3", "seats = 501"), "bad_value seats"), (SETUP.replace("seats = 3", "seats = \"3\""), "bad_value seats"),
-        (SETUP + "\n[[constituency.station]]\ncode = \"s1\"\nelectors = 1\n", "duplicate s1"),
-        (SETUP.replace("profile = \"d0\"", "profile = \"zz\""), "unknown_profile"),
-        (SETUP + "".join(f"\n[[constituency.list]]\ncode = \"L{n}\"\nname = \"L\"\ncandidates = [\"x\"]\n" for n in range(59)), "over_limit list"),
-        (SETUP.replace("method = \"dhondt\"", "method = \"coin\""), "bad_value method"), (long, "over_limit text"),
+        ("[[", "not_toml\nat line 1, column 3"), (b"a = \"\xff\"\n", "not_toml\nat line 1, column 6"), ("", "missing profile"),
+        (SETUP.replace("seats = 3\n", ""), "missing seats\nat constituency 1 c1"),
+        (SETUP.replace("seats = 3", "seats = 501"), "bad_value seats\nat constituency 1 c1"),
+        (SETUP.replace("seats = 3", "seats = \"3\""), "bad_value seats\nat constituency 1 c1"),
+        (SETUP + "\n[[constituency.station]]\ncode = \"s1\"\nelectors = 1\n",
+            "duplicate s1\nat constituency 1 c1, station 2; first at constituency 1 c1, station 1 s1"),
+        (SETUP.replace("profile = \"d0\"", "profile = \"zz\""), "unknown_profile\nat constituency 1 c1"),
+        (SETUP + "".join(f"\n[[constituency.list]]\ncode = \"L{n}\"\nname = \"L\"\ncandidates = [\"x\"]\n" for n in range(59)),
+            "over_limit list\nat constituency 1 c1"),
+        (SETUP.replace("method = \"dhondt\"", "method = \"coin\""), "bad_value method\nat profile 1 d0"), (long, "over_limit text"),
     ):
         write("setup.toml", text)
         refused(word, "new", "--db", "office.db", "--setup", "setup.toml")
@@ -429,8 +445,8 @@ def test_what_lies_beside_a_database():
 
 def test_an_empty_file_stays_where_no_office_is_made_in_it():
     write("office.db", "")
-    write("setup.toml", "x")
-    refused("not_toml", "new", "--db", "office.db", "--setup", "setup.toml")
+    write("setup.toml", "[[")
+    refused("not_toml\nat line 1, column 3", "new", "--db", "office.db", "--setup", "setup.toml")
     only("office.db")
     new()
     only("office.db")
@@ -442,7 +458,7 @@ def test_offices_that_are_made_at_once():
     words = [PROGRAM, "new", "--db", "office.db", "--setup", "setup.toml"]
     for _ in range(20):
         running = [subprocess.Popen(words, stdout=subprocess.PIPE, stderr=subprocess.PIPE) for _ in range(4)]
-        found = sorted((*ran.communicate(timeout=60), ran.returncode) for ran in running)
+        found = sorted((*ran.communicate(timeout=PATIENCE), ran.returncode) for ran in running)
         same(found[-1], (b"constituencies 1\n", b"", 0))
         for out, err, status in found[:-1]:
             assert (out, err, status) in ((b"", b"failed: store\n", 3), (b"", b"refused: not_empty\n", 1)), found
@@ -520,7 +536,7 @@ def test_an_office_that_another_made_first_stays():
     done("constituencies 1\n", *making("office.db"))
     made = Path("office.db").read_bytes()
     write("go", "")
-    same((*first.communicate(timeout=60), first.returncode), (b"", b"refused: not_empty\n", 1))
+    same((*first.communicate(timeout=PATIENCE), first.returncode), (b"", b"refused: not_empty\n", 1))
     same(Path("office.db").read_bytes(), made)
     shows("progress", PROGRESS, con=None)
     only("before.c", "before.so", "go", "office.db")
@@ -532,7 +548,7 @@ def test_a_file_that_another_has_locked_stays():
     with contextlib.closing(sqlite3.connect("office.db", isolation_level=None)) as other:
         other.execute("BEGIN EXCLUSIVE")
         write("go", "")
-        same((*first.communicate(timeout=60), first.returncode), (b"", b"failed: store\n", 3))
+        same((*first.communicate(timeout=PATIENCE), first.returncode), (b"", b"failed: store\n", 3))
         other.execute("CREATE TABLE other (a INTEGER)")
         other.execute("COMMIT")
     with database() as it:
@@ -711,6 +727,55 @@ def test_an_import_of_twenty_thousand_rows():
         same(rows(), before)
 
 
+NOT_LODGED = """\
+s1,p1,0,0,11,20
+s2,p2,0,0,1000001,0
+s2,p2,0,0,200,101
+zz,p2,0,0,x,1
+s 2,p2,0,0,1,1
+s2,p 2,x,0,1,1
+s2,p2,x,,1,1
+s2,p2,0,,1,x
+s2,p2,0,0,1,x
+s2,p2
+"""
+THEIR_LINES = """\
+row 3 7 differs s1
+row 4 4 bad_counts s2
+row 5 6 too_many_votes s2
+row 6 0 no_station
+row 7 0 bad_station
+row 8 0 bad_slip
+row 9 0 bad_number blank
+row 10 0 bad_number spoiled
+row 11 0 bad_number B
+row 12 0 fields 2
+"""
+
+
+def test_an_import_names_its_rows():
+    """Each that is neither lodged nor the same, after the six lines; with semicolons too, and with a fault none."""
+    header, row = RETURNS.splitlines(keepends=True)[:2]
+    text = header + row * 2 + NOT_LODGED
+    for given, flags in ((text, ("--rows",)), (text.replace(",", ";"), ("--rows", "--semicolon"))):
+        new(THREE_STATIONS)
+        command = ("import", "--db", "office.db", "--con", "c1", "--csv", "returns.csv")
+        write("returns.csv", given)
+        counts = "differs 1\nrefused 2\nbad 7\nfirst 3 7\n"
+        same(office(*command, *flags), Ran(0, "lodged 1\nsame 1\n" + counts + THEIR_LINES, ""))
+        same(office(*command, *flags[1:]), Ran(0, "lodged 0\nsame 2\n" + counts, ""))
+        same([row[0] for row in rows()["returns"]], ["s1"])
+        write("returns.csv", header + row)
+        same(office(*command, "--rows"), Ran(0, "lodged 0\nsame 1\ndiffers 0\nrefused 0\nbad 0\nfirst -\n", ""))
+        os.remove("office.db")
+    new(THREE_STATIONS)
+    write("returns.csv", header + "x\n" * 20000)
+    lines = "".join(f"row {n} 0 fields 1\n" for n in range(1, 20001))
+    same(office(*command, "--rows"), Ran(0, "lodged 0\nsame 0\ndiffers 0\nrefused 0\nbad 20000\nfirst 1 0\n" + lines, ""))
+    write("returns.csv", header + "x\n" * 20001)
+    refused("too_long", *command, "--rows")
+
+
 def test_imports_that_change_nothing():
     new(THREE_STATIONS)
     before = rows()
@@ -744,7 +809,7 @@ def test_two_commands_at_once():
         failed("store", "show", "--db", "office.db", "--report", "progress")
         failed("store", "new", "--db", "office.db", "--setup", "setup.toml")
         pipe.write(RETURNS[60:])
-    out, err = first.communicate(timeout=60)
+    out, err = first.communicate(timeout=PATIENCE)
     same((first.returncode, out, err), (0, b"lodged 3\nsame 0\ndiffers 0\nrefused 0\nbad 0\nfirst -\n", b""))
     same(len(rows()["returns"]), 3)
 
@@ -758,7 +823,7 @@ def test_an_import_that_is_killed():
     write("returns.csv", text)
     words = [PROGRAM, "import", "--db", "office.db", "--con", "c1", "--csv", "returns.csv"]
     began = time.monotonic()
-    subprocess.run(words, check=True, capture_output=True, timeout=120)
+    subprocess.run(words, check=True, capture_output=True, timeout=PATIENCE)
     whole = time.monotonic() - began
     found = set()
     for turn in range(10):
@@ -1052,7 +1117,7 @@ def test_a_recount_of_any_path():
 
 
 def cannot_be_counted(name):
-    ran = subprocess.run([sys.executable, ROOT / "examples/recount.py", name], capture_output=True, text=True, timeout=120)
+    ran = subprocess.run([sys.executable, ROOT / "examples/recount.py", name], capture_output=True, text=True, timeout=PATIENCE)
     assert (ran.returncode, ran.stdout) == (2, "") and "error: " in ran.stderr and "Traceback" not in ran.stderr, ran
 
 
@@ -1078,7 +1143,7 @@ def test_an_output_that_takes_nothing():
     write("returns.csv", RETURNS)
     with open("/dev/full", "w", encoding="utf-8") as full:
         words = [PROGRAM, "import", "--db", "office.db", "--con", "c1", "--csv", "returns.csv"]
-        ran = subprocess.run(words, stdout=full, stderr=subprocess.PIPE, timeout=60)
+        ran = subprocess.run(words, stdout=full, stderr=subprocess.PIPE, timeout=PATIENCE)
     same((ran.returncode, ran.stderr), (3, b"failed: write\n"))
     same(len(rows()["returns"]), 3)
     only("office.db")
@@ -1132,7 +1197,7 @@ class Desk:
 
     def ask(self, method, path, body=None):
         """The status, the fields and the body of an answer."""
-        connection = http.client.HTTPConnection("127.0.0.1", self.port, timeout=60)
+        connection = http.client.HTTPConnection("127.0.0.1", self.port, timeout=PATIENCE)
         connection.request(method, path, body)
         answer = connection.getresponse()
         found = answer.status, dict(answer.getheaders()), answer.read().decode()
@@ -1145,7 +1210,7 @@ class Desk:
 
     def send(self, message, hang_up=False):
         """All bytes of what is answered to these bytes."""
-        with socket.create_connection(("127.0.0.1", self.port), timeout=60) as it:
+        with socket.create_connection(("127.0.0.1", self.port), timeout=PATIENCE) as it:
             it.sendall(message)
             it.shutdown(socket.SHUT_WR)
             if hang_up:
@@ -1156,7 +1221,7 @@ class Desk:
             return found
 
     def end(self):
-        out, err = self.process.communicate(timeout=120)
+        out, err = self.process.communicate(timeout=PATIENCE)
         return Ran(self.process.returncode, out.decode(), err.decode())
 
 
@@ -1298,7 +1363,7 @@ def test_how_clients_send():
     body = b'{"slip":"p1","votes":[50,40],"blank":2,"spoiled":1}'
     head = b"POST /station/s1/lodge HTTP/1.1\r\nContent-Length: 51\r\n"
     with serving("office.db", 4) as desk:
-        with socket.create_connection(("127.0.0.1", desk.port), timeout=60) as it:
+        with socket.create_connection(("127.0.0.1", desk.port), timeout=PATIENCE) as it:
             it.setsockopt(socket.IPPROTO_TCP, socket.TCP_NODELAY, 1)
             for byte in head + b"\r\n" + body:
                 it.sendall(bytes([byte]))
@@ -1312,9 +1377,10 @@ def test_how_clients_send():
         assert desk.send(b"GET /progress HTTP/1.1\r\n\r\n").startswith(b"HTTP/1.1 200 OK")
 
 
-def given_up(desk, message):
+def given_up(desk, message, connected):
     """Sends a byte a second of a message, without end, and gives the seconds until the office ended the connection, unanswered."""
     with socket.create_connection(("127.0.0.1", desk.port), timeout=1) as it:
+        connected.set()
         began = time.monotonic()
         for number in range(90):
             with contextlib.suppress(TimeoutError):
@@ -1331,9 +1397,10 @@ def given_up(desk, message):
 def waits_for(db, message):
     """What one client sees that keeps the office waiting, while the next one is there already and then gets its answer, as a third does."""
     with serving(db, 3, failed=1) as desk, ThreadPoolExecutor(1) as other:
-        waited = other.submit(given_up, desk, message)
+        connected = threading.Event()
+        waited = other.submit(given_up, desk, message, connected)
         # So that it is the second in the line.
-        time.sleep(0.5)
+        connected.wait(PATIENCE)
         desk.get("/progress", PROGRESS)
         seconds = waited.result()
         desk.get("/progress", PROGRESS)
@@ -1355,7 +1422,7 @@ def read_late(db):
     """What a client reads that takes nothing of it for fifteen seconds, while the next one is there already and waits for its answer."""
     with serving(db, 2) as desk, ThreadPoolExecutor(1) as other, socket.socket() as it:
         it.setsockopt(socket.SOL_SOCKET, socket.SO_RCVBUF, 4096)
-        it.settimeout(60)
+        it.settimeout(PATIENCE)
         it.connect(("127.0.0.1", desk.port))
         it.sendall(b"GET /con/c1/past HTTP/1.1\r\n\r\n")
         it.shutdown(socket.SHUT_WR)
@@ -1373,7 +1440,7 @@ def never_read(db):
     """The seconds for which a client that takes nothing of its answer keeps the next one waiting."""
     with serving(db, 2, failed=1) as desk, socket.socket() as it:
         it.setsockopt(socket.SOL_SOCKET, socket.SO_RCVBUF, 4096)
-        it.settimeout(60)
+        it.settimeout(PATIENCE)
         it.connect(("127.0.0.1", desk.port))
         it.sendall(b"GET /con/c1/past HTTP/1.1\r\n\r\n")
         it.shutdown(socket.SHUT_WR)
@@ -1384,7 +1451,7 @@ def never_read(db):
 
 def stays(db):
     """The seconds for which a client that has its answer, and sends and closes nothing then, keeps the next one waiting."""
-    with serving(db, 2) as desk, socket.create_connection(("127.0.0.1", desk.port), timeout=60) as it:
+    with serving(db, 2) as desk, socket.create_connection(("127.0.0.1", desk.port), timeout=PATIENCE) as it:
         it.sendall(b"GET /progress HTTP/1.1\r\n\r\n")
         while it.recv(65536):
             pass
@@ -1404,6 +1471,10 @@ def test_clients_that_keep_the_office_waiting():
         new(db=f"{name}/office.db")
     past = reopened_a_thousand_times("late/office.db").encode()
     shutil.copy("late/office.db", "never/office.db")
+    tries(lambda: kept_waiting(past))
+
+
+def kept_waiting(past):
     slow = f"GET /progress HTTP/1.1\r\na: {'b' * 200}".encode()
     with ThreadPoolExecutor(5) as all_five:
         late = all_five.submit(read_late, "late/office.db")
@@ -1411,11 +1482,12 @@ def test_clients_that_keep_the_office_waiting():
         stayed = all_five.submit(stays, "stays/office.db")
         silent, slow = all_five.map(waits_for, ("silent/office.db", "slow/office.db"), (b"", slow))
         head, _, body = late.result().partition(b"\r\n\r\n")
+    print(f"silent {silent:.1f} s, slow {slow:.1f} s, never {never.result():.1f} s, stayed {stayed.result():.1f} s")
+    assert head.startswith(b"HTTP/1.1 200 OK\r\n") and body == past, (head, len(body), len(past))
     assert 9.5 <= silent <= 14, silent
     assert 29 <= slow <= 35, slow
     assert 9.5 <= never.result() <= 35, never.result()
     assert stayed.result() <= 8, stayed.result()
-    assert head.startswith(b"HTTP/1.1 200 OK\r\n") and body == past, (head, len(body), len(past))
 
 
 def test_an_import_over_http():
@@ -1445,6 +1517,33 @@ def test_an_import_that_lodges_nothing_writes_nothing():
             assert log and log == Path("office.db-wal").read_bytes(), row
 
 
+def test_a_trial_of_an_import():
+    """It is answered as by the plain office, and as the import is then answered; it changes no byte of the files."""
+    new(THREE_STATIONS)
+    plain = model.Office(tomllib.loads(THREE_STATIONS))
+    header = RETURNS.splitlines(keepends=True)[0]
+    texts = (RETURNS, RETURNS.replace("30,40", "31,40"), header, header + "s1,p1,0,0,10,20\ns1,p1,0,0,10,21\ns2,p2,0,0,200,101\nt1,p1,0,0,1,1\n",
+             header + "?,p1,0,0,1,1\ns3,,0,0,1,1\ns3,p3,0,0,1\ns3,p3,x,y,1,1\ns3,p3,0,-1,1,1\ns3,p3,0,0,1,\n")
+    with serving("office.db", 6 * len(texts) + 4) as desk:
+        for text in texts:
+            log = Path("office.db-wal")
+            before = log.read_bytes() if log.exists() else b""
+            semicolons = text.replace(",", ";")
+            status, tried = plain.ask("POST", "/con/c1/trial", text)
+            for path, body in (("trial", text), ("trial/semicolon", semicolons), ("trial", text)):
+                found = desk.ask("POST", f"/con/c1/{path}", body)
+                same((text, found[0], found[1]["Content-Type"], found[2]), (text, status, "text/plain; charset=utf-8", tried))
+            same(desk.ask("POST", "/con/c1/trial", semicolons)[::2], (400, '{"word":"bad_header"}'))
+            same(desk.ask("GET", "/con/c1/returns")[::2], plain.ask("GET", "/con/c1/returns"))
+            same((text, log.read_bytes() if log.exists() else b""), (text, before))
+            same(desk.ask("POST", "/con/c1/import", text)[::2], plain.ask("POST", "/con/c1/import", text))
+        too_long = header + "x\n" * 20001
+        same(desk.ask("POST", "/con/c1/trial", too_long)[::2], (400, '{"word":"too_long"}'))
+        same(desk.ask("POST", "/con/zz/trial", RETURNS)[::2], (404, '{"refused":2,"word":"no_constituency"}'))
+        same(desk.ask("GET", "/con/c1/trial")[::2], (405, '{"word":"no_method"}'))
+        same(desk.ask("GET", "/con/c1/returns")[::2], plain.ask("GET", "/con/c1/returns"))
+
+
 def test_an_import_of_the_longest_body():
     """Of 1,048,576 bytes, with 20,000 rows: each of 5,000 returns comes four times."""
     new(SETUP.replace("s1", "s0") + "".join(station(f"s{n}") for n in range(1, 5000)))
@@ -1464,7 +1563,7 @@ def test_a_server_listens_on_one_address_alone():
     with serving("office.db", 1) as desk:
         for address in ("127.0.0.2", "127.255.255.254"):
             try:
-                socket.create_connection((address, desk.port), timeout=10).close()
+                socket.create_connection((address, desk.port), timeout=PATIENCE).close()
             except ConnectionRefusedError:
                 continue
             raise AssertionError(f"the server listens on {address}")
@@ -1729,10 +1828,10 @@ def published_and_read_back(plain, setup):
         shows("returns", text, con, db="fresh.db")
     write("lots", "".join(" ".join([con.code, *(con.lists[n] for n in con.lot)]) + "\n" for con in plain.cons.values() if con.lot))
     words = (sys.executable, ROOT / "examples/recount.py", "--setup", "setup.toml", "--returns", "published")
-    counted = subprocess.run([*words, "--lots", "lots"], capture_output=True, text=True, timeout=120)
+    counted = subprocess.run([*words, "--lots", "lots"], capture_output=True, text=True, timeout=PATIENCE)
     seats = ((con, " ".join(f"{code} {n}" for code, n in zip(con.lists, con.certified))) for con in plain.cons.values())
     same(counted.stdout, "".join(f"{con.code} {won} ({len(con.returns)} of {len(con.returns)} stations)\n" for con, won in seats))
-    without = subprocess.run(words, capture_output=True, text=True, timeout=120)
+    without = subprocess.run(words, capture_output=True, text=True, timeout=PATIENCE)
     same((without.returncode, without.stdout.count("a lot is missing")), (1, len(plain.cons)))
 
 
@@ -1807,6 +1906,7 @@ def requests_that_close(con):
 def requests_that_correct(con, text):
     """Returns of a constituency that is open again are queried, corrected and closed, so that B has a seat; a text is imported with each."""
     wrong = text.replace("s3,p1,0,0,1000000", "s3,p1,0,0,1000001").replace("s4,p1,0,0", "s4,p1,0,x")
+    yield "POST", "/con/c1/trial", wrong
     corrected = {f"s{n}": [n, 999980, 20 - n] for n in range(12)} | {"s4999": [0, 0, 0]}
     for station, votes in corrected.items():
         rev = con.returns[station]["rev"]
@@ -1927,7 +2027,7 @@ def test_a_connection_that_is_reset_at_every_byte():
     new()
     with serving("office.db", len(LODGE) + 2, failed=len(LODGE)) as desk:
         for length in range(len(LODGE)):
-            it = socket.create_connection(("127.0.0.1", desk.port), timeout=60)
+            it = socket.create_connection(("127.0.0.1", desk.port), timeout=PATIENCE)
             it.sendall(LODGE[:length])
             reset(it)
         recorded(desk, None)
@@ -2022,6 +2122,9 @@ GIVEN = {
     "lodged": given("three stations"), "import differs": given("imported", ROWS[1].replace("30,40", "31,40")),
     "bad_header": given("three stations", "station"), "import too_long": given("three stations", RETURNS + "x\n" * 19998),
     "importSemicolon too_long": given("three stations", RETURNS.replace(",", ";") + "x\n" * 19998),
+    "trial named": given("imported", ROWS[1].replace("30,40", "31,40").replace("50,60", "x,60")),
+    "trial too_long": given("three stations", RETURNS + "x\n" * 19998),
+    "trialSemicolon too_long": given("three stations", RETURNS.replace(",", ";") + "x\n" * 19998),
 }
 
 # The messages of any route that have these answers, whatever the state.
@@ -2184,8 +2287,9 @@ def test_nothing_that_is_shown_changes_where_the_disk_is_full():
         shown = [desk.ask("GET", path)[::2] for path in paths]
         resource.prlimit(desk.process.pid, resource.RLIMIT_FSIZE, (0, 0))
         found = desk.send(message)
-        # A return that is recorded already is the same, and takes no write.
-        assert found.endswith(shut[1].encode()) or found == answer and (b'"ok":"same"' in answer or b'"lodged":0' in answer), (name, found)
+        # A return that is recorded already is the same, and takes no write; nor does a trial.
+        unwritten = b'"ok":"same"' in answer or b'"lodged":0' in answer or b"/trial" in message.split(b" ")[1]
+        assert found.endswith(shut[1].encode()) or found == answer and unwritten, (name, found)
         after = [desk.ask("GET", path)[::2] for path in paths]
         same((name, [now if then != shut else then for then, now in zip(after, shown)]), (name, after))
         # An office that was shut says so; else whether the closing fails too depends on what there
@@ -2247,7 +2351,7 @@ def test_a_disk_that_fails_shuts_an_office():
     assert found in (Ran(0, lodged.format(2, 1), ""), Ran(0, lodged.format(1, 2), "")), found
     same([row[:4] for row in rows()["returns"] if row[0] != "s2"], [("s1", "c1", 1, "p1")])
     write("broken", "")
-    ran = subprocess.run([PROGRAM, *making("other.db")], env=library, capture_output=True, text=True, timeout=60)
+    ran = subprocess.run([PROGRAM, *making("other.db")], env=library, capture_output=True, text=True, timeout=PATIENCE)
     same(Ran(ran.returncode, ran.stdout, ran.stderr), Ran(3, "", "failed: store\n"))
 
 
@@ -2344,7 +2448,7 @@ def replay(text):
     environment = {**os.environ, "PATH": f"{os.getcwd()}/bin:{os.environ['PATH']}"}
     ran = subprocess.Popen(["bash", "-c", script], stdout=subprocess.PIPE, env=environment, start_new_session=True)
     try:
-        out, _ = ran.communicate(timeout=300)
+        out, _ = ran.communicate(timeout=PATIENCE)
     finally:
         with contextlib.suppress(ProcessLookupError):
             os.killpg(ran.pid, signal.SIGKILL)
@@ -2401,7 +2505,7 @@ def test_the_command_lines_of_the_documents():
             if words.startswith("./office serve") and "--help" not in words:
                 starts_to_serve(words)
                 continue
-            ran = subprocess.run(["bash", "-c", words], stdin=subprocess.DEVNULL, capture_output=True, text=True, timeout=120)
+            ran = subprocess.run(["bash", "-c", words], stdin=subprocess.DEVNULL, capture_output=True, text=True, timeout=PATIENCE)
             if "--help" in words or words == "./office":
                 assert ran.returncode == 2 and "Usage" in ran.stderr, (words, ran)
             elif words.startswith("python3"):
@@ -2417,7 +2521,7 @@ def starts_to_serve(words):
     STARTED.append(process)
     said = process.stderr.readline().decode()
     process.terminate()
-    process.communicate(timeout=60)
+    process.communicate(timeout=PATIENCE)
     assert said.startswith(("listening on ", "refused: ")), (words, said)
 
 

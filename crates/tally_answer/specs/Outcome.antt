@@ -4,7 +4,7 @@ use Rattle.std.specs.Prelude.{ℕ, Bool, true, false, List, [], ◌∷◌, ◌++
 use Rattle.std.specs.Prelude.{Result, Ok, Err}
 use Rattle.std.specs.List.{flat_map}
 use Rattle.tally_rules.specs.Constituency.{ListEntry}
-use Rattle.tally_returns.specs.Refusals.{refusal_number}
+use Rattle.tally_returns.specs.Refusals.{refusal_number, refusal_word}
 use Rattle.tally_returns.specs.Return.{status_word}
 use Rattle.tally_returns.specs.declared.reply.Reply.{Reply}
 use Rattle.tally_returns.specs.declared.reply.Reply.TheVariants as reply
@@ -54,33 +54,6 @@ quoted_codes (list ∷ lists) = quoted_code list ++ flat_map next_code lists
 -- the codes of a group of lists, in order of place
 abbrev pub group_text : List ListEntry → List Bool → List ℕ
 group_text lists group = codes "[" ++ quoted_codes (marked_lists lists group) ++ codes "]"
-
--- the word of a refusal, beside its number (`refusal_number`)
-abbrev pub refusal_word : Refusal → List ℕ
-refusal_word refusal.NoStation = codes "no_station"
-refusal_word refusal.NoConstituency = codes "no_constituency"
-refusal_word refusal.NoCandidate = codes "no_candidate"
-refusal_word refusal.BadCounts = codes "bad_counts"
-refusal_word refusal.BadNote = codes "bad_note"
-refusal_word refusal.TooManyVotes = codes "too_many_votes"
-refusal_word (refusal.Differs rev) = codes "differs"
-refusal_word refusal.NoReturn = codes "no_return"
-refusal_word refusal.Certified = codes "certified"
-refusal_word refusal.NotCertified = codes "not_certified"
-refusal_word (refusal.Stale now) = codes "stale"
-refusal_word refusal.Exhausted = codes "exhausted"
-refusal_word (refusal.WrongStatus standing) = codes "wrong_status"
-refusal_word (refusal.NotAllClosed left) = codes "not_all_closed"
-refusal_word refusal.NoEligible = codes "no_eligible"
-refusal_word refusal.LotStands = codes "lot_stands"
-refusal_word refusal.LotNotNeeded = codes "lot_not_needed"
-refusal_word (refusal.LotWrongGroup group) = codes "lot_wrong_group"
-refusal_word (refusal.LotMissing group seats) = codes "lot_missing"
-refusal_word refusal.AlreadyGone = codes "already_gone"
-refusal_word refusal.NotHolder = codes "not_holder"
-refusal_word refusal.NotConfirmed = codes "not_confirmed"
-refusal_word refusal.Memory = codes "unavailable"
-refusal_word refusal.Store = codes "unavailable"
 
 abbrev pub refusal_status : Refusal → AnswerStatus
 refusal_status refusal.NoStation = status.NotFound

@@ -4,7 +4,7 @@ ghost use Rattle.std.specs.Prelude.{◌≡◌, ◌≤◌, ◌+◌, ◌++◌, Lis
 ghost use Rattle.std.specs.Prelude.{vec_capacity};
 ghost use Rattle.tally_frac.specs.Limits.{most_lists};
 ghost use Rattle.tally_rules.specs.Constituency.{ListEntry};
-ghost use Rattle.tally_answer.specs.Outcome.{reply_body, group_text, refusal_word};
+ghost use Rattle.tally_answer.specs.Outcome.{reply_body, group_text};
 ghost use Rattle.tally_answer.specs.Outcome.{refusal_status, members_before, members_after};
 ghost use Rattle.tally_answer.specs.Outcome.{word_member, refusal_members, refusal_body};
 ghost use Rattle.tally_answer.specs.Outcome.{outcome_answer, outcome_text};
@@ -61,38 +61,6 @@ fn push_reply(out: &mut Vec<u8>, reply: &Reply)
         }
         Reply::Vacated { next: None } => push(out, b"{\"next\":null,\"ok\":\"vacated\"}"),
         Reply::Return(_) | Reply::Con(_) | Reply::Progress(_) => {}
-    }
-}
-
-/// The word of a refusal.
-fn refusal_word(refusal: &Refusal) -> &'static [u8]
-    ensures word { result.now ≡ refusal_word refusal.now }
-    ensures short { length result.now ≤ 16 }
-{
-    match refusal {
-        Refusal::NoStation => b"no_station",
-        Refusal::NoConstituency => b"no_constituency",
-        Refusal::NoCandidate => b"no_candidate",
-        Refusal::BadCounts => b"bad_counts",
-        Refusal::BadNote => b"bad_note",
-        Refusal::TooManyVotes => b"too_many_votes",
-        Refusal::Differs { .. } => b"differs",
-        Refusal::NoReturn => b"no_return",
-        Refusal::Certified => b"certified",
-        Refusal::NotCertified => b"not_certified",
-        Refusal::Stale { .. } => b"stale",
-        Refusal::Exhausted => b"exhausted",
-        Refusal::WrongStatus { .. } => b"wrong_status",
-        Refusal::NotAllClosed { .. } => b"not_all_closed",
-        Refusal::NoEligible => b"no_eligible",
-        Refusal::LotStands => b"lot_stands",
-        Refusal::LotNotNeeded => b"lot_not_needed",
-        Refusal::LotWrongGroup { .. } => b"lot_wrong_group",
-        Refusal::LotMissing { .. } => b"lot_missing",
-        Refusal::AlreadyGone => b"already_gone",
-        Refusal::NotHolder => b"not_holder",
-        Refusal::NotConfirmed => b"not_confirmed",
-        Refusal::Memory | Refusal::Store => b"unavailable",
     }
 }
 
@@ -163,7 +131,7 @@ fn push_word(out: &mut Vec<u8>, refusal: &Refusal)
     ensures len { vec_len out.new ≤ vec_len out.old + 32 }
     ensures room { vec_capacity out.old ≤ vec_capacity out.new }
 {
-    push_between(out, b"\"word\":\"", refusal_word(refusal), b"\"}");
+    push_between(out, b"\"word\":\"", refusal.word().as_bytes(), b"\"}");
 }
 
 fn push_members(out: &mut Vec<u8>, lists: &[ListEntry], refusal: &Refusal)

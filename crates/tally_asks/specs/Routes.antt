@@ -47,7 +47,7 @@ con_routes =
     ∷ (codes "/con/{c}/stations", route.Stations)
     ∷ []
 
--- the commands on a constituency and the imports into it
+-- the commands on a constituency, the imports into it and their trials
 abbrev pub command_routes : List (List ℕ × Route)
 command_routes =
     (codes "/con/{c}/draw", route.OnCon on_con.Draw)
@@ -56,6 +56,8 @@ command_routes =
     ∷ (codes "/con/{c}/vacate", route.OnCon on_con.Vacate)
     ∷ (codes "/con/{c}/import", route.Import separator.Comma)
     ∷ (codes "/con/{c}/import/semicolon", route.Import separator.Semicolon)
+    ∷ (codes "/con/{c}/trial", route.Trial separator.Comma)
+    ∷ (codes "/con/{c}/trial/semicolon", route.Trial separator.Semicolon)
     ∷ []
 
 abbrev pub RouteRows : Type 0
@@ -93,6 +95,7 @@ takes_get route.Country = true
 takes_get (route.OnStation command) = false
 takes_get (route.OnCon command) = false
 takes_get (route.Import sep) = false
+takes_get (route.Trial sep) = false
 
 -- the method that a route takes
 abbrev pub route_method : Route → List ℕ

@@ -55,6 +55,8 @@ pub enum Route {
     OnCon(ConCommand),
     /// An import into a constituency, of rows with this separator.
     Import(Sep),
+    /// The trial of such an import.
+    Trial(Sep),
 }
 
 // The routes of the whole office and of a station.
@@ -99,14 +101,16 @@ const CON_ROUTES: [(&str, Route); 11] = [
     ("/con/{c}/stations", Route::Stations),
 ];
 
-// The commands on a constituency and the imports into it.
-const COMMAND_ROUTES: [(&str, Route); 6] = [
+// The commands on a constituency, the imports into it and their trials.
+const COMMAND_ROUTES: [(&str, Route); 8] = [
     ("/con/{c}/draw", Route::OnCon(ConCommand::Draw)),
     ("/con/{c}/certify", Route::OnCon(ConCommand::Certify)),
     ("/con/{c}/reopen", Route::OnCon(ConCommand::Reopen)),
     ("/con/{c}/vacate", Route::OnCon(ConCommand::Vacate)),
     ("/con/{c}/import", Route::Import(Sep::Comma)),
     ("/con/{c}/import/semicolon", Route::Import(Sep::Semicolon)),
+    ("/con/{c}/trial", Route::Trial(Sep::Comma)),
+    ("/con/{c}/trial/semicolon", Route::Trial(Sep::Semicolon)),
 ];
 
 /// Adds a route.
@@ -179,7 +183,7 @@ pub fn takes_get(route: Route) -> bool
     match route {
         Route::Progress | Route::Return | Route::Con | Route::Report(_) => true,
         Route::Returns | Route::Stations | Route::Country => true,
-        Route::OnStation(_) | Route::OnCon(_) | Route::Import(_) => false,
+        Route::OnStation(_) | Route::OnCon(_) | Route::Import(_) | Route::Trial(_) => false,
     }
 }
 

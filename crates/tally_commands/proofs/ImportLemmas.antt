@@ -1,18 +1,25 @@
 -- Imports that were not begun, and what comes of a text of which nothing was read.
-use Rattle.std.proofs.Common.{◌≡◌, ℕ, List, [], Option, Some, None, Result, Ok, Err, IfErr, IfOk, OnOk, option_map, refl, sym, ap, ◌∙◌, inl, inr}
+use Rattle.std.proofs.Common.{◌≡◌, ◌≤◌, ◌+◌, ℕ, Bool, true, false, List, [], length, Option, Some, None, Result, Ok, Err, IfErr, IfOk, OnOk, option_map, refl, sym, ap, ◌∙◌, arith, inl, inr}
+use Rattle.std.specs.Prelude.{IsOk}
 use Rattle.tally_rules.specs.Constituency.{Constituency}
-use Rattle.tally_returns.specs.State.{State}
+use Rattle.tally_returns.specs.State.{State, stations_of}
+use Rattle.tally_keeper.specs.Import.{answers}
 use Rattle.tally_keeper.specs.Keeper.{Happens, Imports, IsImportFault, IsOwnFault, failed_import}
-use Rattle.tally_keeper.specs.Source.{Delivery, SourceAt}
+use Rattle.tally_keeper.specs.NamedRows.{NamesRows}
+use Rattle.tally_keeper.specs.Source.{Delivery, SourceAt, row_limit}
+use Rattle.tally_keeper.proofs.RowsLemmas.{length-named_rows}
 use Rattle.tally_keeper.proofs.TakenLemmas.{own-first}
 use Rattle.tally_import.specs.ReturnRows.{text_coming}
 use Rattle.tally_import.specs.ReturnRowsValue.{ReturnRows, rows_to_come, unread_rows}
 use Rattle.tally_records.specs.declared.separator.Sep.{Sep}
-use Rattle.tally_commands.specs.Imported.{IsImportText, IsImportTrouble, IsTroubleIn, coming_of}
+use Rattle.tally_commands.specs.Imported.{IsImportText, IsImportTrouble, IsTroubleIn, coming_of, import_text}
 use Rattle.tally_commands.specs.internal.Found.{IsFindTrouble}
+use Rattle.tally_commands.specs.internal.Room.{room_of_lines}
 use Rattle.tally_commands.specs.Trouble.{import_trouble}
 use Rattle.tally_commands.specs.declared.trouble.Trouble.{Trouble}
 use Rattle.tally_commands.specs.declared.trouble.Trouble.TheVariants as trouble
+use Rattle.tally_keeper.specs.declared.import.ImportCount.{ImportCount}
+use Rattle.tally_keeper.specs.declared.import.NamedRow.{NamedRow}
 use Rattle.tally_keeper.specs.declared.source.ImportFault.{ImportFault}
 use Rattle.tally_keeper.specs.declared.source.ImportFault.TheVariants.{BadHeader, TooLong, Read, Memory, Store}
 
@@ -68,12 +75,37 @@ read-ended setup old new d (Err t) (fault, imports, ensured) is =
     read-of-source d fault imports.0 (sym ensured ∙ same)
 
 -- the rows of a source were imported only once it came to its end
-pub end-then : {S : Type 0} (setup : List Constituency) (old new : Option State) (d : Delivery) (bytes : S → List ℕ) (Then : Type 0) (r : Result S Trouble)
-    → IfOk r (λ t. IsImportText setup old d (bytes t) new) → (d.finish.ended ≡ Some None → Then) → OnOk r Then
-end-then setup old new d bytes Then (Ok text) (count, imports, is) then = then imports.2.2
-end-then setup old new d bytes Then (Err t) imported then = tt
+pub end-then : {S : Type 0} (lines : Bool) (lists : List (List ℕ)) (setup : List Constituency) (old new : Option State) (d : Delivery) (bytes : S → List ℕ) (Then : Type 0) (r : Result S Trouble)
+    → IfOk r (λ t. IsImportText lines lists setup old d (bytes t) new) → (d.finish.ended ≡ Some None → Then) → OnOk r Then
+end-then lines lists setup old new d bytes Then (Ok text) (count, named, imports, names, is) then = then imports.2.2
+end-then lines lists setup old new d bytes Then (Err t) imported then = tt
 
 -- no read failed where no constituency was found, or its copy ran out of memory
 pub find-no-read : (found : Option Constituency) (t : Trouble) → IsFindTrouble found t → t ≡ trouble.Read → ⊥
 find-no-read None t is read = cc
 find-no-read (Some con) t is read = cc
+
+-- ---- the text
+
+-- no more rows are named than an import has
+named-few : (setup : List Constituency) (old : Option State) (d : Delivery) (named : List NamedRow) → NamesRows setup old d [] named → length named ≤ row_limit
+named-few setup (Some s) d named (rows, given, is) = omega (arith, given.1, length-named_rows 1 rows (answers (stations_of setup) s.returns rows), ap length is)
+named-few setup None d named is = absurd is
+
+room-fits : (lines : Bool) (rows most room : ℕ) → rows ≤ most → 128 + room_of_lines lines most ≤ room → 128 + room_of_lines lines rows ≤ room
+room-fits false rows most room few fits = fits
+room-fits true rows most room few fits = omega (arith, few, fits)
+
+-- the text of an import that was done
+pub text-imported : {S : Type 0} (lines : Bool) (lists : List (List ℕ)) (setup : List Constituency) (old new : Option State) (d : Delivery) (bytes : S → List ℕ)
+    (count : ImportCount) (named : List NamedRow) (r : Result S Trouble) → Imports setup old d (Ok count) new → NamesRows setup old d [] named
+    → IfOk r (λ t. bytes t ≡ import_text lines lists count named) → IfOk r (λ t. IsImportText lines lists setup old d (bytes t) new)
+text-imported lines lists setup old new d bytes count named (Ok text) imports names is = (count, named, imports, names, is)
+text-imported lines lists setup old new d bytes count named (Err t) imports names is = tt
+
+-- it is never out of memory, since its room was reserved
+pub text-fits : {S : Type 0} (lines : Bool) (setup : List Constituency) (old new : Option State) (d : Delivery) (named : List NamedRow) (room : ℕ) (r : Result S Trouble)
+    → NamesRows setup old d [] named → 128 + room_of_lines lines row_limit ≤ room → (128 + room_of_lines lines (length named) ≤ room → IsOk r)
+    → IfErr r (λ t. IsImportTrouble setup old d t new)
+text-fits lines setup old new d named room (Ok text) names fits ok = tt
+text-fits lines setup old new d named room (Err t) names fits ok = let is = ok (room-fits lines (length named) row_limit room (named-few setup old d named names) fits) in cc

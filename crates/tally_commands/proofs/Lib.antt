@@ -1,4 +1,6 @@
 pub mod ReportedLemmas
+pub mod PutLemmas
 pub mod ShowLemmas
 pub mod ImportLemmas
+pub mod JudgeLemmas
 pub mod NamedLemmas

@@ -1,14 +1,9 @@
 -- What is reported where texts were written, or a front of them.
-use Rattle.std.proofs.Common.{◌≡◌, ◌∙◌, ◌++◌, ◌+◌, ℕ, List, Option, Result, Ok, Err, OnOk, OnErr, length, take, drop, subst, sym, ap, append_assoc, take-append-drop}
+use Rattle.std.proofs.Common.{◌≡◌, ◌∙◌, ◌++◌, ◌+◌, ℕ, List, Option, length, take, drop, subst, sym, ap, append_assoc, take-append-drop}
 use Rattle.std.proofs.KnownBytes.{Appends-trans}
-use Rattle.std.proofs.Math.Seq.{take-length, take-append-add, take-append_seam}
+use Rattle.std.proofs.Math.Seq.{take-append-add, take-append_seam}
 use Rattle.std.specs.Io.KnownBytes.{Appends}
 use Rattle.tally_commands.specs.Reported.{IsReported}
-
-pub reported-either : {E : Type 0} (old new : Option (List ℕ)) (text : List ℕ) (result : Result (Unit {0}) E)
-    → OnOk result (Appends old new text) → OnErr result ((n : ℕ) × Appends old new (take n text)) → IsReported old new text
-reported-either old new text (Ok u) whole front = (length text, subst (Appends old new) (sym (take-length text)) whole)
-reported-either old new text (Err e) whole front = front
 
 -- a front of the first of two texts is one of both
 pub reported-front : (old new : Option (List ℕ)) (words rest : List ℕ) → (n : ℕ) × Appends old new (take n words) → IsReported old new (words ++ rest)

@@ -1,5 +1,6 @@
 pub mod internal
 pub mod Reported
+pub mod Place
 pub mod Trouble
 pub mod Show
 pub mod Imported

@@ -1,8 +1,9 @@
 -- Why a command was not done: the line on standard error, the exit status, and the faults that
 -- it comes of.
-use Rattle.std.specs.Prelude.{◌≡◌, ◌≢◌, ◌⊎◌, ◌++◌, ℕ, List, codes}
+use Rattle.std.specs.Prelude.{◌≡◌, ◌≢◌, ◌⊎◌, ◌++◌, ℕ, List, Option, None, codes}
 use Rattle.tally_rules.specs.declared.fault.SetupFault.{SetupFault}
 use Rattle.tally_rules.specs.declared.fault.SetupFault.TheVariants as setup
+use Rattle.tally_rules.specs.declared.place.Place.{Place}
 use Rattle.tally_import.specs.declared.CheckFault.{CheckFault}
 use Rattle.tally_import.specs.declared.CheckFault.TheVariants as check
 use Rattle.tally_keeper.specs.declared.source.ImportFault.{ImportFault}
@@ -13,6 +14,7 @@ use Rattle.tally_keeper.specs.declared.fault.CreateFault.{CreateFault}
 use Rattle.tally_keeper.specs.declared.fault.CreateFault.TheVariants as create
 use Rattle.tally_keeper.specs.declared.fault.OpenFault.{OpenFault}
 use Rattle.tally_keeper.specs.declared.fault.OpenFault.TheVariants as opening
+use Rattle.tally_commands.specs.Place.{place_lines}
 use Rattle.tally_commands.specs.declared.trouble.Trouble.{Trouble}
 use Rattle.tally_commands.specs.declared.trouble.Trouble.TheVariants.{Setup, NotEmpty, NoTables}
 use Rattle.tally_commands.specs.declared.trouble.Trouble.TheVariants.{BadTables, BadSetup}
@@ -34,7 +36,7 @@ setup_line setup.UnknownProfile = codes "refused: unknown_profile\n"
 setup_line setup.Memory = codes "failed: memory\n"
 
 abbrev pub trouble_line : Trouble → List ℕ
-trouble_line (Setup fault) = setup_line fault
+trouble_line (Setup fault place) = setup_line fault ++ place_lines place
 trouble_line NotEmpty = codes "refused: not_empty\n"
 trouble_line NoTables = codes "refused: no_tables\n"
 trouble_line BadTables = codes "refused: bad_tables\n"
@@ -63,7 +65,7 @@ setup_status setup.UnknownProfile = 1
 setup_status setup.Memory = 3
 
 abbrev pub trouble_status : Trouble → ℕ
-trouble_status (Setup fault) = setup_status fault
+trouble_status (Setup fault place) = setup_status fault
 trouble_status NotEmpty = 1
 trouble_status NoTables = 1
 trouble_status BadTables = 1
@@ -84,7 +86,7 @@ trouble_status Port = 3
 
 abbrev pub create_trouble : CreateFault → Trouble
 create_trouble (create.Setup setup.Memory) = Memory
-create_trouble (create.Setup fault) = Setup fault
+create_trouble (create.Setup fault) = Setup fault None
 create_trouble create.NotEmpty = NotEmpty
 create_trouble create.Memory = Memory
 create_trouble create.Store = Store
@@ -123,7 +125,8 @@ IsTroubleOfDatabase t = (t ≡ Memory) ⊎ (t ≡ Store)
 
 -- of a text that is not a setup
 abbrev pub IsTroubleOfSetup : Trouble → Type 0
-IsTroubleOfSetup t = (fault : SetupFault) × (t ≡ Setup fault) × (fault ≢ setup.Memory)
+IsTroubleOfSetup t =
+    (fault : SetupFault) × (place : Option Place) × (t ≡ Setup fault place) × (fault ≢ setup.Memory)
 
 -- of making an office
 abbrev pub IsTroubleOfMaking : Trouble → Type 0

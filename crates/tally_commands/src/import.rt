@@ -1,26 +1,30 @@
 //! Imports of returns. Errors are matched and returned, and not passed on by `?`, since the `?` of
 //! an enum that holds a text (`Trouble`) has no proof yet.
 
-ghost use Rattle.std.specs.Prelude.{◌≡◌, Err, IfErr, IfOk, OnOk, Some, false, is_some};
-ghost use Rattle.std.specs.Prelude.{string_bytes, true};
+ghost use Rattle.std.specs.Prelude.{◌≡◌, ◌≤◌, ◌+◌, Err, IfErr, IfOk, IsOk, OnOk, Some, false};
+ghost use Rattle.std.specs.Prelude.{[], is_some, length, string_bytes, string_capacity};
+ghost use Rattle.std.specs.Prelude.{string_len, true};
+ghost use Rattle.tally_rules.specs.Constituency.{list_codes};
 ghost use Rattle.tally_rules.specs.Setup.{constituency_with};
 ghost use Rattle.tally_records.specs.Watch.{NotesNothing, has_failed};
 ghost use Rattle.tally_keeper.specs.Delivery.{delivery};
+ghost use Rattle.tally_keeper.specs.Source.{row_limit};
 ghost use Rattle.tally_keeper.specs.StaysKeeper.{StaysKeeper};
 ghost use Rattle.tally_commands.specs.Imported.{IsCountText, IsImportTrouble, IsImportText};
 ghost use Rattle.tally_commands.specs.Imported.{IsImportedComing, IsTextImported, IsTextTrouble};
-ghost use Rattle.tally_commands.specs.Imported.{IsTroubleComing, coming_of};
+ghost use Rattle.tally_commands.specs.Imported.{IsTroubleComing, coming_of, import_text};
 ghost use Rattle.tally_commands.specs.Trouble.{IsTroubleOfText, IsTroubleOfRows};
 ghost use Rattle.tally_commands.specs.internal.Found.{IsFindTrouble};
+ghost use Rattle.tally_commands.specs.internal.Room.{room_of_lines};
 
 use crate::named::con_with_code;
 use crate::trouble::Trouble;
-use std::alloc::Global;
+use std::alloc::{AllocError, Global};
 use std::io::Read;
 use tally_import::room::{COUNT_ROOM, push_count};
-use tally_import::{ReturnRows, Sep, Watch};
-use tally_keeper::{Keeper, RowSource};
-use tally_rules::{Constituency, Setup};
+use tally_import::{LINE_ROOM, ReturnRows, Sep, Watch, list_codes, push_lines};
+use tally_keeper::{ImportCount, Keeper, NamedRow, ROW_LIMIT, RowSource};
+use tally_rules::{Code, Constituency, Setup};
 
 /// Whether the setup has a constituency of this code.
 pub fn has_con(setup: &Setup, code: &str) -> bool
@@ -29,39 +33,51 @@ pub fn has_con(setup: &Setup, code: &str) -> bool
     con_with_code(setup, code).is_some()
 }
 
-/// A copy of the constituency of a code, which an import needs.
-fn find_con(alloc: Global, setup: &Setup, code: &str) -> Result<Constituency, Trouble>
-    ensures found { IfOk result (λ con. constituency_with code.now setup.now ≡ Some con) }
+/// A copy of the constituency of a code, which an import needs, and the codes of its lists.
+fn find_con(alloc: Global, setup: &Setup, code: &str) -> Result<(Constituency, Vec<Code>), Trouble>
+    ensures found { IfOk result (λ found.
+        constituency_with code.now setup.now ≡ Some found.0) }
+    ensures lists { IfOk result (λ found. found.1.items ≡ list_codes found.0.lists) }
     ensures trouble { IfErr result (IsFindTrouble (constituency_with code.now setup.now)) }
 {
     let Some(con) = con_with_code(setup, code) else {
         return Err(Trouble::NoConstituency);
     };
-    match con.try_copy(alloc) {
-        Ok(con) => Ok(con),
+    match copy_con(alloc, con) {
+        Ok(found) => Ok(found),
         Err(_) => Err(Trouble::Memory),
     }
 }
 
+fn copy_con(alloc: Global, con: &Constituency) -> Result<(Constituency, Vec<Code>), AllocError>
+    ensures con { IfOk result (λ copy. copy.0 ≡ con.now) }
+    ensures lists { IfOk result (λ copy. copy.1.items ≡ list_codes con.now.lists) }
+{
+    let lists = list_codes(alloc, &con.lists)?;
+    Ok((con.try_copy(alloc)?, lists))
+}
+
 /// Imports the rows of a text into the constituency of a code: all of them, or with a trouble none,
-/// unless a disk that failed has shut the keeper. Answers how many were lodged, as text. A failed
-/// read is answered only where one was noted on the watch; where the rows were imported, none was.
+/// unless a disk that failed has shut the keeper. Answers how many were lodged, as text, and with
+/// `lines` a line for each row that was neither lodged nor there already. A failed read is answered
+/// only where one was noted on the watch; where the rows were imported, none was.
 pub fn import_returns<K: Keeper, R: Read + Drop>(
     alloc: Global,
     keeper: &mut K,
     code: &str,
     sep: Sep,
+    lines: bool,
     reader: R,
     watch: &mut Watch<R>,
 ) -> Result<String, Trouble>
     ensures stays { StaysKeeper K.Keeper keeper.old keeper.new }
-    ensures text { IfOk result (λ text. IsCountText (string_bytes text)) }
+    ensures text { IfOk result (λ text. IsCountText lines (string_bytes text)) }
     ensures named { IfErr result IsTroubleOfText }
     ensures read { K.IsTrusted keeper.new →
         result ≡ Err Trouble.Read → has_failed watch.new ≡ true }
     ensures all_read { K.IsTrusted keeper.new → OnOk result (NotesNothing watch.old watch.new) }
     ensures imported { K.IsTrusted keeper.new → IfOk result (λ text.
-        IsTextImported code.now sep (R.remaining reader)
+        IsTextImported code.now sep lines (R.remaining reader)
         (K.constituencies keeper.old) (K.content keeper.old)
         (string_bytes text) (K.content keeper.new)) }
     ensures trouble { K.IsTrusted keeper.new → IfErr result (λ trouble.
@@ -69,35 +85,39 @@ pub fn import_returns<K: Keeper, R: Read + Drop>(
         (K.constituencies keeper.old) (K.content keeper.old) trouble (K.content keeper.new)) }
 {
     match find_con(alloc, keeper.setup(), code) {
-        Ok(con) => import_constituency(alloc, keeper, con, sep, reader, watch),
+        Ok((con, lists)) => {
+            import_constituency(alloc, keeper, con, &lists, sep, lines, reader, watch)
+        }
         Err(trouble) => Err(trouble),
     }
 }
 
-/// Imports the rows of a text into a constituency.
+/// Imports the rows of a text into a constituency of these lists.
 fn import_constituency<K: Keeper, R: Read + Drop>(
     alloc: Global,
     keeper: &mut K,
     con: Constituency,
+    lists: &[Code],
     sep: Sep,
+    lines: bool,
     reader: R,
     watch: &mut Watch<R>,
 ) -> Result<String, Trouble>
     ensures stays { StaysKeeper K.Keeper keeper.old keeper.new }
-    ensures text { IfOk result (λ text. IsCountText (string_bytes text)) }
+    ensures text { IfOk result (λ text. IsCountText lines (string_bytes text)) }
     ensures named { IfErr result IsTroubleOfRows }
     ensures read { K.IsTrusted keeper.new →
         result ≡ Err Trouble.Read → has_failed watch.new ≡ true }
     ensures all_read { K.IsTrusted keeper.new → OnOk result (NotesNothing watch.old watch.new) }
     ensures imported { K.IsTrusted keeper.new → IfOk result (λ text.
-        IsImportedComing (K.constituencies keeper.old) (K.content keeper.old)
+        IsImportedComing lines lists.now (K.constituencies keeper.old) (K.content keeper.old)
         (coming_of con sep (R.remaining reader)) (string_bytes text) (K.content keeper.new)) }
     ensures trouble { K.IsTrusted keeper.new → IfErr result (λ trouble.
         IsTroubleComing (K.constituencies keeper.old) (K.content keeper.old)
         (coming_of con sep (R.remaining reader)) trouble (K.content keeper.new)) }
 {
     let mut rows = ReturnRows::new(alloc, reader, sep, con);
-    let outcome = import_from(alloc, keeper, &mut rows);
+    let outcome = import_from(alloc, keeper, &mut rows, lists, lines);
     note(watch, rows.into_watch());
     outcome
 }
@@ -120,25 +140,64 @@ pub fn import_from<K: Keeper, R: RowSource>(
     alloc: Global,
     keeper: &mut K,
     rows: &mut R,
+    lists: &[Code],
+    lines: bool,
 ) -> Result<String, Trouble>
     ensures stays { StaysKeeper K.Keeper keeper.old keeper.new }
-    ensures text { IfOk result (λ text. IsCountText (string_bytes text)) }
+    ensures text { IfOk result (λ text. IsCountText lines (string_bytes text)) }
     ensures named { IfErr result IsTroubleOfRows }
     ensures imported { K.IsTrusted keeper.new → IfOk result (λ text.
-        IsImportText (K.constituencies keeper.old) (K.content keeper.old)
+        IsImportText lines lists.now (K.constituencies keeper.old) (K.content keeper.old)
         (delivery R.RowSource rows.old rows.new) (string_bytes text) (K.content keeper.new)) }
     ensures trouble { K.IsTrusted keeper.new → IfErr result (λ trouble.
         IsImportTrouble (K.constituencies keeper.old) (K.content keeper.old)
         (delivery R.RowSource rows.old rows.new) trouble (K.content keeper.new)) }
 {
-    let Ok(mut text) = String::with_capacity(alloc, COUNT_ROOM) else {
+    let Ok(text) = String::with_capacity(alloc, import_room(lines)) else {
         return Err(Trouble::Memory);
     };
-    match keeper.lodge_from(rows) {
-        Ok(count) => {
-            push_count(&mut text, &count);
-            Ok(text)
-        }
+    let mut named = Vec::new(alloc);
+    match keeper.lodge_from(rows, &mut named) {
+        Ok(count) => import_text(text, lists, lines, &count, &named),
         Err(fault) => Err(Trouble::from_import(fault)),
+    }
+}
+
+/// The most bytes of the text of an import of at most 20,000 rows.
+fn import_room(lines: bool) -> usize
+    ensures { COUNT_ROOM + room_of_lines lines row_limit ≤ result }
+{
+    if lines {
+        COUNT_ROOM + LINE_ROOM * ROW_LIMIT as usize
+    } else {
+        COUNT_ROOM
+    }
+}
+
+/// The text of an import, in one that is empty and has room for the six lines. One that has the
+/// room for the lines of the rows takes no memory.
+fn import_text(
+    mut text: String,
+    lists: &[Code],
+    lines: bool,
+    count: &ImportCount,
+    named: &[NamedRow],
+) -> Result<String, Trouble>
+    requires empty { string_bytes text ≡ [] }
+    requires len { string_len text ≡ 0 }
+    requires counts { COUNT_ROOM ≤ string_capacity text }
+    ensures text { IfOk result (λ text.
+        string_bytes text ≡ import_text lines lists.now count.now named.now) }
+    ensures room { COUNT_ROOM + room_of_lines lines (length named.now) ≤ string_capacity text
+        → IsOk result }
+    ensures memory { IfErr result (λ trouble. trouble ≡ Trouble.Memory) }
+{
+    push_count(&mut text, count);
+    if !lines {
+        return Ok(text);
+    }
+    match push_lines(&mut text, lists, named) {
+        Ok(()) => Ok(text),
+        Err(_) => Err(Trouble::Memory),
     }
 }

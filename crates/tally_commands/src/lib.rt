@@ -5,13 +5,14 @@
 mod import;
 mod make;
 mod named;
+mod place;
 mod serve;
 mod show;
 mod standard_error;
 mod trouble;
 
 pub use import::{has_con, import_from, import_returns};
-pub use make::{CONSTITUENCIES_ROOM, constituencies_text};
+pub use make::{CONSTITUENCIES_ROOM, constituencies_text, judge_setup};
 pub use serve::{LISTENING_ROOM, SERVED_ROOM, listening_text, served_text};
 pub use show::{show_country, show_progress, show_report, show_stations};
 pub use standard_error::tell;

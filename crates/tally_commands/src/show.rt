@@ -78,6 +78,8 @@ pub fn show_stations<K: Keeper>(
     which: StationsReport,
 ) -> Result<String, Trouble>
     ensures stays { StaysKeeper K.Keeper keeper.old keeper.new }
+    ensures unknown { constituency_with con.now (K.constituencies keeper.old) ≡ None
+        → (result ≡ Err Trouble.NoConstituency) × (keeper.new ≡ keeper.old) }
     ensures named { IfErr result IsTroubleOfReport }
     ensures shown { K.IsTrusted keeper.new → IfOk result (λ text.
         AreStationsShown (K.constituencies keeper.old) (K.content keeper.old) con.now which

@@ -1,21 +1,25 @@
 //! Why a command was not done.
 
-ghost use Rattle.std.specs.Prelude.{◌≡◌, ◌≢◌};
+ghost use Rattle.std.specs.Prelude.{◌≡◌, ◌≢◌, ◌++◌, Option};
 ghost use Rattle.tally_rules.specs.declared.fault.SetupFault.{SetupFault};
+ghost use Rattle.tally_rules.specs.declared.place.Place.{Place};
 ghost use Rattle.tally_commands.specs.declared.trouble.Trouble.TheVariants.{Setup};
+ghost use Rattle.tally_commands.specs.Place.{place_lines};
 ghost use Rattle.tally_commands.specs.Reported.{IsReported};
 ghost use Rattle.tally_commands.specs.Trouble.{check_trouble, create_trouble, import_trouble};
 ghost use Rattle.tally_commands.specs.Trouble.{open_trouble, report_trouble, IsTroubleOfMaking};
 ghost use Rattle.tally_commands.specs.Trouble.{IsTroubleOfOpening, IsTroubleOfReport};
 ghost use Rattle.tally_commands.specs.Trouble.{IsTroubleOfRows, setup_line, setup_status};
 ghost use Rattle.tally_commands.specs.Trouble.{trouble_line, trouble_status};
+ghost use Rattle.tally_commands.specs.internal.Put.{IsPut};
 
-use crate::standard_error::{tell, tell_named};
+use crate::place::put_place;
+use crate::standard_error::{put, put_named, tell};
 use std::io::Write;
 use tally_import::CheckFault;
 use tally_keeper::{CreateFault, ImportFault, OpenFault};
 use tally_report::ReportFault;
-use tally_rules::SetupFault;
+use tally_rules::{Place, SetupFault};
 
 /// The exit status where what was asked is refused.
 pub const REFUSED: u8 = 1;
@@ -27,8 +31,8 @@ pub const FAILED: u8 = 3;
 /// Why a command was not done.
 #[derive(Clone, Copy, Debug, PartialEq, Eq)]
 pub enum Trouble {
-    /// The text is not a setup.
-    Setup(SetupFault),
+    /// The text is not a setup: its fault, and the fault's place where it is known.
+    Setup(SetupFault, Option<Place>),
     /// The database has tables of these names.
     NotEmpty,
     /// The database lacks a table of an office.
@@ -69,7 +73,7 @@ impl Trouble {
     {
         match fault {
             CreateFault::Setup(SetupFault::Memory) | CreateFault::Memory => Trouble::Memory,
-            CreateFault::Setup(fault) => Trouble::Setup(copy_of(fault)),
+            CreateFault::Setup(fault) => Trouble::Setup(copy_of(fault), None),
             CreateFault::NotEmpty => Trouble::NotEmpty,
             CreateFault::Store => Trouble::Store,
         }
@@ -133,7 +137,7 @@ impl Trouble {
         ensures { result ≡ trouble_status self.now }
     {
         match self {
-            Trouble::Setup(fault) => setup_status(fault),
+            Trouble::Setup(fault, _) => setup_status(fault),
             Trouble::NotEmpty
             | Trouble::NoTables
             | Trouble::BadTables
@@ -168,18 +172,18 @@ impl Trouble {
             (trouble_line self.now) }
     {
         match self {
-            Trouble::Setup(fault) => tell_setup(fault, errors),
+            Trouble::Setup(fault, place) => tell_setup(fault, place, errors),
             _ => tell(self.line(), errors),
         }
     }
 
     /// Its line, where it is not of a setup.
     fn line(&self) -> &'static str
-        requires { (fault : SetupFault) → self.now ≢ Setup fault }
+        requires { (fault : SetupFault) → (place : Option Place) → self.now ≢ Setup fault place }
         ensures { result.now ≡ trouble_line self.now }
     {
         match self {
-            Trouble::Setup(_) => unreachable!(),
+            Trouble::Setup(_, _) => unreachable!(),
             Trouble::NotEmpty => "refused: not_empty\n",
             Trouble::NoTables => "refused: no_tables\n",
             Trouble::BadTables => "refused: bad_tables\n",
@@ -200,7 +204,7 @@ impl Trouble {
 }
 
 /// A copy, field by field: the borrow checker accepts no other one through a reference.
-fn copy_of(fault: &SetupFault) -> SetupFault
+pub(crate) fn copy_of(fault: &SetupFault) -> SetupFault
     ensures { result ≡ fault.now }
 {
     match fault {
@@ -223,16 +227,40 @@ fn setup_status(fault: &SetupFault) -> u8
     }
 }
 
-fn tell_setup<E: Write>(fault: &SetupFault, errors: &mut E)
-    ensures { IsReported (E.contents errors.old) (E.contents errors.new) (setup_line fault.now) }
+#[tactic(auto, using(crate::proofs::PutLemmas::put_reported))]
+fn tell_setup<E: Write>(fault: &SetupFault, place: &Option<Place>, errors: &mut E)
+    ensures { IsReported (E.contents errors.old) (E.contents errors.new)
+        (setup_line fault.now ++ place_lines place.now) }
+{
+    let _ = put_setup(fault, place, errors);
+}
+
+#[tactic(auto, using(crate::proofs::PutLemmas::put_then, crate::proofs::PutLemmas::put_failed))]
+fn put_setup<E: Write>(
+    fault: &SetupFault,
+    place: &Option<Place>,
+    errors: &mut E,
+) -> Result<(), CheckFault>
+    ensures { IsPut (E.contents errors.old) (E.contents errors.new)
+        (setup_line fault.now ++ place_lines place.now) result }
+{
+    put_fault(fault, errors)?;
+    match place {
+        Some(place) => put_place(place, errors),
+        None => Ok(()),
+    }
+}
+
+fn put_fault<E: Write>(fault: &SetupFault, errors: &mut E) -> Result<(), CheckFault>
+    ensures { IsPut (E.contents errors.old) (E.contents errors.new) (setup_line fault.now) result }
 {
     match fault {
-        SetupFault::NotToml => tell("refused: not_toml\n", errors),
-        SetupFault::Missing(key) => tell_named("refused: missing ", key, errors),
-        SetupFault::BadValue(key) => tell_named("refused: bad_value ", key, errors),
-        SetupFault::OverLimit(key) => tell_named("refused: over_limit ", key, errors),
-        SetupFault::Duplicate(code) => tell_named("refused: duplicate ", code.as_str(), errors),
-        SetupFault::UnknownProfile => tell("refused: unknown_profile\n", errors),
-        SetupFault::Memory => tell("failed: memory\n", errors),
+        SetupFault::NotToml => put("refused: not_toml\n", errors),
+        SetupFault::Missing(key) => put_named("refused: missing ", key, errors),
+        SetupFault::BadValue(key) => put_named("refused: bad_value ", key, errors),
+        SetupFault::OverLimit(key) => put_named("refused: over_limit ", key, errors),
+        SetupFault::Duplicate(code) => put_named("refused: duplicate ", code.as_str(), errors),
+        SetupFault::UnknownProfile => put("refused: unknown_profile\n", errors),
+        SetupFault::Memory => put("failed: memory\n", errors),
     }
 }

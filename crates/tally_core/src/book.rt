@@ -13,8 +13,9 @@ use rows::{take_out, take_source};
 use shown::show_returns;
 use std::alloc::{AllocError, Global};
 use std::marker::Model;
-use tally_keeper::{Ask, ImportCount, ImportFault, Keeper, Refusal, Reply, RowSource, StationRow};
-use tally_ledger::Ledger;
+use tally_keeper::{
+    Ask, ImportCount, ImportFault, Keeper, Ledger, NamedRow, Refusal, Reply, RowSource, StationRow,
+};
 use tally_rules::{Code, Setup};
 
 /// Keeps the office's state in memory. Nothing of it outlasts the program.
@@ -27,7 +28,7 @@ pub struct Book {
 impl Model for Book {
     ghost use Rattle.tally_keeper.specs.Held.{Held};
     ghost use Rattle.tally_keeper.specs.internal.Held.{IsHeld, held_code};
-    ghost use Rattle.tally_ledger.specs.Kept.{state_in};
+    ghost use Rattle.tally_keeper.specs.Kept.{state_in};
 
     ghost Value = { Held };
 
@@ -73,14 +74,29 @@ impl Keeper for Book {
         show_returns(self.alloc, &self.ledger, con)
     }
 
-    fn lodge_from<R: RowSource>(&mut self, rows: &mut R) -> Result<ImportCount, ImportFault> {
+    fn lodge_from<R: RowSource>(
+        &mut self,
+        rows: &mut R,
+        named: &mut Vec<NamedRow>,
+    ) -> Result<ImportCount, ImportFault> {
         let mut lodged = Vec::new(self.alloc);
-        match take_source(self.alloc, &mut self.ledger, &mut lodged, rows) {
+        match take_source(self.alloc, &mut self.ledger, &mut lodged, rows, named) {
             Ok(count) => Ok(count),
             Err(fault) => {
                 take_out(&mut self.ledger, &lodged);
                 Err(fault)
             }
         }
+    }
+
+    fn trial_from<R: RowSource>(
+        &mut self,
+        rows: &mut R,
+        named: &mut Vec<NamedRow>,
+    ) -> Result<ImportCount, ImportFault> {
+        let mut lodged = Vec::new(self.alloc);
+        let outcome = take_source(self.alloc, &mut self.ledger, &mut lodged, rows, named);
+        take_out(&mut self.ledger, &lodged);
+        outcome
     }
 }

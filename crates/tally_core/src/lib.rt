@@ -9,7 +9,7 @@ pub mod laws;
 pub use book::Book;
 pub use tally_keeper::{
     Ask, Change, ConView, Counts, FirstRow, Gone, ImportCount, ImportFault, Keeper, ListSet,
-    LodgeReply, Past, ProgressRow, ROW_LIMIT, Refusal, Reply, Return, Row, RowSource, StationRow,
-    Status, decide_at, decide_lodge, decide_return, moved, run,
+    LodgeReply, NamedRow, Past, ProgressRow, ROW_LIMIT, Refusal, Reply, Return, Row, RowSource,
+    StationRow, Status, decide_at, decide_lodge, decide_return, moved, run,
 };
 pub use tally_machine::{decide_con, holders};

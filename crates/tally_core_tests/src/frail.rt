@@ -4,7 +4,7 @@
 ghost use Rattle.std.specs.Prelude.{◌≡◌, if◌then◌else◌, true, Some, None};
 
 use tally_core::{
-    Ask, Book, ImportCount, ImportFault, Keeper, Refusal, Reply, RowSource, StationRow,
+    Ask, Book, ImportCount, ImportFault, Keeper, NamedRow, Refusal, Reply, RowSource, StationRow,
 };
 use tally_rules::{Code, Setup};
 
@@ -67,10 +67,25 @@ impl Keeper for Frail {
         self.book.show_returns(con)
     }
 
-    fn lodge_from<R: RowSource>(&mut self, rows: &mut R) -> Result<ImportCount, ImportFault> {
+    fn lodge_from<R: RowSource>(
+        &mut self,
+        rows: &mut R,
+        named: &mut Vec<NamedRow>,
+    ) -> Result<ImportCount, ImportFault> {
         if self.is_shut_now() {
             return Err(ImportFault::Store);
         }
-        self.book.lodge_from(rows)
+        self.book.lodge_from(rows, named)
+    }
+
+    fn trial_from<R: RowSource>(
+        &mut self,
+        rows: &mut R,
+        named: &mut Vec<NamedRow>,
+    ) -> Result<ImportCount, ImportFault> {
+        if self.is_shut_now() {
+            return Err(ImportFault::Store);
+        }
+        self.book.trial_from(rows, named)
     }
 }

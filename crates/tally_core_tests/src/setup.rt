@@ -3,7 +3,9 @@
 
 use std::alloc::{AllocError, Global};
 use std::test::Fail;
-use tally_rules::{Code, Setup, SetupFault, good_note, read_setup};
+use tally_rules::{
+    Code, Place, Setup, SetupArray, SetupFault, Way, good_note, read_setup, read_setup_placed,
+};
 
 const EXAMPLE: &[u8] = br#"[[profile]]
 code = "d3"
@@ -109,6 +111,14 @@ fn faults_have_their_numbers_and_texts(rt: HostRuntime) -> Result<(), Fail> {
 fn a_text_that_is_no_setup_has_its_fault(rt: HostRuntime) {
     let fault = read_setup(rt.alloc(), b"profile = []").err();
     assert!(rt; fault == Some(SetupFault::Missing("profile")));
+    let placed = read_setup_placed(rt.alloc(), b"profile = [{}]").err();
+    let way = Way {
+        array: SetupArray::Profiles,
+        number: 1,
+        code: None,
+    };
+    let place = Place::Entry(way, None);
+    assert!(rt; placed == Some((SetupFault::Missing("code"), Some(place))));
 }
 
 const LONGEST: &str =

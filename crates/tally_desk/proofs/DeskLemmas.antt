@@ -35,11 +35,10 @@ use Rattle.tally_message.specs.declared.message.Message.{Message}
 use Rattle.tally_asks.specs.Routes.{con_of_target, station_of_target}
 use Rattle.tally_asks.specs.Bodies.{IsBody, IsCommand}
 use Rattle.std.proofs.Common.{Vec, Global}
-use Rattle.tally_records.specs.declared.separator.Sep.{Sep}
 use Rattle.tally_desk.specs.internal.Gives.{Gives, OrdersRead}
 use Rattle.tally_desk.specs.declared.named.Subject.TheVariants as on
 use Rattle.tally_desk.specs.internal.Named.{lists_of}
-use Rattle.tally_desk.specs.Requests.{Commands, ImportsBody, ImportsText, Named, AtCon, AtNamed, AtStation, Orders, OrdersOf, con_in_target, station_in_target}
+use Rattle.tally_desk.specs.Requests.{Commands, Named, AtCon, AtNamed, AtStation, Orders, OrdersOf, con_in_target, station_in_target}
 
 -- ---- what is shown
 
@@ -238,16 +237,15 @@ station-ordered setup old new m place read code body text asked body_is is found
     order-read setup old new m place.0 read body text asked (lists_of setup (on.Station code)) body_is is
     (ap (λ o. option_map_or (λ (p : Constituency × Station). p.0.lists) o []) found) orders
 
--- ---- imports
+-- ---- imports and their trials
 
-pub con-imported : (s setup : List Constituency) (old new : Option State) (m : Message) (con found : Constituency) (sep : Sep) (code body text : List ℕ) → s ≡ setup
-    → constituency_with code s ≡ Some found → body ≡ m.body.items → constituency_with code setup ≡ Some con → ImportsText setup old found sep body text new
-    → ImportsBody setup old con sep m text new
-con-imported s setup old new m con found sep code body text setup_is found_is body_is is imports =
+-- what is so of the copy of a constituency and of the body is so of the constituency of the path
+pub con-copied : (s setup : List Constituency) (m : Message) (con found : Constituency) (code body : List ℕ) (P : Constituency → List ℕ → Type 0) → s ≡ setup
+    → constituency_with code s ≡ Some found → body ≡ m.body.items → constituency_with code setup ≡ Some con → P found body → P con m.body.items
+con-copied s setup m con found code body P setup_is found_is body_is is holds =
     let both : Some found ≡ Some con = sym (subst (λ x. constituency_with code x ≡ Some found) setup_is found_is) ∙ is in
     let same : found ≡ con = cc in
-    subst (λ (c : Constituency). ImportsText setup old c sep m.body.items text new) same
-    (subst (λ (b : List ℕ). ImportsText setup old found sep b text new) body_is imports)
+    subst (λ (c : Constituency). P c m.body.items) same (subst (λ (b : List ℕ). P found b) body_is holds)
 
 -- ---- what a function gives
 
@@ -255,3 +253,8 @@ pub gives : (P : List ℕ → Option State → Type 0) (Q : List ℕ → Type 0)
     → ((text : List ℕ) → Q text → P text new) → new ≡ old → Gives P old r new
 gives P Q old new None has answer kept = kept
 gives P Q old new (Some text) has answer kept = answer text.items has
+
+-- an answer that follows from what was given follows wherever something was given
+pub gives-on : (P Q : List ℕ → Option State → Type 0) (old new : Option State) (r : Option (Vec ℕ Global)) → ((text : List ℕ) → P text new → Q text new) → Gives P old r new → Gives Q old r new
+gives-on P Q old new None follows kept = kept
+gives-on P Q old new (Some text) follows is = follows text.items is

@@ -2,11 +2,11 @@
 -- The office's own part, what happens to it, is the machine's: a refused command changes nothing,
 -- and so does one that was not accepted, unless a disk that failed has shut the office.
 use Rattle.std.specs.Prelude.{◌≡◌, ℕ, List, [], Option, Some, None, option_and_then, option_map}
-use Rattle.std.specs.Prelude.{Vec, Result, Ok, Err}
+use Rattle.std.specs.Prelude.{Vec, Result, Ok, Err, OnOk, ◌++◌}
 use Rattle.std.specs.declared.alloc.Global.{Global}
 use Rattle.serde_json.specs.Data.{Data}
 use Rattle.serde_json.specs.Written.{compact_text}
-use Rattle.tally_rules.specs.Constituency.{Constituency, ListEntry}
+use Rattle.tally_rules.specs.Constituency.{Constituency, ListEntry, list_codes}
 use Rattle.tally_rules.specs.Setup.{constituency_with, station_with}
 use Rattle.tally_returns.specs.AskSeen.{AskSeen, ask_seen}
 use Rattle.tally_returns.specs.State.{State}
@@ -19,13 +19,17 @@ use Rattle.tally_returns.specs.declared.reply.Reply.{Reply}
 use Rattle.tally_returns.specs.declared.reply.Reply.TheVariants as reply
 use Rattle.tally_returns.specs.declared.station_row.StationRow.{StationRow}
 use Rattle.tally_keeper.specs.Keeper as keeper
+use Rattle.tally_keeper.specs.NamedRows.{NamesRows}
 use Rattle.tally_keeper.specs.Shown.{ShowsReturns}
 use Rattle.tally_keeper.specs.Source.{Delivery}
 use Rattle.tally_keeper.specs.declared.import.ImportCount.{ImportCount}
+use Rattle.tally_keeper.specs.declared.import.NamedRow.{NamedRow}
 use Rattle.tally_keeper.specs.declared.source.ImportFault.{ImportFault}
 use Rattle.tally_keeper.specs.declared.source.ImportFault.TheVariants as cause
 use Rattle.tally_records.specs.declared.separator.Sep.{Sep}
+use Rattle.tally_import.specs.Check.{count_text}
 use Rattle.tally_import.specs.ReturnRows.{text_coming}
+use Rattle.tally_import.specs.RowLines.{row_lines}
 use Rattle.tally_overview.specs.CountryText.{country_text}
 use Rattle.tally_report.specs.ProgressText.{progress_text}
 use Rattle.tally_overview.specs.ReturnsText.{returns_text}
@@ -230,3 +234,28 @@ ImportsText setup old con sep csv text new =
 abbrev pub ImportsBody : List Constituency → Option State → Constituency → Sep → Message
     → MessageAnswer
 ImportsBody setup old con sep m = ImportsText setup old con sep m.body.items
+
+-- ---- trials of imports
+
+-- the six lines of an import, and a line for each row that it names, under a header of these lists
+abbrev pub trial_lines : List (List ℕ) → ImportCount → List NamedRow → List ℕ
+trial_lines lists count named = count_text count ++ row_lines lists named
+
+abbrev pub trial_text : List (List ℕ) → Result ImportCount ImportFault → List NamedRow → List ℕ
+trial_text lists (Ok count) named =
+    answer_text status.Done body.Text (trial_lines lists count named)
+trial_text lists (Err fault) named = word_text (import_word fault)
+
+-- What the import of a text would come to now, and which rows it would name. The state stays.
+abbrev pub TriesText :
+    List Constituency → Option State → Constituency → Sep → List ℕ → MessageAnswer
+TriesText setup old con sep csv text new =
+    (d : Delivery) × (r : Result ImportCount ImportFault) × (named : List NamedRow)
+    × (d.start.coming ≡ Some (text_coming con sep csv)) × keeper.Tries setup old d r new
+    × OnOk r (NamesRows setup old d [] named)
+    × (text ≡ trial_text (list_codes con.lists) r named)
+
+-- the same of the body of a message
+abbrev pub TriesBody : List Constituency → Option State → Constituency → Sep → Message
+    → MessageAnswer
+TriesBody setup old con sep m = TriesText setup old con sep m.body.items

@@ -21,7 +21,7 @@ use Rattle.tally_answer.specs.declared.word.Word.{Word}
 use Rattle.tally_answer.specs.declared.word.Word.TheVariants as word
 use Rattle.tally_desk.specs.Requests.{MessageAnswer, AtCon, AtStation, ImportsBody, Orders}
 use Rattle.tally_desk.specs.Requests.{PublishesReturns, Reports, Says, ShowsCon, ShowsCountry}
-use Rattle.tally_desk.specs.Requests.{ShowsProgress, ShowsReturn, ShowsStations}
+use Rattle.tally_desk.specs.Requests.{ShowsProgress, ShowsReturn, ShowsStations, TriesBody}
 
 -- What is answered to a message that has this fault; nothing where a read failed.
 abbrev pub fault_word : MessageFault → Option Word
@@ -57,6 +57,8 @@ IsAnswerOn setup old (route.OnCon command) m =
     AtCon setup old m (λ code con. Orders setup old con (con_command command code) m)
 IsAnswerOn setup old (route.Import sep) m =
     AtCon setup old m (λ code con. ImportsBody setup old con sep m)
+IsAnswerOn setup old (route.Trial sep) m =
+    AtCon setup old m (λ code con. TriesBody setup old con sep m)
 
 -- the 405 that allows GET, or the one that allows POST
 abbrev pub other_method : Bool → Word

@@ -9,7 +9,7 @@ ghost use Rattle.tally_keeper.specs.StaysKeeper.{StaysKeeper};
 ghost use Rattle.tally_asks.specs.declared.routes.Route.TheVariants as route;
 ghost use Rattle.tally_desk.specs.internal.Gives.{Answered, GivesOn, OrdersRead};
 ghost use Rattle.tally_desk.specs.internal.Named.{lists_of};
-ghost use Rattle.tally_desk.specs.Requests.{ImportsText, imported_text};
+ghost use Rattle.tally_desk.specs.Requests.{ImportsText, import_word, imported_text};
 
 use crate::named::{Subject, con_in_target, lists_of, station_in_target};
 use crate::room::Room;
@@ -77,22 +77,29 @@ pub(crate) fn order_on_con<K: Keeper>(
     }
 }
 
+/// What is answered where an import was not done.
+pub(crate) fn import_word(fault: ImportFault) -> Word
+    ensures { result ≡ import_word fault }
+{
+    match fault {
+        ImportFault::BadHeader => Word::BadHeader,
+        ImportFault::TooLong => Word::TooLong,
+        ImportFault::Read | ImportFault::Memory | ImportFault::Store => Word::Unavailable,
+    }
+}
+
 /// The answer to an import.
 fn import_answer(room: Room, outcome: &Result<ImportCount, ImportFault>) -> Vec<u8>
     ensures { result.items ≡ imported_text outcome.now }
 {
     match outcome {
         Ok(count) => room.import(count),
-        Err(ImportFault::BadHeader) => room.word(Word::BadHeader),
-        Err(ImportFault::TooLong) => room.word(Word::TooLong),
-        Err(ImportFault::Read | ImportFault::Memory | ImportFault::Store) => {
-            room.word(Word::Unavailable)
-        }
+        Err(fault) => room.word(import_word(*fault)),
     }
 }
 
 /// A copy of a constituency, which the rows of an import need.
-fn con_copy(alloc: Global, setup: &Setup, code: Code) -> Option<Constituency>
+pub(crate) fn con_copy(alloc: Global, setup: &Setup, code: Code) -> Option<Constituency>
     ensures { IfSome result (λ con. constituency_with code setup.now ≡ Some con) }
 {
     setup.con(code)?.try_copy(alloc).ok()
@@ -112,7 +119,8 @@ fn lodge_rows<K: Keeper>(
         keeper.old result.items keeper.new }
 {
     let mut rows = ReturnRows::new(alloc, text, sep, con);
-    let outcome = keeper.lodge_from(&mut rows);
+    let mut named = Vec::new(alloc);
+    let outcome = keeper.lodge_from(&mut rows, &mut named);
     import_answer(room, &outcome)
 }
 

@@ -5,6 +5,7 @@ ghost use Rattle.std.specs.List.{AllZip};
 ghost use Rattle.tally_rules.specs.Limits.{IsSetup};
 ghost use Rattle.tally_rules.specs.Setup.{constituency_codes};
 ghost use Rattle.tally_returns.specs.View.{FitsView};
+ghost use Rattle.tally_returns.specs.declared.refusal.Refusal.TheVariants as refusal;
 ghost use Rattle.tally_keeper.specs.StaysKeeper.{StaysKeeper};
 ghost use Rattle.tally_overview.specs.CountryText.{country_text};
 ghost use Rattle.tally_report.specs.declared.fault.ReportFault.TheVariants as fault;
@@ -47,6 +48,7 @@ fn views_of<K: Keeper>(
         AllZip FitsView (K.constituencies keeper.old) views.items) }
     ensures shows { K.IsTrusted keeper.new → ShowsAll
         (K.constituencies keeper.old) (K.content keeper.old) result (K.content keeper.new) }
+    ensures store { IfErr result (λ e. e ≡ refusal.Store → K.HasDatabase keeper.old) }
 {
     let mut views = Vec::new(alloc);
     for code in codes {
@@ -69,6 +71,7 @@ pub fn all_views<K: Keeper>(alloc: Global, keeper: &mut K) -> Result<Vec<ConView
         AllZip FitsView (K.constituencies keeper.old) views.items) }
     ensures shows { K.IsTrusted keeper.new → ShowsAll
         (K.constituencies keeper.old) (K.content keeper.old) result (K.content keeper.new) }
+    ensures store { IfErr result (λ e. e ≡ refusal.Store → K.HasDatabase keeper.old) }
 {
     match codes_of(alloc, keeper.setup()) {
         Ok(codes) => views_of(alloc, keeper, &codes),

@@ -4,10 +4,12 @@ ghost use Rattle.std.specs.Prelude.{◌≡◌, ◌+◌, IfSome};
 ghost use Rattle.tally_asks.specs.Routes.{desk_rows};
 ghost use Rattle.tally_answer.specs.Words.{word_text};
 ghost use Rattle.tally_answer.specs.declared.word.Word.TheVariants.{Unavailable};
-ghost use Rattle.tally_serve.specs.Serving.{IsServing};
+ghost use Rattle.tally_desk.specs.Serving.{IsServing};
 ghost use Rattle.tally_desk.specs.Respond.{Answers, Office, office_of};
 
 use crate::respond::respond;
+use crate::responder::Responder;
+use crate::serving::{self, Served};
 use matchit::Router;
 use std::alloc::Global;
 use std::marker::Model;
@@ -16,7 +18,6 @@ use tally_asks::{Route, desk_router};
 use tally_door::Door;
 use tally_keeper::Keeper;
 use tally_message::{Message, MessageFault};
-use tally_serve::{Responder, Served};
 
 /// The routes of a desk.
 #[derive(Drop)]
@@ -80,5 +81,5 @@ pub fn serve<K: Keeper, D: Door>(alloc: Global, keeper: &mut K, door: &mut D, co
         (office_of K.Keeper keeper.old) (office_of K.Keeper keeper.new) }
 {
     let desk = Desk::new(alloc);
-    tally_serve::serve(alloc, &desk, keeper, door, count)
+    serving::serve(alloc, &desk, keeper, door, count)
 }

@@ -12,6 +12,7 @@ use crate::country::show_country;
 use crate::room::Room;
 use crate::show::{show_con, show_progress, show_report, show_return};
 use crate::stations::{Form, show_rows};
+use crate::trial::trial;
 use matchit::Router;
 use std::alloc::Global;
 use tally_answer::Word;
@@ -72,6 +73,7 @@ fn answer_by_route<K: Keeper>(
         Route::OnStation(command) => order_on_station(alloc, keeper, command, message),
         Route::OnCon(command) => order_on_con(alloc, keeper, command, message),
         Route::Import(sep) => import(alloc, keeper, sep, message),
+        Route::Trial(sep) => trial(alloc, keeper, sep, message),
     }
 }
 

@@ -1,9 +1,10 @@
 //! What the office shows.
 
-ghost use Rattle.std.specs.Prelude.{◌≡◌, Some, IfOk};
+ghost use Rattle.std.specs.Prelude.{◌≡◌, Some, IfErr, IfOk};
 ghost use Rattle.tally_keeper.specs.Keeper.{Happens, request};
 ghost use Rattle.tally_keeper.specs.StaysKeeper.{StaysKeeper};
 ghost use Rattle.tally_returns.specs.View.{FitsView};
+ghost use Rattle.tally_returns.specs.declared.refusal.Refusal.TheVariants as refusal;
 ghost use Rattle.tally_returns.specs.declared.ask.Ask.TheVariants.{ShowProgress, ShowReturn};
 ghost use Rattle.tally_rules.specs.Constituency as value;
 ghost use Rattle.tally_rules.specs.Setup.{constituency_with};
@@ -56,6 +57,7 @@ pub fn view_for<K: Keeper>(keeper: &mut K, con: Code, which: Report) -> Result<C
         → IsEnoughFor which found view) }
     ensures kept { K.IsTrusted keeper.new
         → IfOk result (λ _. K.content keeper.new ≡ K.content keeper.old) }
+    ensures store { IfErr result (λ e. e ≡ refusal.Store → K.HasDatabase keeper.old) }
 {
     // Called for what its contract says: each view of a lawful state is lawful.
     a_constituency_has_a_view();
@@ -79,6 +81,7 @@ pub fn progress_of<K: Keeper>(keeper: &mut K) -> Result<Vec<ProgressRow>, Refusa
         (request ShowProgress (as_progress result)) (K.content keeper.new) }
     ensures kept { K.IsTrusted keeper.new
         → IfOk result (λ _. K.content keeper.new ≡ K.content keeper.old) }
+    ensures store { IfErr result (λ e. e ≡ refusal.Store → K.HasDatabase keeper.old) }
 {
     match keeper.answer(&Ask::ShowProgress) {
         Ok(Reply::Progress(rows)) => Ok(rows),

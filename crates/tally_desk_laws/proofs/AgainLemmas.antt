@@ -58,7 +58,7 @@ pub record Laws : Type 0 where
 abbrev pub Keeps : Option State → Option State → Type 0
 Keeps old new = IfSome new (λ s. old ≡ Some s)
 
-same-keeps : (old new : Option State) → new ≡ old → Keeps old new
+pub same-keeps : (old new : Option State) → new ≡ old → Keeps old new
 same-keeps old None same = tt
 same-keeps old (Some t) same = sym same
 
@@ -155,7 +155,7 @@ failed-keeps : Laws → (setup : List Constituency) (old new : Option State) (kn
 failed-keeps laws setup old new known came fault is = idle-keeps laws setup old new (failed_import fault) is.1.1 refl
 
 -- all rows that came, where it is known what comes
-all-come : (coming : Coming) (d : Delivery) (rows : List Row) → d.start.coming ≡ Some coming → AreAllGiven d rows → (coming.rows ≡ rows) × (coming.fault ≡ None)
+pub all-come : (coming : Coming) (d : Delivery) (rows : List Row) → d.start.coming ≡ Some coming → AreAllGiven d rows → (coming.rows ≡ rows) × (coming.fault ≡ None)
 all-come coming d rows is all = subst (λ o. IfSome o (λ (coming : Coming). (coming.rows ≡ rows) × (coming.fault ≡ None))) is all.3
 
 -- where an import was done, the same one later lodges nothing
@@ -296,7 +296,7 @@ kind-twice laws (import sep) setup old mid later new m n text other target body 
     (subst (λ t. AtNamed NoConstituency later (con_in_target setup t) (λ of con. ImportsBody setup later con sep n) other new) target second)
 
 -- a target has one route
-route-one : (target : List ℕ) (v w : Option (RouteOf Route)) → IsRouted target v → IsRouted target w → v ≡ w
+pub route-one : (target : List ℕ) (v w : Option (RouteOf Route)) → IsRouted target v → IsRouted target w → v ≡ w
 route-one target (Some v) (Some w) first second = sym first.1 ∙ second.1
 route-one target (Some v) None first second = sym first.1 ∙ second first.0
 route-one target None (Some w) first second = sym (first second.0) ∙ second.1
@@ -416,17 +416,11 @@ twice-acted laws IsImport setup old mid later new text other events changed betw
 abbrev pub IsVain : Option State → Option State → List ℕ → Type 0
 IsVain later new other = Keeps later new × (ReportsNothingLodged other ⊎ ReportsNoImport other)
 
--- an import that was not done for a fault of its text is not done later
-failed-again : (setup : List Constituency) (old mid later new : Option State) (coming : Coming) (came again : Delivery) (fault : ImportFault) (count : ImportCount)
-    → (imported_text (Err fault) ≢ word_text Unavailable) → keeper.ImportsComing setup old (Some coming) came (Err fault) mid → keeper.ImportsComing setup later (Some coming) again (Ok count) new → ⊥
-failed-again setup old mid later new coming came again fault count good first second = go first.1.0
+-- the fault of an import that was accepted is what comes of its text
+pub fault-comes : (setup : List Constituency) (old mid : Option State) (coming : Coming) (came : Delivery) (fault : ImportFault)
+    → (imported_text (Err fault) ≢ word_text Unavailable) → keeper.ImportsComing setup old (Some coming) came (Err fault) mid → coming.fault ≡ Some fault
+fault-comes setup old mid coming came fault good first = go first.1.0
   where
-    none : coming.fault ≡ None
-    none = (all-come coming again second.1.0 second.0 second.1.2).1
-
-    some : coming.fault ≡ Some fault → ⊥
-    some is = let k : None ≡ Some fault = sym none ∙ is in absurd (let l = k in cc)
-
     sudden : (f : ImportFault) → imported_text (Err f) ≢ word_text Unavailable → IsSudden f → ⊥
     sudden cause.BadHeader g h = h
     sudden cause.TooLong g h = h
@@ -434,12 +428,18 @@ failed-again setup old mid later new coming came again fault count good first se
     sudden cause.Memory g h = g refl
     sudden cause.Store g h = h
 
-    go : keeper.IsImportFault came fault → ⊥
-    go (rows, are, inl (inl own)) = subst (λ f. imported_text (Err f) ≢ word_text Unavailable) own good refl
-    go (rows, are, inl (inr own)) = subst (λ f. imported_text (Err f) ≢ word_text Unavailable) own good refl
-    go (rows, are, inr (inl (end, inl h))) = sudden fault good h
-    go (rows, are, inr (inl (end, inr h))) = some (subst (λ o. IfSome o (λ (coming : Coming). (coming.rows ≡ rows) × (coming.fault ≡ Some fault))) first.0 h).1
+    go : keeper.IsImportFault came fault → coming.fault ≡ Some fault
+    go (rows, are, inl (inl own)) = absurd (subst (λ f. imported_text (Err f) ≢ word_text Unavailable) own good refl)
+    go (rows, are, inl (inr own)) = absurd (subst (λ f. imported_text (Err f) ≢ word_text Unavailable) own good refl)
+    go (rows, are, inr (inl (end, inl h))) = absurd (sudden fault good h)
+    go (rows, are, inr (inl (end, inr h))) = (subst (λ o. IfSome o (λ (coming : Coming). (coming.rows ≡ rows) × (coming.fault ≡ Some fault))) first.0 h).1
     go (rows, are, inr (inr h)) = let k : Some coming ≡ None = sym first.0 ∙ h.2 in absurd (let l = k in cc)
+
+-- an import that was not done for a fault of its text is not done later
+pub failed-again : (setup : List Constituency) (old mid later new : Option State) (coming : Coming) (came again : Delivery) (fault : ImportFault) (count : ImportCount)
+    → (imported_text (Err fault) ≢ word_text Unavailable) → keeper.ImportsComing setup old (Some coming) came (Err fault) mid → keeper.ImportsComing setup later (Some coming) again (Ok count) new → ⊥
+failed-again setup old mid later new coming came again fault count good first second =
+    let k : None ≡ Some fault = sym (all-come coming again second.1.0 second.0 second.1.2).1 ∙ fault-comes setup old mid coming came fault good first in absurd (let l = k in cc)
 
 -- what an import is answered that was not done
 fault-vain : Laws → (setup : List Constituency) (later new : Option State) (coming : Coming) (again : Delivery) (fault : ImportFault) (other : List ℕ)

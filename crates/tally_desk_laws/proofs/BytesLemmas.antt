@@ -9,7 +9,7 @@ use Rattle.tally_message.specs.Message.{IsMessageOrFault}
 use Rattle.tally_message.specs.declared.message.Message.{Message}
 use Rattle.tally_message.specs.declared.message.MessageFault.{MessageFault}
 use Rattle.tally_message.specs.declared.message.MessageFault.TheVariants as fault
-use Rattle.tally_serve.specs.Serving.{Follows, IsExchange, IsFailed, IsSent}
+use Rattle.tally_desk.specs.Serving.{Follows, IsExchange, IsFailed, IsSent}
 use Rattle.tally_answer.specs.Words.{word_text}
 use Rattle.tally_answer.specs.declared.word.Word.{Word}
 use Rattle.tally_answer.specs.declared.word.Word.TheVariants.{Unavailable}

@@ -43,7 +43,7 @@ use Rattle.tally_message.specs.Message.{IsMessageOrFault}
 use Rattle.tally_message.specs.declared.message.Message.{Message}
 use Rattle.tally_message.specs.declared.message.MessageFault.{MessageFault}
 use Rattle.tally_message.specs.declared.message.MessageFault.TheVariants as fault
-use Rattle.tally_serve.specs.Serving.{Follows, IsExchange}
+use Rattle.tally_desk.specs.Serving.{Follows, IsExchange}
 use Rattle.tally_asks.specs.Bodies.{IsCommand, con_command, station_command}
 use Rattle.tally_asks.specs.Bodies.{certify_in, codes_under, code_under, draw_in, number_under, reopen_in, text_under, vacate_in}
 use Rattle.tally_asks.specs.Routes.{IsRouted, con_of_target, route_method, station_of_target}
@@ -229,6 +229,7 @@ module _ (setup : List Constituency) (old new : Option State) (m : Message) (tex
   on-route (route.Import sep) at tied is =
       at-named NoConstituency (con_in_target setup m.target.items) (con_in_target setup m.target.items) (λ code con. ImportsBody setup old con sep m)
       (λ named names imports. import-deed sep (posted (route.Import sep) at refl tied) named names imports) refl is
+  on-route (route.Trial sep) at tied is = shown-deed (of-kind setup old new (route.Trial sep) m text is)
 
   by-method : (b : Bool) → bytes_eq m.method (route_method row.value) ≡ b → ByMethod setup old row.value m b text new → IsDeed setup m text old new
   by-method true tied is = on-route row.value refl tied is

@@ -4,4 +4,5 @@ pub mod MessageLemmas
 pub mod AgainLemmas
 pub mod BytesLemmas
 pub mod EnteredTwiceLemmas
+pub mod TrialLemmas
 pub mod ReadBackLemmas

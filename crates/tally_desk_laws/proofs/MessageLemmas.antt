@@ -26,7 +26,7 @@ use Rattle.tally_door.specs.Connection.{Connection}
 use Rattle.tally_message.specs.declared.message.Message.{Message}
 use Rattle.tally_message.specs.declared.message.MessageFault.{MessageFault}
 use Rattle.tally_message.specs.declared.message.MessageFault.TheVariants as fault
-use Rattle.tally_serve.specs.Serving.{Follows, IsExchange, Serves}
+use Rattle.tally_desk.specs.Serving.{Follows, IsExchange, Serves}
 use Rattle.tally_asks.specs.Bodies.{◌>>=◌, close_in, as_code, code_under, con_command, counts_of_body, codes_under, certify_in, confirm_in, correct_in, draw_in, lodge_in, number_under, query_in, reopen_in, station_command, text_under, vacate_in}
 use Rattle.tally_asks.specs.Routes.{route_method}
 use Rattle.tally_asks.specs.declared.routes.Route.{Route}

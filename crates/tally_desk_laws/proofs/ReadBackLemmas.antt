@@ -37,7 +37,7 @@ use Rattle.tally_returns.specs.declared.reply.LodgeReply.{LodgeReply}
 use Rattle.tally_returns.specs.declared.reply.LodgeReply.TheVariants.{Lodged, Same}
 use Rattle.tally_returns.specs.declared.station_row.StationRow.{StationRow}
 use Rattle.tally_returns.proofs.ClosedLemmas.{get-kept, get-put}
-use Rattle.tally_ledger.proofs.SetupLemmas.{Apart, Differ, Has, all-has, apart-has, bytes_flipped, bytes_same, code_of_station, con-found, con-limits, found-has, station-only, stations-differ}
+use Rattle.tally_keeper.proofs.SetupLemmas.{Apart, Differ, Has, all-has, apart-has, bytes_flipped, bytes_same, code_of_station, con-found, con-limits, found-has, station-only, stations-differ}
 use Rattle.tally_keeper.specs.Import.{RowAnswer, after_row, answers, count_of, first_note, is_bad, is_differing, is_lodged, is_refused, is_same, note_at, note_number, or_else, returns_after_import}
 use Rattle.tally_keeper.specs.Source.{Coming, row_limit}
 use Rattle.tally_keeper.specs.declared.import.FirstRow.{FirstRow}
@@ -52,7 +52,7 @@ use Rattle.tally_records.specs.declared.end.Stop.TheVariants as stopped
 use Rattle.tally_records.specs.declared.separator.Sep.TheVariants.{Comma}
 use Rattle.tally_records.proofs.FrontLemmas.{records_from-nothing}
 use Rattle.tally_import.specs.ReturnRows.{records_coming, rows_coming, station_limits_in}
-use Rattle.tally_import.specs.Rows.{is_number_text, row_of, written_number}
+use Rattle.tally_import.specs.Rows.{first_unread, is_number_text, row_of, written_number}
 use Rattle.tally_overview.specs.ReturnsText.{header_fields, record_of, return_fields, returns_text}
 use Rattle.tally_desk_laws.specs.ReadBack.{IsConOf, ImportsReturns, ReadBackIsCountedLodged, ReadBackReturnsAreThose, ReturnsAreReadBack, all_lodged, as_lodged, has_return, lodge_of, rows_in}
 
@@ -89,11 +89,11 @@ decimal-number n few =
     (and_from _ _ (le-leb 1 (length (decimal n)) (decimal_nonempty n (omega arith))) (le-leb (length (decimal n)) 9 (decimal-short n few)))
     (decimal-writes n few).0
 
-numbers-texts : (ns : List ℕ) → list_all is_number ns ≡ true → list_all is_number_text (map decimal ns) ≡ true
-numbers-texts [] all = refl
-numbers-texts (n ∷ ns) all =
+numbers-read : (place : ℕ) (ns : List ℕ) → list_all is_number ns ≡ true → first_unread place (map decimal ns) ≡ None
+numbers-read place [] all = refl
+numbers-read place (n ∷ ns) all =
     let both = and_parts (is_number n) (list_all is_number ns) all in
-    and_from _ _ (decimal-number n (leb-true n 1000000 both.0)) (numbers-texts ns both.1)
+    ap (λ b. if b then first_unread (place + 1) (map decimal ns) else Some place) (decimal-number n (leb-true n 1000000 both.0)) ∙ numbers-read (place + 1) ns both.1
 
 numbers-written : (ns : List ℕ) → list_all is_number ns ≡ true → map written_number (map decimal ns) ≡ ns
 numbers-written [] all = refl
@@ -284,25 +284,23 @@ counts-parts lists counts good =
 abbrev lodge_row : List ℕ → List ℕ → List ℕ → ℕ → ℕ → Row
 lodge_row station slip votes blank spoiled = row.Lodge (ask.Lodge station slip (record { votes = votes; blank = blank; spoiled = spoiled }))
 
+-- a record that has none of the causes of a bad row
+return-read : (stations : Stations) (lists : ℕ) (station slip blank spoiled : List ℕ) (votes : List (List ℕ))
+    → (length votes == lists) ≡ true → is_code station ≡ true → is_some (stations station) ≡ true → is_code slip ≡ true
+    → is_number_text blank ≡ true → is_number_text spoiled ≡ true → first_unread 0 votes ≡ None
+    → row_of stations lists (station ∷ slip ∷ blank ∷ spoiled ∷ votes) ≡ lodge_row station slip (map written_number votes) (written_number blank) (written_number spoiled)
+return-read stations lists station slip blank spoiled votes many coded known slipped blanks spoils read =
+    rw (many, coded, known, slipped, blanks, spoils, read) refl
+
 row-read : (con : Constituency) (returns : Returns) (x : Station) (standing : StationReturn) → IsGood con returns x → fin.get returns x.code ≡ Some standing
     → row_of (station_limits_in con) (length con.lists) (return_fields x.code standing) ≡ row.Lodge (ask.Lodge x.code standing.slip standing.counts)
 row-read con returns x standing good is =
     let lawful = good.lawful standing is in
     let parts = counts-parts (length con.lists) standing.counts lawful.counts in
     let many : (length (map decimal standing.counts.votes) == length con.lists) ≡ true = ap (λ n. n == length con.lists) (numbers-length standing.counts.votes) ∙ parts.many in
-    let all =
-    and_from _ _
-    (and_from _ _
-    (and_from _ _
-    (and_from _ _
-    (and_from _ _ (and_from (is_code x.code) (is_code standing.slip) good.station.code lawful.slip) good.known)
-    (decimal-number standing.counts.blank parts.blank))
-    (decimal-number standing.counts.spoiled parts.spoiled))
-    many)
-    (numbers-texts standing.counts.votes parts.votes) in
-    ap
-    (λ (b : Bool). if b then lodge_row x.code standing.slip (map written_number (map decimal standing.counts.votes)) (written_number (decimal standing.counts.blank)) (written_number (decimal standing.counts.spoiled)) else row.Bad)
-    all
+    return-read (station_limits_in con) (length con.lists) x.code standing.slip (decimal standing.counts.blank) (decimal standing.counts.spoiled) (map decimal standing.counts.votes)
+    many good.station.code good.known lawful.slip (decimal-number standing.counts.blank parts.blank) (decimal-number standing.counts.spoiled parts.spoiled)
+    (numbers-read 0 standing.counts.votes parts.votes)
     ∙ ap (λ (votes : List ℕ). lodge_row x.code standing.slip votes (written_number (decimal standing.counts.blank)) (written_number (decimal standing.counts.spoiled))) (numbers-written standing.counts.votes parts.votes)
     ∙ ap (λ (blank : ℕ). lodge_row x.code standing.slip standing.counts.votes blank (written_number (decimal standing.counts.spoiled))) (decimal-writes standing.counts.blank parts.blank).1
     ∙ ap (λ (spoiled : ℕ). lodge_row x.code standing.slip standing.counts.votes standing.counts.blank spoiled) (decimal-writes standing.counts.spoiled parts.spoiled).1

@@ -1,5 +1,5 @@
--- What an answer has done: on each route it has shown something, or it
--- has carried out an order or an import.
+-- What an answer has done: on each route it has shown or tried something, or it has carried out an
+-- order or an import.
 use Rattle.std.proofs.Common.{◌≡◌, ◌⊎◌, ℕ, List, false, Option, Some, None, Vec, Global, Result, Ok, Err, refl, sym, ap, subst, inl, inr}
 use Rattle.tally_rules.specs.Constituency.{Constituency}
 use Rattle.tally_returns.specs.Named.{BringsCode}
@@ -8,14 +8,17 @@ use Rattle.tally_returns.specs.View.{View}
 use Rattle.tally_returns.specs.declared.ask.Ask.{Ask}
 use Rattle.tally_returns.specs.declared.ask.Ask.TheVariants.{ShowReturn, ShowCon, ShowProgress}
 use Rattle.tally_returns.specs.declared.refusal.Refusal.{Refusal}
-use Rattle.tally_returns.specs.declared.refusal.Refusal.TheVariants.{NoConstituency, NoStation}
+use Rattle.tally_returns.specs.declared.refusal.Refusal.TheVariants.{NoConstituency, NoStation, Store}
 use Rattle.tally_returns.specs.declared.reply.Reply.{Reply}
 use Rattle.tally_returns.specs.declared.reply.Reply.TheVariants as reply
 use Rattle.tally_returns.specs.declared.station_row.StationRow.{StationRow}
 use Rattle.tally_steps.specs.Runs.{is_act}
 use Rattle.tally_steps.specs.Step.{IsNotAccepted}
-use Rattle.tally_keeper.specs.Keeper.{Happens, request}
+use Rattle.tally_keeper.specs.Keeper.{Happens, Tries, request}
 use Rattle.tally_keeper.specs.Shown.{IsOwnRefusal, ShowsReturns}
+use Rattle.tally_keeper.specs.Source.{Delivery}
+use Rattle.tally_keeper.specs.declared.import.ImportCount.{ImportCount}
+use Rattle.tally_keeper.specs.declared.source.ImportFault.{ImportFault}
 use Rattle.tally_records.specs.declared.separator.Sep.{Sep}
 use Rattle.tally_message.specs.declared.message.Message.{Message}
 use Rattle.tally_asks.specs.Bodies.{con_command, station_command}
@@ -24,7 +27,7 @@ use Rattle.tally_asks.specs.declared.routes.Route.{Route}
 use Rattle.tally_asks.specs.declared.routes.Route.TheVariants as route
 use Rattle.tally_asks.specs.declared.routes.StationCommand.{StationCommand}
 use Rattle.tally_desk_laws.specs.LawStatements.{IsImportRoute}
-use Rattle.tally_desk.specs.Requests.{Asks, HasConText, HasProgressText, HasReportText, HasReturnText, ImportsBody, Named, AtCon, AtNamed, AtStation, Orders, ShowsRows, con_in_target, returns_answer, station_in_target, stations_answer}
+use Rattle.tally_desk.specs.Requests.{Asks, HasConText, HasProgressText, HasReportText, HasReturnText, ImportsBody, Named, AtCon, AtNamed, AtStation, Orders, ShowsRows, TriesBody, con_in_target, returns_answer, station_in_target, stations_answer}
 use Rattle.tally_desk.specs.Respond.{IsAnswerOn}
 use Rattle.tally_desk.specs.Shown.{ShowsAll}
 use Rattle.tally_report.specs.declared.report.Report.{Report}
@@ -98,6 +101,14 @@ all-came : (setup : List Constituency) (old new : Option State) (r : Result (Vec
 all-came setup old new (Ok views) is = inl is.1
 all-came setup old new (Err why) is = look-refused setup old new why is.0 is.1
 
+-- what was tried changed nothing, or the office was shut at it
+tried-came : (setup : List Constituency) (old new : Option State) (d : Delivery) (r : Result ImportCount ImportFault) → Tries setup old d r new → IsShown setup old new
+tried-came setup old new d (Ok count) is = inl is.2
+tried-came setup (Some s) (Some t) d (Err fault) is = inl (ap Some is.1)
+tried-came setup (Some s) None d (Err fault) is = look-refused setup (Some s) None Store (inr refl) (inr refl)
+tried-came setup None (Some t) d (Err fault) is = absurd is.1
+tried-came setup None None d (Err fault) is = inl refl
+
 -- ---- what a path names
 
 named-shown : (setup : List Constituency) (old new : Option State) (why : Refusal) (o : Option Named) (F : List ℕ → Constituency → List ℕ → Option State → Type 0) (text : List ℕ)
@@ -124,6 +135,7 @@ kind route.Country = shown
 kind (route.OnStation command) = order_on_station command
 kind (route.OnCon command) = order_on_con command
 kind (route.Import sep) = import sep
+kind (route.Trial sep) = shown
 
 -- an answer on a route of this kind
 abbrev pub IsOfKind : Kind → List Constituency → Option State → Message → List ℕ → Option State → Type 0
@@ -174,3 +186,6 @@ of-kind setup old new route.Country m text is = all-came setup old new is.0 is.1
 of-kind setup old new (route.OnStation command) m text is = is
 of-kind setup old new (route.OnCon command) m text is = is
 of-kind setup old new (route.Import sep) m text is = is
+of-kind setup old new (route.Trial sep) m text is =
+    named-shown setup old new NoConstituency (con_in_target setup m.target.items) (λ code con. TriesBody setup old con sep m) text
+    (λ code con tried. tried-came setup old new tried.0 tried.1 tried.4) is

@@ -23,7 +23,7 @@ use Rattle.tally_import.specs.ReturnRows.{text_coming}
 use Rattle.tally_door.specs.Connection.{Connection}
 use Rattle.tally_message.specs.Message.{IsMessageOrFault}
 use Rattle.tally_message.specs.declared.message.Message.{Message}
-use Rattle.tally_serve.specs.Serving.{Serves}
+use Rattle.tally_desk.specs.Serving.{Serves}
 use Rattle.tally_asks.specs.Bodies.{IsCommand, station_command}
 use Rattle.tally_asks.specs.Routes.{IsRouted, con_of_target, station_of_target}
 use Rattle.tally_asks.specs.declared.routes.Route.{Route}

@@ -18,7 +18,7 @@ use Rattle.tally_message.specs.LawStatements.{IsSame, IsSameMessage}
 use Rattle.tally_message.specs.Message.{IsMessageOrFault}
 use Rattle.tally_message.specs.declared.message.Message.{Message}
 use Rattle.tally_message.specs.declared.message.MessageFault.{MessageFault}
-use Rattle.tally_serve.specs.Serving.{IsExchange, Serves}
+use Rattle.tally_desk.specs.Serving.{IsExchange, Serves}
 use Rattle.tally_asks.specs.Routes.{IsRouted}
 use Rattle.tally_asks.specs.declared.routes.Route.{Route}
 use Rattle.tally_asks.specs.declared.routes.Route.TheVariants as route

@@ -1,3 +1,4 @@
 pub mod LawStatements
 pub mod EnteredTwice
+pub mod Trials
 pub mod ReadBack

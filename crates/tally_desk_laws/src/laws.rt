@@ -3,6 +3,7 @@
 ghost use Rattle.tally_desk_laws.specs.EnteredTwice as twice;
 ghost use Rattle.tally_desk_laws.specs.LawStatements as law;
 ghost use Rattle.tally_desk_laws.specs.ReadBack as back;
+ghost use Rattle.tally_desk_laws.specs.Trials as trial;
 
 use tally_core::laws as keeper;
 use tally_machine::laws as machine;
@@ -58,6 +59,14 @@ pub fn what_counts_was_entered_twice()
     ensures certified { twice.CertifiedReturnsOfMessagesWereEnteredTwice }
     ensures first { twice.FirstEntriesAreMessages }
     ensures second { twice.SecondEntriesAreMessages }
+{}
+
+/// The trial of an import leaves the state, whatever it is answered. Where it was answered
+/// otherwise than with 503, and then the import too, the import is answered with the counts of the
+/// trial; or neither was done, for the same cause.
+pub fn imports_come_to_their_trials()
+    ensures state { trial.TrialsLeaveTheState }
+    ensures import { trial.ImportsComeToTheirTrials }
 {}
 
 /// The returns text of a constituency of a lawful state is read back: its rows are one Lodge for

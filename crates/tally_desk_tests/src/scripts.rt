@@ -63,6 +63,18 @@ GET /station/s2 = 404 Not Found|{"refused":8,"word":"no_return"}
 POST /con/c1/import/semicolon station;slip;blank;spoiled;A;B|s2;p2;1;0;30;40 = 200 OK|{"bad":0,"differs":0,"first":null,"lodged":1,"ok":"import","refused":0,"same":0}
 GET /station/s2 = 200 OK|{"blank":1,"note":"","rev":1,"slip":"p2","spoiled":0,"station":"s2","status":"received","votes":[30,40]}"#;
 
+// A trial is answered with what the import would come to, and lodges nothing. Each row is judged
+// over what those before it would have lodged.
+const TRIED: &str =
+    r#"POST /con/c1/trial station,slip,blank,spoiled,A,B|s1,p1,0,0,10,20|s2,p2,1,0,30,40|s3,p3,0,2,50,60 = 200 OK|lodged 3|same 0|differs 0|refused 0|bad 0|first -|
+POST /con/c1/trial/semicolon station;slip;blank;spoiled;A;B|s2;p2;1;0;30;40 = 200 OK|lodged 1|same 0|differs 0|refused 0|bad 0|first -|
+POST /con/c1/trial station,slip,blank,spoiled,A,B|s1,p1,0,0,10,20|s1,p1,0,0,10,20|s1,p1,0,0,10,21|s2,p2,0,0,200,101|s4,p4,0,0,1,1|s?,p5,0,0,1,1|s3,,0,0,1,1|s3,p3,0,0,1|s3,p3,0,0,1, = 200 OK|lodged 1|same 1|differs 1|refused 1|bad 5|first 3 7|row 3 7 differs s1|row 4 6 too_many_votes s2|row 5 0 no_station|row 6 0 bad_station|row 7 0 bad_slip|row 8 0 fields 5|row 9 0 bad_number B|
+POST /con/c1/trial station;slip;blank;spoiled;A;B|s2;p2;1;0;30;40 = 400 Bad Request|{"word":"bad_header"}
+POST /con/zz/trial station = 404 Not Found|{"refused":2,"word":"no_constituency"}
+GET /con/c1/returns = 200 OK|station,slip,blank,spoiled,A,B|
+POST /con/c1/import station,slip,blank,spoiled,A,B|s1,p1,0,0,10,20|s2,p2,1,0,30,40|s3,p3,0,2,50,60 = 200 OK|{"bad":0,"differs":0,"first":null,"lodged":3,"ok":"import","refused":0,"same":0}
+POST /con/c1/trial station,slip,blank,spoiled,A,B|s1,p1,0,0,10,20|s2,p2,1,0,31,40|s3,p3,0,2,x,60 = 200 OK|lodged 0|same 1|differs 1|refused 0|bad 1|first 2 7|row 2 7 differs s2|row 3 0 bad_number A|"#;
+
 // The same text where neither of the other two is a station.
 const OF_OTHER_STATIONS: &str =
     r#"POST /con/c1/import station,slip,blank,spoiled,A,B|s1,p1,0,0,10,20|s2,p2,1,0,30,40|s3,p3,0,2,50,60 = 200 OK|{"bad":2,"differs":0,"first":[2,0],"lodged":1,"ok":"import","refused":0,"same":0}
@@ -150,11 +162,12 @@ POST /station/s1/confirm {"rev":1,"slip":"p1","votes":[100,100],"blank":0,"spoil
 GET /con/c1 = 200 OK|{"blank":0,"certified":false,"closed":0,"con":"c1","edition":1,"entry":"double","gone":[],"lot":[],"note":"","seats":[],"spoiled":0,"stations":1,"votes":[0,0]}"#;
 
 // The method of Twin Town, what else the setup has, what was done before, and a script.
-const SCRIPTS: [(&str, &str, &str, &str); 10] = [
+const SCRIPTS: [(&str, &str, &str, &str); 11] = [
     ("dhondt", "", "", RECOUNT),
     ("dhondt", "", "", REFUSED),
     ("dhondt", MORE_STATIONS, "", AGAIN),
     ("dhondt", MORE_STATIONS, "", BAD),
+    ("dhondt", MORE_STATIONS, "", TRIED),
     ("dhondt", "", "", OF_OTHER_STATIONS),
     ("dhondt", "", CERTIFIED, BY_DIVISORS),
     ("hare", "", CERTIFIED, BY_QUOTAS),

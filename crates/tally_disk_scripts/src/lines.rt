@@ -6,7 +6,7 @@ use std::io::ErrorKind;
 use std::test::Fail;
 use tally_core::{ImportCount, ImportFault, Keeper};
 use tally_import::Sep;
-use tally_scripts::{Pieces, RETURNS, first_wrong, import_from};
+use tally_scripts::{Pieces, RETURNS, first_wrong, import_from, trial_from};
 
 /// The numbers of rows, or the fault. That of a store is answered as a refusal, by its number.
 fn text_of_import(alloc: Global, came: &Result<ImportCount, ImportFault>) -> Result<String, Fail> {
@@ -27,7 +27,8 @@ fn text_of_import(alloc: Global, came: &Result<ImportCount, ImportFault>) -> Res
 }
 
 /// What is wrong with the answer to `import = ANSWER`, which lodges the returns of three stations,
-/// or to `cut import = ANSWER`, where a read fails after them; or nothing.
+/// to `trial = ANSWER`, which tries that, or to `cut import = ANSWER`, where a read fails after
+/// them; or nothing.
 fn wrong_import<K: Keeper>(alloc: Global, keeper: &mut K, line: &str) -> Result<String, Fail> {
     let (what, wanted) = line.split_once(" = ").ok_or("no answer")?;
     let failure = if what == "cut import" {
@@ -40,7 +41,12 @@ fn wrong_import<K: Keeper>(alloc: Global, keeper: &mut K, line: &str) -> Result<
         piece: 4_096,
         failure,
     };
-    let shown = text_of_import(alloc, &import_from(alloc, keeper, text, Sep::Comma)?)?;
+    let came = if what == "trial" {
+        trial_from(alloc, keeper, text, Sep::Comma)?
+    } else {
+        import_from(alloc, keeper, text, Sep::Comma)?
+    };
+    let shown = text_of_import(alloc, &came)?;
     if shown.as_str() == wanted {
         return Ok(String::new(alloc));
     }
@@ -49,7 +55,7 @@ fn wrong_import<K: Keeper>(alloc: Global, keeper: &mut K, line: &str) -> Result<
 
 /// What is wrong with the answer to a line, or nothing.
 pub(crate) fn wrong<K: Keeper>(alloc: Global, keeper: &mut K, line: &str) -> Result<String, Fail> {
-    if line.starts_with("import") || line.starts_with("cut") {
+    if line.starts_with("import") || line.starts_with("trial") || line.starts_with("cut") {
         return wrong_import(alloc, keeper, line);
     }
     first_wrong(alloc, keeper, line)

@@ -13,9 +13,9 @@ use Rattle.sqlite_value.proofs.OrderLemmas.{value_cmp-Text}
 use Rattle.sqlite_keyed.proofs.ListLemmas.{IsPermutation-filter, IsPermutation-flat_map, all_weaker, all-map, all-flat_map, all_of}
 use Rattle.sqlite.specs.State.{State}
 use Rattle.sqlite.proofs.Callers.{one_permutation}
-use Rattle.tally_rows.specs.Rows.{text_cmp, cells, has_key, others, AreRowsOf}
-use Rattle.tally_rows.proofs.EntryLemmas.{other_entries, inserted}
-use Rattle.tally_rows.proofs.RowsLemmas.{AreKeyedBy, text_total, text_exact, text_same, filter-rows, same_again, put_rows, rows_of_key, partitioned_rows}
+use Rattle.tally_schema.specs.Rows.{text_cmp, cells, has_key, others, AreRowsOf}
+use Rattle.tally_schema.proofs.EntryLemmas.{other_entries, inserted}
+use Rattle.tally_schema.proofs.RowsLemmas.{AreKeyedBy, text_total, text_exact, text_same, filter-rows, same_again, put_rows, rows_of_key, partitioned_rows}
 use Rattle.tally_rules.specs.Code.{code_cmp}
 use Rattle.tally_returns.specs.Counts.{VoteCounts}
 use Rattle.tally_returns.specs.State.{ConState}

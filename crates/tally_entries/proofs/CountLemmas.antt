@@ -14,9 +14,9 @@ use Rattle.sqlite_value.proofs.OrderLemmas.{value_cmp_total}
 use Rattle.sqlite_keyed.proofs.ListLemmas.{all-append, all_weaker, all_map, filter_none}
 use Rattle.sqlite.specs.declared.error.Error.{Error}
 use Rattle.sqlite.specs.State.{State}
-use Rattle.tally_rows.specs.Rows.{has_key, others, AreRowsOf}
-use Rattle.tally_rows.proofs.RisingRowidLemmas.{int_less}
-use Rattle.tally_rows.proofs.RowsLemmas.{partitioned_rows, put_rows}
+use Rattle.tally_schema.specs.Rows.{has_key, others, AreRowsOf}
+use Rattle.tally_schema.proofs.RisingRowidLemmas.{int_less}
+use Rattle.tally_schema.proofs.RowsLemmas.{partitioned_rows, put_rows}
 use Rattle.tally_rules.specs.Constituency.{Constituency}
 use Rattle.tally_returns.specs.Counts.{VoteCounts}
 use Rattle.tally_returns.specs.Return.{StationReturn, Returns as StationReturns}

@@ -15,9 +15,9 @@ use Rattle.sqlite_keyed.proofs.ListLemmas.{all-append, all_weaker, ascending-app
 use Rattle.sqlite.specs.declared.error.Error.{Error}
 use Rattle.sqlite.specs.Effect.{IsDatabase}
 use Rattle.sqlite.specs.State.{State, IsUnchanged}
-use Rattle.tally_rows.specs.Rows.{cells, has_key, HaveDistinctRowids}
-use Rattle.tally_rows.proofs.RisingRowidLemmas.{int_less}
-use Rattle.tally_rows.proofs.RowsLemmas.{rows_of_key}
+use Rattle.tally_schema.specs.Rows.{cells, has_key, HaveDistinctRowids}
+use Rattle.tally_schema.proofs.RisingRowidLemmas.{int_less}
+use Rattle.tally_schema.proofs.RowsLemmas.{rows_of_key}
 use Rattle.tally_rules.specs.Code.{is_code}
 use Rattle.tally_rules.specs.Constituency.{Constituency}
 use Rattle.tally_returns.specs.Counts.{VoteCounts}

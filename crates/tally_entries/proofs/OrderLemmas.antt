@@ -14,7 +14,7 @@ use Rattle.sqlite_value.specs.declared.value.Value.{Value}
 use Rattle.sqlite_value.specs.declared.value.Value.TheVariants.{Int, Text}
 use Rattle.sqlite_value.specs.Order.{Row, column, row_cmp, value_cmp}
 use Rattle.sqlite_value.proofs.OrderLemmas.{value_cmp-Int, value_cmp_total}
-use Rattle.tally_rows.specs.Rows.{text_cmp}
+use Rattle.tally_schema.specs.Rows.{text_cmp}
 use Rattle.tally_steps.specs.LawfulState.{IsUnderPlaces}
 use Rattle.tally_returns.specs.Counts.{VoteCounts}
 use Rattle.tally_statements.specs.declared.table.KeyedTable.{KeyedTable}

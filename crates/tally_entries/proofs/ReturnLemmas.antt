@@ -8,8 +8,8 @@ use Rattle.sqlite_value.specs.declared.value.Value.TheVariants.{Text}
 use Rattle.sqlite_value.specs.Order.{Row, column}
 use Rattle.sqlite.specs.State.{State}
 use Rattle.sqlite.proofs.Callers.{one_permutation}
-use Rattle.tally_rows.specs.Rows.{cells, has_key, others, AreRowsOf}
-use Rattle.tally_rows.proofs.RowsLemmas.{AreKeyedBy, add_rows, put_rows, same_rows, rows_of_key}
+use Rattle.tally_schema.specs.Rows.{cells, has_key, others, AreRowsOf}
+use Rattle.tally_schema.proofs.RowsLemmas.{AreKeyedBy, add_rows, put_rows, same_rows, rows_of_key}
 use Rattle.tally_rules.specs.Constituency.{Constituency}
 use Rattle.tally_returns.specs.Return.{StationReturn, Returns as StationReturns}
 use Rattle.tally_statements.specs.declared.table.KeyedTable.TheVariants.{Returns, Counts}

@@ -10,7 +10,7 @@ use Rattle.sqlite_value.specs.Order.{Row}
 use Rattle.sqlite_value.proofs.OrderLemmas.{value_cmp_total}
 use Rattle.sqlite.proofs.Callers.{one_permutation}
 use Rattle.sqlite.specs.State.{State}
-use Rattle.tally_rows.specs.Rows.{has_key}
+use Rattle.tally_schema.specs.Rows.{has_key}
 use Rattle.tally_schema.specs.Cells.{flag}
 use Rattle.tally_statements.specs.declared.table.KeyedTable.TheVariants.{Cons}
 use Rattle.tally_statements.specs.Office.{rows_in}

@@ -8,9 +8,9 @@ use Rattle.std.specs.List.Sorted.{IsPermutation}
 use Rattle.sqlite_value.specs.Order.{Row}
 use Rattle.sqlite.specs.declared.error.Error.{Error}
 use Rattle.sqlite.specs.State.{State}
-use Rattle.tally_rows.specs.Cells.{wide_number_of}
-use Rattle.tally_rows.specs.Rows.{text_cmp, has_key, AreRowsOf}
-use Rattle.tally_rows.proofs.RowsLemmas.{AreKeyedBy, rows_of_key}
+use Rattle.tally_schema.specs.Values.{wide_number_of}
+use Rattle.tally_schema.specs.Rows.{text_cmp, has_key, AreRowsOf}
+use Rattle.tally_schema.proofs.RowsLemmas.{AreKeyedBy, rows_of_key}
 use Rattle.tally_returns.specs.Counts.{VoteCounts}
 use Rattle.tally_returns.specs.State.{ConState}
 use Rattle.tally_schema.specs.Cells.{flag}

@@ -12,8 +12,8 @@ use Rattle.sqlite_keyed.proofs.ListLemmas.{all_weaker}
 use Rattle.sqlite_value.specs.Order.{Row}
 use Rattle.sqlite.specs.declared.error.Error.{Error}
 use Rattle.sqlite.specs.State.{State as Seen}
-use Rattle.tally_rows.specs.Cells.{number_of}
-use Rattle.tally_rows.specs.Rows.{text_cmp}
+use Rattle.tally_schema.specs.Values.{number_of}
+use Rattle.tally_schema.specs.Rows.{text_cmp}
 use Rattle.tally_rules.specs.Constituency.{Constituency}
 use Rattle.tally_rules.specs.Limits.{IsConstituency}
 use Rattle.tally_rules.specs.Setup.{constituency_with}

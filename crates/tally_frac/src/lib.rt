@@ -12,10 +12,7 @@ mod share;
 mod threshold;
 
 pub use divisors::{DHondt, DivisorRule, Divisors, ModifiedSainteLague, SainteLague};
-pub use limits::{
-    GREATEST_DIVISOR, MOST_CANDIDATES, MOST_CONSTITUENCIES, MOST_ELECTORS, MOST_LISTS,
-    MOST_PROFILES, MOST_SEATS, MOST_STATIONS, MOST_VOTES, WHOLE_BASE,
-};
+pub use limits::{GREATEST_DIVISOR, MOST_LISTS, MOST_SEATS, MOST_VOTES, WHOLE_BASE};
 pub use list_set::ListSet;
 pub use rank::{RankKey, votes_rank_above};
 pub use share::Share;

@@ -64,7 +64,9 @@ POST /con/c1/certify = OnCon(Certify) Some("c1")
 POST /con/c1/reopen = OnCon(Reopen) Some("c1")
 POST /con/c1/vacate = OnCon(Vacate) Some("c1")
 POST /con/c1/import = Import(Comma) Some("c1")
-POST /con/c1/import/semicolon = Import(Semicolon) Some("c1")"#;
+POST /con/c1/import/semicolon = Import(Semicolon) Some("c1")
+POST /con/c1/trial = Trial(Comma) Some("c1")
+POST /con/c1/trial/semicolon = Trial(Semicolon) Some("c1")"#;
 
 const OTHER_METHODS: &str = "POST /progress = no method
 POST /station/s1 = no method
@@ -88,6 +90,8 @@ GET /con/c1/reopen = no method
 GET /con/c1/vacate = no method
 GET /con/c1/import = no method
 GET /con/c1/import/semicolon = no method
+GET /con/c1/trial = no method
+GET /con/c1/trial/semicolon = no method
 PUT /progress = no method
 HEAD /progress = no method
 get /progress = no method
@@ -132,6 +136,7 @@ GET /con/c1/Tally = no route
 GET /con/c1/%74ally = no route
 POST /con/c1/lodge = no route
 POST /con/c1/import/comma = no route
+POST /con/c1/trial/comma = no route
 POST /con/c1/import/semicolon/ = no route";
 
 #[test]

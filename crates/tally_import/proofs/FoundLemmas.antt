@@ -1,12 +1,12 @@
 -- What is found in a text, by the records that came of it.
-use Rattle.std.proofs.Common.{◌≡◌, ◌<◌, ◌≤◌, ◌∷◌, ◌∙◌, ℕ, List, false, Option, Some, None, Result, Ok, Err, length, refl, sym, ap, arith, inl, inr}
+use Rattle.std.proofs.Common.{◌≡◌, ◌<◌, ◌≤◌, ◌∷◌, ◌∙◌, ℕ, List, Bool, false, Option, Some, None, Result, Ok, Err, length, refl, sym, ap, arith, inl, inr}
 use Rattle.std.specs.Prelude.{◌⊎◌, IfSome, IfOk, IfErr, String, string_bytes, nat_lt, option_map, if◌then◌else◌}
 use Rattle.std.specs.declared.alloc.Global.{Global}
 use Rattle.std.proofs.lemmas.Bool.{lt-ltb}
 use Rattle.std.proofs.lemmas.Bool.Decides.{nat_tests}
 use Rattle.tally_keeper.specs.Source.{row_limit}
 use Rattle.tally_import.specs.Header.{header_lists}
-use Rattle.tally_import.specs.Check.{Found, check_fault, check_text, records_result, result_at_end, under_header, rows_of_records}
+use Rattle.tally_import.specs.Check.{Checked, Found, check_fault, records_result, result_at_end, under_header, rows_of_records, text_of}
 use Rattle.tally_records.specs.Input.{AreAll}
 use Rattle.tally_import.specs.internal.Progress.{HasTaken}
 use Rattle.tally_import.specs.internal.Rounds.{FindsCheckText, ImportsRecords, ended_import}
@@ -23,20 +23,20 @@ Found-memory sep None left fault is = tt
 Found-memory sep (Some t) left fault is = inl is
 
 pub Found-fault : (sep : Sep) (text left : Option (List ℕ)) (records : List (List (List ℕ))) (stop : Option Stop) (fault : CheckFault)
-    → AreAll sep text left records stop → ◌≡◌ {A = Result (List ℕ) CheckFault} (records_result records stop) (Err fault)
+    → AreAll sep text left records stop → ◌≡◌ {A = Result Checked CheckFault} (records_result records stop) (Err fault)
     → IfSome text (λ t. (fault ≡ Memory) ⊎ Found sep t left (λ f. f ≡ Err fault))
 Found-fault sep None left records stop fault all is = tt
 Found-fault sep (Some t) left records stop fault all is = inr (all.0, stop, all.1, ap (λ r. records_result r stop) all.2 ∙ is)
 
 -- a first record that is no header
 pub no-lists : (header : List (List ℕ)) (records : List (List (List ℕ))) (stop : Option Stop) → header_lists header ≡ None
-    → ◌≡◌ {A = Result (List ℕ) CheckFault} (records_result (header ∷ records) stop) (Err BadHeader)
+    → ◌≡◌ {A = Result Checked CheckFault} (records_result (header ∷ records) stop) (Err BadHeader)
 no-lists header records stop none = ap (λ o. under_header o records stop) none
 
 -- rows under a header: too many, or stopped
 pub under-fault : (header : List (List ℕ)) (lists : List (List ℕ)) (records : List (List (List ℕ))) (stop : Option Stop) (fault : CheckFault)
     → Some lists ≡ header_lists header → ((fault ≡ TooLong) × (row_limit < length records)) ⊎ ((option_map check_fault stop ≡ Some fault) × (length records ≤ row_limit))
-    → ◌≡◌ {A = Result (List ℕ) CheckFault} (records_result (header ∷ records) stop) (Err fault)
+    → ◌≡◌ {A = Result Checked CheckFault} (records_result (header ∷ records) stop) (Err fault)
 under-fault header lists records stop fault named (inl many) =
     ap (λ o. under_header o records stop) (sym named)
     ∙ ap (λ b. if b then Err TooLong else result_at_end lists records stop) (lt-ltb row_limit (length records) many.1) ∙ ap Err (sym many.0)
@@ -44,7 +44,7 @@ under-fault header lists records stop fault named (inr stopped) =
     ap (λ o. under_header o records stop) (sym named)
     ∙ ap (λ b. if b then Err TooLong else result_at_end lists records stop) (not_more (length records) stopped.1) ∙ end stop stopped.0
   where
-    end : (s : Option Stop) → option_map check_fault s ≡ Some fault → ◌≡◌ {A = Result (List ℕ) CheckFault} (result_at_end lists records s) (Err fault)
+    end : (s : Option Stop) → option_map check_fault s ≡ Some fault → ◌≡◌ {A = Result Checked CheckFault} (result_at_end lists records s) (Err fault)
     end None same = cc
     end (Some s) same = ap Err (let is : ◌≡◌ {A = CheckFault} (check_fault s) fault = cc in is)
 
@@ -69,12 +69,12 @@ Found-rows sep text left header lists n fault AreRows named all (inl memory) = F
 Found-rows sep text left header lists n fault AreRows named all (inr found) =
     Found-fault sep text left (header ∷ found.0) found.1 fault (all found.0 found.1 found.2) (under-fault header lists found.0 found.1 fault named found.3)
 
--- what a check text that was made of an import shows of the text
-pub Found-text : (sep : Sep) (text left : Option (List ℕ)) (header : List (List ℕ)) (lists : List (List ℕ)) (rows : List (List (List ℕ))) (result : Result (String Global) CheckFault)
+-- what the text that was made of an import shows of the text that was read
+pub Found-text : (lines : Bool) (sep : Sep) (text left : Option (List ℕ)) (header : List (List ℕ)) (lists : List (List ℕ)) (rows : List (List (List ℕ))) (result : Result (String Global) CheckFault)
     → Some lists ≡ header_lists header → AreAll sep text left (header ∷ rows) None → length rows ≤ row_limit
-    → IfOk result (λ s. string_bytes s ≡ check_text lists (rows_of_records (length lists) rows)) → IfErr result (λ fault. fault ≡ Memory)
-    → IfSome text (λ t. FindsCheckText sep t left result)
-Found-text sep None left header lists rows result named all few shown fault = tt
-Found-text sep (Some t) left header lists rows (Ok s) named all few shown fault =
-    (all.0, None, all.1, ap (λ r. records_result r None) all.2 ∙ examined-whole (header ∷ rows) header rows lists (string_bytes s) refl named few shown)
-Found-text sep (Some t) left header lists rows (Err f) named all few shown fault = inl fault
+    → IfOk result (λ s. string_bytes s ≡ text_of lines (record { lists = lists; rows = rows_of_records (length lists) rows })) → IfErr result (λ fault. fault ≡ Memory)
+    → IfSome text (λ t. FindsCheckText lines sep t left result)
+Found-text lines sep None left header lists rows result named all few shown fault = tt
+Found-text lines sep (Some t) left header lists rows (Ok s) named all few shown fault =
+    (all.0, None, all.1, (record { lists = lists; rows = rows_of_records (length lists) rows }, ap (λ r. records_result r None) all.2 ∙ examined-whole header rows lists named few, shown))
+Found-text lines sep (Some t) left header lists rows (Err f) named all few shown fault = inl fault

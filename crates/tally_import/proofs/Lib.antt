@@ -1,6 +1,7 @@
 pub mod HeaderLemmas
 pub mod NumberLemmas
 pub mod CountLemmas
+pub mod NamedLemmas
 pub mod FoundLemmas
 pub mod TotalsLemmas
 pub mod ProgressLemmas

@@ -1,5 +1,5 @@
 -- The table of an import, and the rows that it has taken.
-use Rattle.std.proofs.Common.{◌≡◌, ◌≤◌, ◌++◌, ◌∷◌, ◌∙◌, ℕ, List, [], cond, Option, Some, Result, Ok, length, sym, ap, subst}
+use Rattle.std.proofs.Common.{◌≡◌, ◌≤◌, ◌+◌, ◌++◌, ◌∷◌, ◌∙◌, ℕ, List, [], cond, Option, Some, Result, Ok, length, sym, ap, subst, arith}
 use Rattle.std.specs.Prelude.{nat_eq}
 use Rattle.std.specs.Cmp.{eq_by_cmp_equiv}
 use Rattle.std.specs.Cmp.Lexicographic.{pointwise, nat_list_cmp_total, texts_ties}
@@ -14,11 +14,12 @@ use Rattle.tally_returns.specs.Return.{first_return}
 use Rattle.tally_rules.specs.declared.constituency.Entry.TheVariants.{Single}
 use Rattle.tally_returns.specs.Lodge.{Stations, limits_for, lodge, lodge_answer, after_lodge, reply_at_station}
 use Rattle.tally_keeper.specs.Import.{row_answer, after_row, returns_after_import, count_of, lodged_counts}
+use Rattle.tally_keeper.specs.NamedRows.{named_row, named_rows}
 use Rattle.tally_keeper.specs.declared.import.Row.{Row}
 use Rattle.tally_returns.specs.declared.refusal.Refusal.{Refusal}
 use Rattle.tally_returns.specs.declared.reply.LodgeReply.{LodgeReply}
 use Rattle.tally_returns.specs.declared.reply.LodgeReply.TheVariants.{Lodged}
-use Rattle.tally_keeper.proofs.RowsLemmas.{imported-push, answers-push, length-answers, lodged_counts-push, length-lodged_counts}
+use Rattle.tally_keeper.proofs.RowsLemmas.{imported-push, answers-push, length-answers, lodged_counts-push, length-lodged_counts, named_rows-push}
 use Rattle.tally_import.specs.Check.{every_code}
 use Rattle.tally_import.specs.internal.Totals.{AreTotals}
 use Rattle.tally_import.specs.internal.Progress.{Table, Holds, Taken, HasTaken, stations, taken_answers}
@@ -60,9 +61,11 @@ pub HasTaken-push : (taken : Taken) (old new : Import) (r : Row)
     → new.count ≡ count_of (taken_answers taken ++ row_answer (stations taken) (returns_after_import (stations taken) map.empty taken.rows) r ∷ [])
     → AreTotals taken.lists (lodged_counts taken.rows (taken_answers taken)
     ++ lodged_counts (r ∷ []) (row_answer (stations taken) (returns_after_import (stations taken) map.empty taken.rows) r ∷ [])) new.totals
+    → new.named.items ≡ old.named.items ++ named_row (length taken.rows + 1) r (row_answer (stations taken) (returns_after_import (stations taken) map.empty taken.rows) r)
     → HasTaken (record taken { rows = taken.rows ++ r ∷ [] }) new
-HasTaken-push taken old new r h lists held count totals =
+HasTaken-push taken old new r h lists held count totals named =
     let s = stations taken in
+    let answer = row_answer s (returns_after_import s map.empty taken.rows) r in
     let answers = answers-push s map.empty taken.rows r in
     record {
       few = h.few;
@@ -72,6 +75,10 @@ HasTaken-push taken old new r h lists held count totals =
       totals = subst (λ l. AreTotals taken.lists l new.totals)
           (sym (ap (lodged_counts (taken.rows ++ r ∷ [])) answers
           ∙ lodged_counts-push taken.rows (taken_answers taken) r _ (length-answers s map.empty taken.rows))) totals;
+      named = named
+          ∙ ap (λ l. l ++ named_row (length taken.rows + 1) r answer) h.named
+          ∙ ap (λ n. named_rows 1 taken.rows (taken_answers taken) ++ named_row n r answer) (omega arith)
+          ∙ sym (ap (named_rows 1 (taken.rows ++ r ∷ [])) answers ∙ named_rows-push 1 taken.rows (taken_answers taken) r answer (length-answers s map.empty taken.rows));
     }
 
 -- fewer returns were lodged than rows taken

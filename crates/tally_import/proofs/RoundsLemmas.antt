@@ -9,7 +9,7 @@ use Rattle.std.specs.Prelude.{nat_lt}
 use Rattle.tally_keeper.specs.Source.{row_limit}
 use Rattle.tally_import.specs.Header.{header_lists}
 use Rattle.tally_import.specs.declared.check.CheckFault.TheVariants.{TooLong}
-use Rattle.tally_import.specs.Check.{rows_of_records, every_code, records_result, under_header, check_text}
+use Rattle.tally_import.specs.Check.{rows_of_records, every_code, records_result, under_header}
 use Rattle.tally_import.specs.Rows.{row_of}
 use Rattle.tally_import.specs.internal.Progress.{HasTaken}
 use Rattle.tally_import.specs.declared.import.Import.{Import}
@@ -30,16 +30,13 @@ pub more-taken : (lists : ℕ) (records : List (List (List ℕ))) (new : Import)
 more-taken lists records new fields row is h =
     subst (λ rs. HasTaken (record { lists = lists; rows = rs }) new) (ap (λ r. rows_of_records lists records ++ r ∷ []) is ∙ sym (rows-more lists records fields)) h
 
--- the check text of a whole text
-pub examined-whole : (records : List (List (List ℕ))) (header : List (List ℕ)) (rest : List (List (List ℕ))) (lists : List (List ℕ)) (text : List ℕ)
-    → records ≡ header ∷ rest → Some lists ≡ header_lists header → length rest ≤ row_limit
-    → text ≡ check_text lists (rows_of_records (length lists) rest)
-    → records_result records None ≡ Ok text
-examined-whole records header rest lists text is named few shown =
-    ap (λ rs. records_result rs None) is
-    ∙ ap (λ o. under_header o rest None) (sym named)
-    ∙ ap (λ b. if b then Err TooLong else Ok (check_text lists (rows_of_records (length lists) rest))) (not_more (length rest) few)
-    ∙ ap Ok (sym shown)
+-- what a whole text is
+pub examined-whole : (header : List (List ℕ)) (rest : List (List (List ℕ))) (lists : List (List ℕ))
+    → Some lists ≡ header_lists header → length rest ≤ row_limit
+    → records_result (header ∷ rest) None ≡ Ok (record { lists = lists; rows = rows_of_records (length lists) rest })
+examined-whole header rest lists named few =
+    ap (λ o. under_header o rest None) (sym named)
+    ∙ ap (λ b. if b then Err TooLong else Ok (record { lists = lists; rows = rows_of_records (length lists) rest })) (not_more (length rest) few)
   where
     not_more : (n : ℕ) → n ≤ row_limit → nat_lt row_limit n ≡ false
     not_more n few = grind (arith, nat_tests)

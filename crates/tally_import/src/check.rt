@@ -4,7 +4,8 @@ ghost use Rattle.std.specs.Prelude.{◌≡◌, ◌≤◌, Bool, List, [], ◌∷
 ghost use Rattle.std.specs.Prelude.{Err, IfErr, IfSome, OnOk};
 ghost use Rattle.std.specs.Io.KnownBytes.{Appends};
 ghost use Rattle.tally_frac.specs.Limits.{most_lists};
-ghost use Rattle.tally_import.specs.Check.{Checks, IsSilent, check_result, no_header};
+ghost use Rattle.tally_import.specs.Check.{Checked, Checks, IsSilent, check_result, no_header};
+ghost use Rattle.tally_import.specs.Check.{text_of};
 ghost use Rattle.tally_import.specs.Header.{header_lists};
 ghost use Rattle.tally_records.specs.Given.{IsReadingOn, WatchAgrees};
 ghost use Rattle.tally_records.specs.Watch.{flag_after_stop, has_failed};
@@ -83,6 +84,8 @@ impl CheckFault {
 /// Checks a text of returns, and writes how many of its rows were lodged, the same again, of
 /// differing returns, refused and bad, the first row that was neither of the first two, and the
 /// totals of the returns that were lodged. Every code counts as a station of 1,000,000 electors.
+/// With `lines` it writes after this a line for each row that was neither lodged nor the same, with
+/// what was wrong with it.
 ///
 /// The text is CSV (after RFC 4180, with this separator), of at most 16 MiB and 20,000 rows under
 /// its header. The fault that comes first in its bytes is answered. Nothing is written before the
@@ -92,17 +95,18 @@ pub fn check_csv<R: Read, W: Write>(
     reader: &mut R,
     writer: &mut W,
     sep: Sep,
+    lines: bool,
 ) -> Result<(), CheckFault>
     ensures written { OnOk result (IfSome (R.remaining reader.old) (λ text.
-        (t : List ℕ) × (check_result sep text None ≡ Ok t)
-        × Appends (W.contents writer.old) (W.contents writer.new) t)) }
+        (c : Checked) × (check_result sep text None ≡ Ok c)
+        × Appends (W.contents writer.old) (W.contents writer.new) (text_of lines c))) }
     ensures answered { IfSome (R.remaining reader.old) (λ text.
-        Checks sep text (R.remaining reader.new)
+        Checks lines sep text (R.remaining reader.new)
         (W.contents writer.old) (W.contents writer.new) result) }
     ensures silent { IsSilent (W.contents writer.old) (W.contents writer.new) result }
 {
     let (mut reads, mut writes) = (Watch::new(), Watch::new());
-    check_watched(alloc, reader, &mut reads, writer, &mut writes, sep)
+    check_watched(alloc, reader, &mut reads, writer, &mut writes, sep, lines)
 }
 
 /// The same with a watch on each stream: a failed read is answered only where one of the reader's
@@ -115,12 +119,13 @@ pub fn check_watched<R: Read, W: Write>(
     writer: &mut W,
     writes: &mut Watch<W>,
     sep: Sep,
+    lines: bool,
 ) -> Result<(), CheckFault>
     ensures written { OnOk result (IfSome (R.remaining reader.old) (λ text.
-        (t : List ℕ) × (check_result sep text None ≡ Ok t)
-        × Appends (W.contents writer.old) (W.contents writer.new) t)) }
+        (c : Checked) × (check_result sep text None ≡ Ok c)
+        × Appends (W.contents writer.old) (W.contents writer.new) (text_of lines c))) }
     ensures answered { IfSome (R.remaining reader.old) (λ text.
-        Checks sep text (R.remaining reader.new)
+        Checks lines sep text (R.remaining reader.new)
         (W.contents writer.old) (W.contents writer.new) result) }
     ensures silent { IsSilent (W.contents writer.old) (W.contents writer.new) result }
     ensures read { result ≡ Err cause.Read → has_failed reads.new ≡ true }
@@ -128,37 +133,39 @@ pub fn check_watched<R: Read, W: Write>(
     ensures write { result ≡ Err cause.Write → has_failed writes.new ≡ true }
     ensures all_written { OnOk result (has_failed writes.new ≡ has_failed writes.old) }
 {
-    match checked_text(alloc, reader, reads, sep) {
+    match checked_text(alloc, reader, reads, sep, lines) {
         Ok(text) => write_watched(writer, writes, text.as_bytes()),
         Err(fault) => Err(fault),
     }
 }
 
-/// The check text of a reader's text, or the fault that comes first.
+/// What is written of a reader's text, or the fault that comes first.
 fn checked_text<R: Read>(
     alloc: Global,
     reader: &mut R,
     watch: &mut Watch<R>,
     sep: Sep,
+    lines: bool,
 ) -> Result<String, CheckFault>
     ensures finds { IfSome (R.remaining reader.old) (λ text.
-        FindsCheckText sep text (R.remaining reader.new) result) }
+        FindsCheckText lines sep text (R.remaining reader.new) result) }
     ensures read { IfErr result (λ fault. IsOfReading fault (has_failed watch.new)) }
     ensures all_read { OnOk result (has_failed watch.new ≡ has_failed watch.old) }
 {
     let mut records = Records::new(alloc, reader, watch, sep)?;
-    text_of_records(alloc, reader, watch, &mut records)
+    text_of_records(alloc, reader, watch, &mut records, lines)
 }
 
-/// The check text of records, of which none was given.
+/// What is written of records, of which none was given.
 fn text_of_records<R: Read>(
     alloc: Global,
     reader: &mut R,
     watch: &mut Watch<R>,
     records: &mut Records,
+    lines: bool,
 ) -> Result<String, CheckFault>
     requires { IsReadingOn records.old }
-    ensures finds { FindsAfter []
+    ensures finds { FindsAfter lines []
         records.old (R.remaining reader.old) (R.remaining reader.new) result }
     ensures read { (before : Bool) → WatchAgrees before records.old (has_failed watch.old)
         → IfErr result (λ fault. IsOfReading fault (has_failed watch.new)) }
@@ -172,21 +179,22 @@ fn text_of_records<R: Read>(
     let Some(lists) = lists_in_header(alloc, &header)? else {
         return Err(CheckFault::BadHeader);
     };
-    text_under_header(alloc, reader, watch, records, lists.as_slice())
+    text_under_header(alloc, reader, watch, records, lists.as_slice(), lines)
 }
 
-/// The check text of the records after a header of these lists.
+/// What is written of the records after a header of these lists.
 fn text_under_header<R: Read>(
     alloc: Global,
     reader: &mut R,
     watch: &mut Watch<R>,
     records: &mut Records,
     lists: &[Code],
+    lines: bool,
 ) -> Result<String, CheckFault>
     requires reading { IsReadingOn records.old }
     requires few { length lists.now ≤ most_lists }
     ensures finds { (header : List (List ℕ)) → Some lists.now ≡ header_lists header
-        → FindsAfter (header ∷ [])
+        → FindsAfter lines (header ∷ [])
         records.old (R.remaining reader.old) (R.remaining reader.new) result }
     ensures read { (before : Bool) → WatchAgrees before records.old (has_failed watch.old)
         → IfErr result (λ fault. IsOfReading fault (has_failed watch.new)) }
@@ -194,7 +202,7 @@ fn text_under_header<R: Read>(
         → OnOk result (has_failed watch.new ≡ before) }
 {
     match check_rows(alloc, reader, watch, records, lists.len()) {
-        Ok(import) => import_text(alloc, lists, &import),
+        Ok(import) => import_text(alloc, lists, &import, lines),
         Err(fault) => Err(fault),
     }
 }

@@ -1,8 +1,10 @@
 //! An import into the empty map, in which every code is a station.
 
-ghost use Rattle.std.specs.Prelude.{◌≡◌, ◌+◌, ◌≤◌, ◌++◌, List, [], ◌∷◌, length, Some, IfOk, OnOk};
+ghost use Rattle.std.specs.Prelude.{◌≡◌, ◌+◌, ◌≤◌, ◌++◌, List, [], ◌∷◌, length, IfOk};
+ghost use Rattle.std.specs.Prelude.{OnOk};
 ghost use Rattle.tally_frac.specs.Limits.{most_lists};
 ghost use Rattle.tally_keeper.specs.Import.{after_row, lodged_counts, RowAnswer, count_of, or_else};
+ghost use Rattle.tally_keeper.specs.NamedRows.{named_row};
 ghost use Rattle.tally_keeper.specs.Source.{row_limit};
 ghost use Rattle.tally_returns.specs.Lodge.{lodge};
 ghost use Rattle.tally_keeper.specs.declared.import.Row.{Row};
@@ -12,11 +14,11 @@ ghost use Rattle.tally_import.specs.internal.Notes.{with_row};
 use crate::totals::{Totals, add_return, no_totals};
 use std::alloc::{AllocError, Global};
 use std::collections::HashMap;
-use tally_frac::MOST_ELECTORS;
 use tally_keeper::{
-    Ask, Counts, FirstRow, ImportCount, LodgeReply, Refusal, Return, Row, decide_lodge,
+    Ask, Counts, FirstRow, ImportCount, LodgeReply, NamedRow, Refusal, Return, Row, decide_lodge,
+    name_bad, name_refused,
 };
-use tally_rules::Code;
+use tally_rules::{Code, MOST_ELECTORS};
 
 /// How far an import has come.
 #[derive(Drop)]
@@ -29,6 +31,8 @@ pub(crate) struct Import {
     pub(crate) count: ImportCount,
     /// The totals of the returns that were lodged.
     pub(crate) totals: Totals,
+    /// The rows that were neither lodged nor there already.
+    pub(crate) named: Vec<NamedRow>,
 }
 
 impl Import {
@@ -47,6 +51,7 @@ impl Import {
             returns: HashMap::new(alloc),
             count: ImportCount::new(),
             totals: no_totals(alloc, lists)?,
+            named: Vec::new(alloc),
         })
     }
 
@@ -60,20 +65,26 @@ impl Import {
             → number ≡ length taken.rows + 1
             → HasTaken (record taken { rows = taken.rows ++ row ∷ [] }) self.new) }
     {
-        let Row::Lodge(ask) = row else {
-            count_row(&mut self.count, number, None);
-            return Ok(());
-        };
-        let answer = self.lodge_row(alloc, ask)?;
-        count_row(&mut self.count, number, answer);
-        Ok(())
+        match row {
+            Row::Lodge(ask) => {
+                let answer = self.lodge_row(alloc, number, ask)?;
+                count_row(&mut self.count, number, answer);
+                Ok(())
+            }
+            Row::Bad(why) => {
+                name_bad(&mut self.named, number, why)?;
+                count_row(&mut self.count, number, None);
+                Ok(())
+            }
+        }
     }
 
-    /// Lodges what a Lodge brings. Another request has no answer. It takes one layer off, which the
-    /// prover needs.
+    /// Lodges what a Lodge brings, and names the row where that is refused. Another request has no
+    /// answer. It takes one layer off, which the prover needs.
     fn lodge_row(
         &mut self,
         alloc: Global,
+        number: u32,
         ask: Ask,
     ) -> Result<Option<Result<LodgeReply, Refusal>>, AllocError>
         requires lists { self.old.lists ≤ most_lists }
@@ -84,6 +95,8 @@ impl Import {
             (λ returns. after_row (every_code self.old.lists) returns (Row.Lodge ask))) }
         ensures totals { IfOk result (λ answer. TotalsRise self.old.lists self.old.totals
             (lodged_counts (Row.Lodge ask ∷ []) (answer ∷ [])) self.new.totals) }
+        ensures named { IfOk result (λ answer. self.new.named.items
+            ≡ self.old.named.items ++ named_row number (Row.Lodge ask) answer) }
         ensures lists { self.new.lists ≡ self.old.lists }
         ensures count { self.new.count ≡ self.old.count }
     {
@@ -96,6 +109,7 @@ impl Import {
             return Ok(None);
         };
         let answer = self.lodge(alloc, station, slip, counts)?;
+        name_refused(&mut self.named, number, station, &answer)?;
         Ok(Some(answer))
     }
 
@@ -115,6 +129,7 @@ impl Import {
             (λ returns. lodge (every_code self.old.lists) returns station slip counts)) }
         ensures totals { IfOk result (λ answer. TotalsRise self.old.lists self.old.totals
             (lodged_of counts answer) self.new.totals) }
+        ensures named { self.new.named ≡ self.old.named }
         ensures lists { self.new.lists ≡ self.old.lists }
         ensures count { self.new.count ≡ self.old.count }
     {

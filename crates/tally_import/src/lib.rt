@@ -5,6 +5,7 @@ mod check;
 mod header;
 mod import;
 pub mod laws;
+mod lines;
 mod output;
 mod return_rows;
 pub mod room;
@@ -13,6 +14,7 @@ mod summary;
 mod totals;
 
 pub use check::{CheckFault, check_csv, check_watched};
+pub use lines::{LINE_ROOM, list_codes, push_lines};
 pub use output::{write_text, write_watched};
 pub use return_rows::ReturnRows;
 pub use tally_records::{Sep, Watch};

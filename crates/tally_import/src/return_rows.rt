@@ -36,7 +36,7 @@ use std::collections::BTreeSet;
 use std::io::Read;
 use std::marker::Model;
 use std::snapshot::Snapshot;
-use tally_keeper::{Given, ImportFault, ROW_LIMIT, Row, RowSource};
+use tally_keeper::{BadRow, Given, ImportFault, ROW_LIMIT, Row, RowSource};
 use tally_records::{End, Records, Sep, Stop, Watch, field};
 use tally_rules::{Code, Constituency, ListEntry, Station};
 
@@ -435,13 +435,13 @@ fn station_row(
     ensures row { IfOk result IsLodgeOrBad }
 {
     if fields.len() != lists + FIXED_NAMES {
-        return Ok(Row::Bad);
+        return Ok(Row::Bad(BadRow::Fields(fields.len())));
     }
     let Some(station) = Code::new(field(fields, 0)) else {
-        return Ok(Row::Bad);
+        return Ok(Row::Bad(BadRow::BadStation));
     };
     if !stations.contains(&station) {
-        return Ok(Row::Bad);
+        return Ok(Row::Bad(BadRow::NoStation));
     }
     row_of(alloc, lists, fields)
 }

@@ -41,7 +41,9 @@ pub fn push_number(text: &mut String, name: &str, number: u32)
 /// Appends the six lines of an import to a text that has room for them.
 pub fn push_count(text: &mut String, count: &ImportCount)
     requires { string_len text.old + COUNT_ROOM ≤ string_capacity text.old }
-    ensures { string_bytes text.new ≡ string_bytes text.old ++ count_text count.now }
+    ensures bytes { string_bytes text.new ≡ string_bytes text.old ++ count_text count.now }
+    ensures len { string_len text.new ≤ string_len text.old + COUNT_ROOM }
+    ensures room { string_capacity text.old ≤ string_capacity text.new }
 {
     push_number(text, "lodged", count.lodged);
     push_number(text, "same", count.same);
@@ -53,7 +55,9 @@ pub fn push_count(text: &mut String, count: &ImportCount)
 
 fn push_first(text: &mut String, first: Option<FirstRow>)
     requires { string_len text.old + 32 ≤ string_capacity text.old }
-    ensures { string_bytes text.new ≡ string_bytes text.old ++ first_text first }
+    ensures bytes { string_bytes text.new ≡ string_bytes text.old ++ first_text first }
+    ensures len { string_len text.new ≤ string_len text.old + 32 }
+    ensures room { string_capacity text.old ≤ string_capacity text.new }
 {
     match first {
         Some(first) => push_row(text, first),
@@ -63,7 +67,10 @@ fn push_first(text: &mut String, first: Option<FirstRow>)
 
 fn push_row(text: &mut String, first: FirstRow)
     requires { string_len text.old + 32 ≤ string_capacity text.old }
-    ensures { string_bytes text.new ≡ string_bytes text.old ++ first_text (Some first) }
+    ensures bytes { string_bytes text.new
+        ≡ string_bytes text.old ++ first_text (Some first) }
+    ensures len { string_len text.new ≤ string_len text.old + 32 }
+    ensures room { string_capacity text.old ≤ string_capacity text.new }
 {
     let mut digits = Buffer::new();
     push(text, "first ");

@@ -1,16 +1,15 @@
 //! Rows of returns.
 
-ghost use Rattle.std.specs.Prelude.{◌≡◌, ◌≤◌, [], drop, option_map, Some, None, IfOk};
-ghost use Rattle.std.specs.Prelude.{if◌then◌else◌};
+ghost use Rattle.std.specs.Prelude.{◌≡◌, ◌≤◌, [], drop, map, Some, None, IfOk, if◌then◌else◌};
 ghost use Rattle.csv.specs.Records.{fields_of};
 ghost use Rattle.tally_frac.specs.Limits.{most_lists};
 ghost use Rattle.tally_import.specs.Check.{every_code};
-ghost use Rattle.tally_import.specs.Rows.{is_number_text, written_number, row_of, written_numbers};
+ghost use Rattle.tally_import.specs.Rows.{first_unread, is_number_text, row_of, written_number};
 
 use crate::header::FIXED_NAMES;
 use csv::ByteRecord;
 use std::alloc::{AllocError, Global};
-use tally_keeper::{Ask, Counts, Row};
+use tally_keeper::{Ask, BadRow, Column, Counts, Row};
 use tally_records::field;
 use tally_rules::Code;
 
@@ -23,23 +22,24 @@ pub(crate) fn row_of(alloc: Global, lists: usize, fields: &ByteRecord) -> Result
     ensures { IfOk result (λ row. row ≡ row_of (every_code lists) lists (fields_of fields.now)) }
 {
     if fields.len() != lists + FIXED_NAMES {
-        return Ok(Row::Bad);
+        return Ok(Row::Bad(BadRow::Fields(fields.len())));
     }
     let Some(station) = Code::new(field(fields, 0)) else {
-        return Ok(Row::Bad);
+        return Ok(Row::Bad(BadRow::BadStation));
     };
     let Some(slip) = Code::new(field(fields, 1)) else {
-        return Ok(Row::Bad);
+        return Ok(Row::Bad(BadRow::BadSlip));
     };
     let Some(blank) = written_number(field(fields, 2)) else {
-        return Ok(Row::Bad);
+        return Ok(Row::Bad(BadRow::BadNumber(Column::Blank)));
     };
     let Some(spoiled) = written_number(field(fields, 3)) else {
-        return Ok(Row::Bad);
+        return Ok(Row::Bad(BadRow::BadNumber(Column::Spoiled)));
     };
-    let Some(votes) = votes_of(alloc, lists, fields)? else {
-        return Ok(Row::Bad);
-    };
+    let mut votes = Vec::with_capacity(alloc, lists)?;
+    if let Some(place) = push_numbers(&mut votes, fields)? {
+        return Ok(Row::Bad(BadRow::BadNumber(Column::List(place))));
+    }
     Ok(Row::Lodge(Ask::Lodge {
         station,
         slip,
@@ -51,39 +51,24 @@ pub(crate) fn row_of(alloc: Global, lists: usize, fields: &ByteRecord) -> Result
     }))
 }
 
-/// The numbers of a record's fields after the fixed ones, one for each of so many lists, if they
-/// are all numbers.
-fn votes_of(
-    alloc: Global,
-    lists: usize,
-    fields: &ByteRecord,
-) -> Result<Option<Vec<u32>>, AllocError>
-    ensures { IfOk result (λ votes.
-        option_map (λ v. v.items) votes ≡ written_numbers (drop 4 (fields_of fields.now))) }
-{
-    let mut votes = Vec::with_capacity(alloc, lists)?;
-    if !push_numbers(&mut votes, fields)? {
-        return Ok(None);
-    }
-    Ok(Some(votes))
-}
-
-/// Puts the numbers of a record's fields after the fixed ones into an empty list, and answers
-/// whether they are all numbers. A call of its own leaves the registers to its loops, where most of
-/// a check's own time goes.
+/// Puts the numbers of a record's fields after the fixed ones into an empty list, up to the first
+/// that cannot be read, and answers the place of that one. A call of its own leaves the registers
+/// to its loops, where most of a check's own time goes.
 #[inline(never)]
-fn push_numbers(votes: &mut Vec<u32>, fields: &ByteRecord) -> Result<bool, AllocError>
+fn push_numbers(votes: &mut Vec<u32>, fields: &ByteRecord) -> Result<Option<usize>, AllocError>
     requires { votes.old.items ≡ [] }
-    ensures { IfOk result (λ all. (if all then Some votes.new.items else None)
-        ≡ written_numbers (drop 4 (fields_of fields.now))) }
+    ensures unread { IfOk result (λ place.
+        place ≡ first_unread 0 (drop 4 (fields_of fields.now))) }
+    ensures votes { IfOk result (λ place. place ≡ None
+        → votes.new.items ≡ map written_number (drop 4 (fields_of fields.now))) }
 {
     for place in FIXED_NAMES..fields.len() {
         let Some(n) = written_number(field(fields, place)) else {
-            return Ok(false);
+            return Ok(Some(place - FIXED_NAMES));
         };
         votes.push(n)?;
     }
-    Ok(true)
+    Ok(None)
 }
 
 /// The number that a text of 1 to 9 digits writes.

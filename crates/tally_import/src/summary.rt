@@ -2,44 +2,57 @@
 
 ghost use Rattle.std.specs.Prelude.{◌≡◌, ◌++◌, List, length, string_bytes, IfOk, IfErr, OnOk};
 ghost use Rattle.tally_returns.specs.Counts.{VoteCounts};
-ghost use Rattle.tally_import.specs.Check.{check_text, named_number, totals_text};
+ghost use Rattle.tally_import.specs.Check.{named_number, text_of, totals_text};
 ghost use Rattle.tally_import.specs.internal.Progress.{HasTaken, Taken};
 ghost use Rattle.tally_import.specs.internal.Totals.{AreTotals};
 
 use crate::check::CheckFault;
 use crate::import::Import;
+use crate::lines::push_lines;
 use crate::room::{COUNT_ROOM, push_count};
 use crate::totals::Totals;
 use std::alloc::{AllocError, Global};
 use tally_rules::Code;
 
-/// The check text of an import under a header of these lists, or the fault Memory.
+/// What is written of an import under a header of these lists, with lines of its rows or without,
+/// or the fault Memory.
 pub(crate) fn import_text(
     alloc: Global,
     lists: &[Code],
     import: &Import,
+    lines: bool,
 ) -> Result<String, CheckFault>
     requires lists { import.now.lists ≡ length lists.now }
     requires totals { length import.now.totals.votes.items ≡ length lists.now }
     ensures text { IfOk result (λ text. (taken : Taken) → HasTaken taken import.now
-        → string_bytes text ≡ check_text lists.now taken.rows) }
+        → string_bytes text
+        ≡ text_of lines (record { lists = lists.now; rows = taken.rows })) }
     ensures fault { IfErr result (λ fault. fault ≡ CheckFault.Memory) }
 {
-    match check_text(alloc, lists, import) {
+    match text_of(alloc, lists, import, lines) {
         Ok(text) => Ok(text),
         Err(AllocError) => Err(CheckFault::Memory),
     }
 }
 
-fn check_text(alloc: Global, lists: &[Code], import: &Import) -> Result<String, AllocError>
+fn text_of(
+    alloc: Global,
+    lists: &[Code],
+    import: &Import,
+    lines: bool,
+) -> Result<String, AllocError>
     requires lists { import.now.lists ≡ length lists.now }
     requires totals { length import.now.totals.votes.items ≡ length lists.now }
     ensures { IfOk result (λ text. (taken : Taken) → HasTaken taken import.now
-        → string_bytes text ≡ check_text lists.now taken.rows) }
+        → string_bytes text
+        ≡ text_of lines (record { lists = lists.now; rows = taken.rows })) }
 {
     let mut text = String::with_capacity(alloc, COUNT_ROOM)?;
     push_count(&mut text, &import.count);
     push_totals(&mut text, lists, &import.totals)?;
+    if lines {
+        push_lines(&mut text, lists, &import.named)?;
+    }
     Ok(text)
 }
 

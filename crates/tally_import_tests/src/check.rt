@@ -29,6 +29,9 @@ blank 2
 spoiled 1
 A 80
 B 100
+row 4 7 differs s2
+row 5 0 bad_number A
+row 6 6 too_many_votes s4
 ";
 
 /// Whether the check of what a reader gives writes just this, with this fault after it or none.
@@ -40,7 +43,7 @@ fn comes_to(
     fault: Option<CheckFault>,
 ) -> bool {
     let mut output = Vec::new(alloc);
-    let found = check_csv(alloc, &mut reader, &mut output, sep).err();
+    let found = check_csv(alloc, &mut reader, &mut output, sep, true).err();
     output.as_slice() == text && found == fault
 }
 
@@ -115,7 +118,7 @@ fn fills_room(alloc: Global, left: usize, fails: bool) -> bool {
         left,
         fails,
     };
-    let answer = check_csv(alloc, &mut reader, &mut writer, Sep::Comma);
+    let answer = check_csv(alloc, &mut reader, &mut writer, Sep::Comma, true);
     // a writer that fails once it is full fails to flush too
     let wanted = if left == CHECKED.len() && !fails {
         Ok(())

@@ -14,7 +14,7 @@ use tally_scripts::{
 // The rows that `TWO_ROWS_AND_A_PIECE` gives before a read fails.
 const CUT_ROWS: &str = "\
 Ok(Some(Lodge(Lodge { station: \"s1\", slip: \"p1\", counts: Counts { votes: [10, 20], blank: 0, spoiled: 0 } })))
-Ok(Some(Bad))
+Ok(Some(Bad(NoStation)))
 Err(Read)
 Err(Read)
 ";
@@ -37,7 +37,7 @@ fn constituency(alloc: Global, book: &Book) -> Result<Constituency, Fail> {
 /// What the check of what a reader gives comes to, as text. It has to write nothing.
 fn checked(alloc: Global, mut reader: Failing<'_>) -> Result<String, Fail> {
     let mut output = Vec::new(alloc);
-    let outcome = check_csv(alloc, &mut reader, &mut output, Sep::Comma);
+    let outcome = check_csv(alloc, &mut reader, &mut output, Sep::Comma, true);
     if !output.is_empty() {
         return Err(Fail::from("a check with a fault has written"));
     }

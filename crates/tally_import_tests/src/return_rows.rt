@@ -33,8 +33,8 @@ s2,p3,0,0,900,40
 
 const ROWS: &str = "\
 Ok(Some(Lodge(Lodge { station: \"s1\", slip: \"p1\", counts: Counts { votes: [10, 20], blank: 1, spoiled: 2 } })))
-Ok(Some(Bad))
-Ok(Some(Bad))
+Ok(Some(Bad(NoStation)))
+Ok(Some(Bad(BadNumber(List(0)))))
 Ok(Some(Lodge(Lodge { station: \"s2\", slip: \"p3\", counts: Counts { votes: [900, 40], blank: 0, spoiled: 0 } })))
 Ok(None)
 Ok(None)

@@ -6,7 +6,7 @@ use crate::setups::fresh;
 use std::alloc::Global;
 use std::test::*;
 use tally_core::{Ask, Book, ImportFault, Keeper, Row, RowSource};
-use tally_keeper::Given;
+use tally_keeper::{BadRow, Given};
 use tally_scripts::{TWIN_TOWN, check_answers, command};
 
 /// Gives rows of these commands, the last first; then it ends, or its reads fail.
@@ -57,7 +57,7 @@ fn row_of(ask: Ask) -> Row
         counts,
     } = ask
     else {
-        return Row::Bad;
+        return Row::Bad(BadRow::Fields(0));
     };
     Row::Lodge(Ask::Lodge {
         station,
@@ -84,12 +84,19 @@ fn rows_of_text(alloc: Global, text: &str, fails: bool) -> Result<Script, Fail> 
 /// What an import of these rows into a keeper comes to, as text.
 fn imported(alloc: Global, book: &mut Book, text: &str, fails: bool) -> Result<String, Fail> {
     let mut rows = rows_of_text(alloc, text, fails)?;
-    let outcome = book.lodge_from(&mut rows);
+    let outcome = book.lodge_from(&mut rows, &mut Vec::new(alloc));
     Ok(format!(in alloc; "{outcome:?}")?)
 }
 
-/// Fails where it comes to something else, of a new keeper to which the lines of a script come
-/// first, or where the lines of another script have other answers then.
+/// What a trial of that import comes to, as text.
+fn tried(alloc: Global, book: &mut Book, text: &str, fails: bool) -> Result<String, Fail> {
+    let mut rows = rows_of_text(alloc, text, fails)?;
+    let outcome = book.trial_from(&mut rows, &mut Vec::new(alloc));
+    Ok(format!(in alloc; "{outcome:?}")?)
+}
+
+/// Fails where it, or a trial before it, comes to something else, of a new keeper to which the
+/// lines of a script come first, or where the lines of another script have other answers then.
 fn check_import(
     alloc: Global,
     before: &str,
@@ -100,8 +107,9 @@ fn check_import(
 ) -> Result<(), Fail> {
     let mut book = fresh(alloc, TWIN_TOWN)?;
     check_answers(alloc, &mut book, before)?;
+    let trial = tried(alloc, &mut book, rows, fails)?;
     let got = imported(alloc, &mut book, rows, fails)?;
-    if got.as_str() != wanted {
+    if trial.as_str() != wanted || got.as_str() != wanted {
         return Err(Fail::from(got));
     }
     check_answers(alloc, &mut book, after)

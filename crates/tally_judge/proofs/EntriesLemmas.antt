@@ -8,9 +8,9 @@ use Rattle.std.proofs.lemmas.List.Elements.{recursion_from_All, All-from_recursi
 use Rattle.sqlite_keyed.proofs.ListLemmas.{all_weaker}
 use Rattle.sqlite_trees.specs.Tree.{IsAscending}
 use Rattle.sqlite_value.specs.Order.{Row}
-use Rattle.tally_rows.specs.Rows.{text_cmp}
-use Rattle.tally_rows.proofs.RowsLemmas.{text_total, text_exact, text_same, keys_rise}
-use Rattle.tally_rows.proofs.StatementLemmas.{equal_is}
+use Rattle.tally_schema.specs.Rows.{text_cmp}
+use Rattle.tally_schema.proofs.RowsLemmas.{text_total, text_exact, text_same, keys_rise}
+use Rattle.tally_schema.proofs.StatementLemmas.{equal_is}
 use Rattle.tally_rules.specs.Code.{is_code}
 use Rattle.tally_rules.specs.Constituency.{Constituency}
 use Rattle.tally_returns.specs.Return.{StationReturn, Returns}

@@ -5,11 +5,11 @@ use Rattle.std.specs.Ordering.{eq_by_cmp, is_eq, ordering_reverse}
 use Rattle.std.specs.FinMap.{find, insert, from_entries, from_entries_push}
 use Rattle.std.proofs.lemmas.List.{take_all, take_more}
 use Rattle.sqlite_trees.specs.Tree.{IsAscending}
-use Rattle.tally_rows.specs.Rows.{text_cmp}
-use Rattle.tally_rows.proofs.RowsLemmas.{text_total, text_exact, keys_rise}
+use Rattle.tally_schema.specs.Rows.{text_cmp}
+use Rattle.tally_schema.proofs.RowsLemmas.{text_total, text_exact, keys_rise}
 use Rattle.tally_rules.specs.Constituency.{Constituency}
 use Rattle.tally_returns.specs.Return.{StationReturn, Returns}
-use Rattle.tally_ledger.specs.Kept.{Kept, opening_kept}
+use Rattle.tally_keeper.specs.Kept.{Kept, opening_kept}
 use Rattle.tally_judge.specs.internal.Entries.{rises}
 use Rattle.tally_judge.proofs.OrderLemmas.{sorted_from_rises}
 

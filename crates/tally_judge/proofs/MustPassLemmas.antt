@@ -19,7 +19,7 @@ use Rattle.tally_steps.proofs.VacancyLemmas.{allotted-sum}
 use Rattle.tally_returns.specs.GoneCandidate.{GoneCandidate}
 use Rattle.tally_returns.specs.PastSeats.{PastSeats}
 use Rattle.tally_returns.specs.View.{View}
-use Rattle.tally_rows.specs.Cells.{number_of}
+use Rattle.tally_schema.specs.Values.{number_of}
 use Rattle.tally_tables.proofs.ItemLemmas.{number_reads, IsRead}
 use Rattle.tally_tables.proofs.ConLemmas.{IsReadableGone, IsReadablePast, IsReadableView}
 use Rattle.tally_tables.proofs.LawfulLemmas.{note_is_text}

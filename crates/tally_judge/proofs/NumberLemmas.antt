@@ -11,8 +11,8 @@ use Rattle.tally_rules.specs.Code.{code_cmp}
 use Rattle.tally_rules.specs.Constituency.{Constituency}
 use Rattle.tally_rules.specs.Limits.{IsSetup}
 use Rattle.tally_rules.specs.Setup.{constituency_with}
-use Rattle.tally_ledger.proofs.SetupLemmas.{Has, con-found}
-use Rattle.tally_ledger.specs.Kept.{Kept, seats_in, state_in, view_in}
+use Rattle.tally_keeper.proofs.SetupLemmas.{Has, con-found}
+use Rattle.tally_keeper.specs.Kept.{Kept, seats_in, state_in, view_in}
 use Rattle.tally_returns.proofs.ClosedLemmas.{same-tied, tied-same}
 use Rattle.tally_returns.specs.Progress.{is_received, is_queried, is_corrected, is_closed, count_with_status}
 use Rattle.tally_returns.specs.Return.{Returns}

@@ -22,12 +22,12 @@ use Rattle.tally_returns.specs.PastSeats.{PastSeats}
 use Rattle.tally_returns.specs.Return.{Returns}
 use Rattle.tally_returns.specs.State.{State, ConState, GoneCandidates, PastRecords, con_state, opening_con}
 use Rattle.tally_returns.specs.View.{View, view_with, view_of, gone_candidate, past_record}
-use Rattle.tally_ledger.specs.Kept.{Kept, view_in}
+use Rattle.tally_keeper.specs.Kept.{Kept, view_in}
 use Rattle.tally_steps.specs.LawfulState.{IsUnderPlaces, IsLawfulIn, IsLawfulState}
 use Rattle.tally_steps.specs.Outcome.{IsLawfulCon, IsLawfulView, HasSeats}
 use Rattle.tally_steps.proofs.ViewLemmas.{constituency-code}
-use Rattle.tally_rows.specs.Rows.{text_cmp}
-use Rattle.tally_rows.proofs.RowsLemmas.{text_total, keys_rise}
+use Rattle.tally_schema.specs.Rows.{text_cmp}
+use Rattle.tally_schema.proofs.RowsLemmas.{text_total, keys_rise}
 use Rattle.tally_tables.specs.Cells.{item_row, items_of, con_rows, lot_rows, seat_rows, gone_row, gone_rows, record_rows, total_rows, past_rows}
 use Rattle.tally_judge.specs.internal.Found.{IsLawfulFound, gone_places, past_edition, same_numbers}
 use Rattle.tally_judge.specs.internal.Entries.{rises, rises_on, key_of, AreReturnsOf}

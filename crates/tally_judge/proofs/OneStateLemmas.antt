@@ -13,7 +13,7 @@ use Rattle.tally_returns.specs.View.{view_with, gone_candidate, gone_candidates,
 use Rattle.tally_returns.specs.Return.{Returns}
 use Rattle.tally_steps.specs.LawfulState.{IsUnderPlaces, IsLawfulState}
 use Rattle.tally_steps.specs.LawStatements.{ViewsAreLawful}
-use Rattle.tally_rows.specs.Rows.{text_cmp}
+use Rattle.tally_schema.specs.Rows.{text_cmp}
 use Rattle.tally_tables.proofs.ConLemmas.{gone_entry, past_entry}
 use Rattle.tally_judge.specs.OfficeRows.{RowsInOrder, AreOfficeRows, AreLawfulRows, AreRowsOfOneState}
 use Rattle.tally_judge.proofs.LedgerLemmas.{kept_of}

@@ -18,13 +18,13 @@ use Rattle.tally_rules.specs.Limits.{IsSetup}
 use Rattle.tally_rules.specs.Setup.{constituency_with}
 use Rattle.tally_returns.specs.State.{State, ConState, con_state, opening_con}
 use Rattle.tally_returns.specs.View.{View, view_with, view_of, gone_candidate, gone_candidates, past_record, past_records}
-use Rattle.tally_ledger.specs.Kept.{Kept, view_in}
+use Rattle.tally_keeper.specs.Kept.{Kept, view_in}
 use Rattle.tally_steps.specs.LawfulState.{IsUnderPlaces, IsLawfulState}
 use Rattle.tally_steps.specs.LawStatements.{ViewsAreLawful}
 use Rattle.tally_steps.specs.Outcome.{IsLawfulView}
 use Rattle.tally_steps.proofs.ViewLemmas.{constituency-code, constituency-limits}
-use Rattle.tally_rows.specs.Rows.{text_cmp}
-use Rattle.tally_rows.proofs.RowsLemmas.{keys_rise}
+use Rattle.tally_schema.specs.Rows.{text_cmp}
+use Rattle.tally_schema.proofs.RowsLemmas.{keys_rise}
 use Rattle.tally_tables.specs.Cells.{item_row, items_of, con_rows, lot_rows, seat_rows, gone_row, gone_rows, record_rows, total_rows, past_rows}
 use Rattle.tally_judge.specs.internal.Found.{IsLawfulFound, gone_places, past_edition, same_numbers}
 use Rattle.tally_judge.specs.internal.Entries.{rises_on}

@@ -4,7 +4,7 @@ use Rattle.std.specs.Prelude.{All, bytes_eq, is_some}
 use Rattle.std.specs.List.{AllByRecursion}
 use Rattle.std.specs.Ordering.{is_lt, eq_by_cmp}
 use Rattle.std.proofs.lemmas.Bool.{false_from_ne_true}
-use Rattle.tally_rows.proofs.StatementLemmas.{equal_is}
+use Rattle.tally_schema.proofs.StatementLemmas.{equal_is}
 use Rattle.sqlite_trees.specs.Tree.{IsAscending}
 use Rattle.sqlite_value.specs.Order.{Row}
 use Rattle.std.specs.FinMap.{find, get, entries, entries_sorted, from_entries, from_sorted, get-entries, get-from_entries, entries-from_sorted, same_map}
@@ -19,7 +19,7 @@ use Rattle.tally_rules.specs.Constituency.{Constituency}
 use Rattle.tally_rules.specs.Limits.{IsConstituency, IsSetup, IsStation}
 use Rattle.tally_rules.specs.Setup.{all_stations, constituency_with, constituency_codes, station_with}
 use Rattle.tally_rules.specs.declared.constituency.Station.{Station}
-use Rattle.tally_ledger.specs.Kept.{Kept, opening_kept, view_in}
+use Rattle.tally_keeper.specs.Kept.{Kept, opening_kept, view_in}
 use Rattle.tally_steps.specs.LawfulState.{IsLawfulState}
 use Rattle.tally_steps.specs.LawStatements.{ViewsAreLawful}
 use Rattle.tally_steps.proofs.ViewLemmas.{found-has, found-passes}
@@ -27,8 +27,8 @@ use Rattle.tally_returns.specs.Decide.{limits_of}
 use Rattle.tally_returns.specs.Return.{StationReturn, Returns}
 use Rattle.tally_returns.specs.State.{State, ConState}
 use Rattle.tally_returns.specs.View.{View}
-use Rattle.tally_rows.specs.Rows.{text_cmp}
-use Rattle.tally_rows.proofs.RowsLemmas.{text_total, text_exact, keys_rise}
+use Rattle.tally_schema.specs.Rows.{text_cmp}
+use Rattle.tally_schema.proofs.RowsLemmas.{text_total, text_exact, keys_rise}
 use Rattle.tally_judge.specs.internal.Found.{AreAllLawful, AreLawfulCons, IsLawfulFound}
 use Rattle.tally_judge.specs.internal.Entries.{AreReturnsOf, IsLawfulEntry, IsLedgerOf, key_of, rises}
 use Rattle.tally_judge.specs.OfficeRows.{RowsInOrder, AreOfficeRows, AreLawfulRows}

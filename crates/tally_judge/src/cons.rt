@@ -6,14 +6,14 @@ ghost use Rattle.tally_judge.specs.internal.Entries.{is_below, rises, rises_on};
 ghost use Rattle.tally_judge.specs.internal.Found.{AreAllLawful, AreEachLawful, AreLawfulCons};
 ghost use Rattle.tally_judge.specs.internal.Found.{IsLawfulFound, gone_places, is_as_counted};
 ghost use Rattle.tally_judge.specs.internal.Found.{past_edition, same_numbers};
-ghost use Rattle.tally_rows.specs.Rows.{text_cmp};
+ghost use Rattle.tally_schema.specs.Rows.{text_cmp};
 ghost use Rattle.tally_tables.specs.Views.{tables_in};
 
 use crate::found::{ConFound, views_from};
 use crate::view::is_lawful_view;
 use sqlite::Row;
 use std::alloc::{AllocError, Global};
-use tally_ledger::Ledger;
+use tally_keeper::Ledger;
 use tally_returns::{ConView, Gone, Past};
 use tally_tables::ConTables;
 

@@ -1,17 +1,17 @@
 //! Constituencies that were read from whole tables.
 
 ghost use Rattle.std.specs.Prelude.{◌≡◌, IfOk, option_map};
-ghost use Rattle.tally_ledger.specs.Kept.{view_in};
+ghost use Rattle.tally_keeper.specs.Kept.{view_in};
 ghost use Rattle.tally_tables.specs.Views.{view_with_code, tables_in, views_from};
 ghost use Rattle.tally_judge.specs.internal.Found.{con_counted};
 
 use sqlite::Row;
 use std::alloc::{AllocError, Global};
 use std::marker::Model;
-use tally_ledger::Ledger;
+use tally_keeper::Ledger;
 use tally_returns::ConView;
-use tally_rows::text_at;
 use tally_rules::{Code, Constituency};
+use tally_schema::text_at;
 use tally_tables::{ConTables, statuses_of, view_from_tables};
 
 /// A constituency that was read: its code, and what is seen of it.

@@ -6,7 +6,7 @@ ghost use Rattle.tally_judge.specs.internal.Tree.{AreNumbered, numbers_at, with_
 
 use std::alloc::AllocError;
 use std::collections::BTreeMap;
-use tally_ledger::Ledger;
+use tally_keeper::Ledger;
 use tally_rules::Code;
 use tally_tables::{Statuses, statuses_of};
 

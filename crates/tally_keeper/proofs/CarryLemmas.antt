@@ -22,7 +22,7 @@ use Rattle.tally_returns.proofs.ClosedLemmas.{constituency_with-code}
 use Rattle.tally_steps.proofs.DecisionLemmas.{edition-within, gone-once}
 use Rattle.tally_steps.proofs.RecordLemmas.{records-last}
 use Rattle.tally_steps.proofs.ViewLemmas.{view-lawful}
-use Rattle.tally_ledger.specs.Kept.{AreEarlier, Kept, state_in, view_in, with_change}
+use Rattle.tally_keeper.specs.Kept.{AreEarlier, Kept, state_in, view_in, with_change}
 use Rattle.tally_keeper.specs.internal.Held.{CanCarryOut, CanRise, IsAnsweredOn, IsHeld, carried_reply}
 use Rattle.tally_keeper.proofs.HeldLemmas.{change-state, con-kept, held-change}
 use Rattle.tally_keeper.proofs.StepLemmas.{memory-or}

@@ -45,7 +45,7 @@ use Rattle.tally_steps.proofs.DecisionLemmas.{certified-found, con_of-found, giv
 use Rattle.tally_steps.proofs.LawfulViewLemmas.{certified-seats, drawn-open}
 use Rattle.tally_steps.proofs.LifeLemmas.{after_put-returns}
 use Rattle.tally_steps.proofs.ReturnStepLemmas.{open-station, opening-lawful, put-placed, return-step-lawful}
-use Rattle.tally_ledger.specs.Kept.{Kept, opening_kept, seats_in, state_in, view_in, with_change}
+use Rattle.tally_keeper.specs.Kept.{Kept, opening_kept, seats_in, state_in, view_in, with_change}
 use Rattle.tally_keeper.specs.internal.Held.{IsHeld, CarriesOutLodge, IsMoved, with_state}
 
 -- ---- the seats that are kept of a constituency

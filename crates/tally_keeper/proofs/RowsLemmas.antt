@@ -1,8 +1,10 @@
 -- The rows of an import, one more.
-use Rattle.std.proofs.Common.{◌≡◌, ◌≤◌, ◌++◌, ◌∷◌, suc, List, [], Some, Ok, length, refl, ap, arith}
+use Rattle.std.proofs.Common.{◌≡◌, ◌≤◌, ◌+◌, ◌++◌, ◌∷◌, ◌∙◌, ℕ, suc, List, [], Some, Ok, Err, length, length-append, refl, sym, ap, arith, append_assoc}
+use Rattle.std.proofs.lemmas.List.{append-nil}
 use Rattle.tally_returns.specs.Return.{Returns}
 use Rattle.tally_returns.specs.Lodge.{Stations}
 use Rattle.tally_keeper.specs.Import.{RowAnswer, row_answer, after_row, answers, returns_after_import, lodged_counts}
+use Rattle.tally_keeper.specs.NamedRows.{named_row, named_rows}
 use Rattle.tally_returns.specs.declared.ask.Ask.TheVariants.{Lodge}
 use Rattle.tally_returns.specs.declared.reply.LodgeReply.TheVariants.{Lodged}
 use Rattle.tally_keeper.specs.declared.import.Row.{Row}
@@ -35,3 +37,24 @@ length-lodged_counts [] answered = omega arith
 length-lodged_counts (q ∷ rows) [] = omega arith
 length-lodged_counts (row.Lodge (Lodge station slip counts) ∷ rows) (Some (Ok (Lodged rev)) ∷ answered) = omega (arith, length-lodged_counts rows answered)
 length-lodged_counts (q ∷ rows) (b ∷ answered) = omega (arith, length-lodged_counts rows answered)
+
+pub named_rows-push : (number : ℕ) (rows : List Row) (answered : List RowAnswer) (r : Row) (a : RowAnswer) → length answered ≡ length rows
+    → named_rows number (rows ++ r ∷ []) (answered ++ a ∷ []) ≡ named_rows number rows answered ++ named_row (number + length rows) r a
+named_rows-push number [] [] r a same = append-nil (named_row number r a) ∙ ap (λ n. named_row n r a) (omega arith)
+named_rows-push number [] (b ∷ answered) r a same = absurd (omega arith)
+named_rows-push number (q ∷ rows) [] r a same = absurd (omega arith)
+named_rows-push number (q ∷ rows) (b ∷ answered) r a same =
+    ap (λ l. named_row number q b ++ l)
+    (named_rows-push (number + 1) rows answered r a (omega arith) ∙ ap (λ n. named_rows (number + 1) rows answered ++ named_row n r a) (omega arith))
+    ∙ sym (append_assoc (named_row number q b) (named_rows (number + 1) rows answered) (named_row (number + length (q ∷ rows)) r a))
+
+named_row-one : (number : ℕ) (r : Row) (a : RowAnswer) → length (named_row number r a) ≤ 1
+named_row-one number (row.Bad why) a = omega arith
+named_row-one number (row.Lodge (Lodge station slip counts)) (Some (Err refusal)) = omega arith
+named_row-one number r a = omega arith
+
+pub length-named_rows : (number : ℕ) (rows : List Row) (answered : List RowAnswer) → length (named_rows number rows answered) ≤ length rows
+length-named_rows number [] answered = omega arith
+length-named_rows number (q ∷ rows) [] = omega arith
+length-named_rows number (q ∷ rows) (b ∷ answered) =
+    omega (arith, length-append (named_row number q b) (named_rows (number + 1) rows answered), named_row-one number q b, length-named_rows (number + 1) rows answered)

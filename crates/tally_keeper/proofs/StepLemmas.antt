@@ -31,7 +31,7 @@ use Rattle.tally_returns.specs.declared.reply.Reply.{Reply}
 use Rattle.tally_returns.specs.declared.reply.Reply.TheVariants.{Moved}
 use Rattle.tally_returns.proofs.ClosedLemmas.{station_with-con}
 use Rattle.tally_returns.proofs.DecideLemmas.{passed-first, passed-rest}
-use Rattle.tally_ledger.specs.Kept.{Kept, state_in, view_in, with_no_lot}
+use Rattle.tally_keeper.specs.Kept.{Kept, state_in, view_in, with_no_lot}
 use Rattle.tally_keeper.specs.internal.Held.{IsAnsweredInMemory, IsHeld, CarriesOutLodge, IsMoved, is_query, moves_return, with_state}
 use Rattle.tally_steps.proofs.DecisionLemmas.{certified-found, changed-step, con_of-found, decided-named}
 use Rattle.tally_keeper.proofs.HeldLemmas.{lodge-step}

@@ -1,24 +1,27 @@
 -- An import, so far.
 use Rattle.std.proofs.Common.{◌≡◌, ◌≤◌, ◌⊎◌, inl, inr, ◌+◌, ◌++◌, ◌∷◌, ◌∙◌, ℕ, List, [], Option, Some, None, Result, Ok, Err, length, refl, sym, ap, subst, arith, append-nil, append_assoc, length-append}
-use Rattle.std.specs.Prelude.{All, IfSome}
+use Rattle.std.specs.Prelude.{All, IfErr, IfOk, IfSome}
 use Rattle.std.proofs.lemmas.List.Elements.{All-head, All-nil, All-push, All-tail}
-use Rattle.tally_ledger.specs.Kept.{Kept, state_in}
+use Rattle.tally_keeper.specs.Kept.{Kept, state_in}
+use Rattle.tally_rules.specs.Constituency.{Constituency}
 use Rattle.tally_returns.specs.Lodge.{Stations, lodge}
 use Rattle.tally_returns.specs.Return.{Returns}
 use Rattle.tally_returns.specs.State.{State, stations_of}
 use Rattle.tally_returns.specs.declared.ask.Ask.TheVariants.{Lodge}
-use Rattle.tally_keeper.specs.internal.Held.{IsHeld}
+use Rattle.tally_keeper.specs.internal.Held.{IsHeld, returns_without}
 use Rattle.tally_keeper.specs.Import.{RowAnswer, IsBelow, IsCodedRow, row_answer, after_row, answers, returns_after_import, count_of, count_with_row}
 use Rattle.tally_keeper.specs.Given.{with_given}
-use Rattle.tally_keeper.specs.Keeper.{IsImportFault, IsImportOf, IsOwnFault}
+use Rattle.tally_keeper.specs.Keeper.{IsImportFault, IsImportOf, IsOwnFault, Tries}
 use Rattle.tally_keeper.specs.Source.{AreAllGiven, AreGiven, Coming, Delivery, GaveAll, IsSudden, GivesNext, SourceAt, ends_by, row_limit}
+use Rattle.tally_keeper.specs.NamedRows.{NamesRows, named_row, named_rows}
 use Rattle.tally_keeper.specs.declared.import.ImportCount.{ImportCount}
+use Rattle.tally_keeper.specs.declared.import.NamedRow.{NamedRow}
 use Rattle.tally_keeper.specs.declared.import.Row.{Row}
 use Rattle.tally_keeper.specs.declared.import.Row.TheVariants as row
 use Rattle.tally_keeper.specs.declared.source.ImportFault.{ImportFault}
 use Rattle.tally_keeper.proofs.HeldLemmas.{held-lodge}
 use Rattle.tally_keeper.proofs.ImportLemmas.{count_of-below, count_of-push}
-use Rattle.tally_keeper.proofs.RowsLemmas.{imported-push, answers-push, length-answers}
+use Rattle.tally_keeper.proofs.RowsLemmas.{imported-push, answers-push, length-answers, named_rows-push}
 
 -- what a source answers to a call, its state before it and after it
 abbrev pub GivesAt : SourceAt → Result (Option Row) ImportFault → SourceAt → Type 0
@@ -86,16 +89,6 @@ all-taken None left rows taken ended = tt
 all-taken (Some known) left rows taken ended =
     let none = subst (λ l. IfSome l (λ (coming : Coming). (coming.rows ≡ []) × (coming.fault ≡ None))) taken.1 ended in
     (taken.2 ∙ ap (λ l. rows ++ l) none.0 ∙ append-nil rows, none.1)
-
--- the same of a keeper that has changed its returns alone
-pub SoFar-taken : (old mid : Kept) (new : Returns) (all left next : SourceAt) (count more : ImportCount) (many : ℕ) (r : Row) (answer : RowAnswer)
-    → SoFar (stations_of old.setup) old.returns mid.returns all left count many → mid ≡ record old { returns = mid.returns } → IsCodedRow r → GivesAt left (Ok (Some r)) next
-    → row_answer (stations_of mid.setup) mid.returns r ≡ answer → new ≡ after_row (stations_of mid.setup) mid.returns r → more ≡ count_with_row count (many + 1) answer
-    → SoFar (stations_of old.setup) old.returns new all next more (many + 1)
-SoFar-taken old mid new all left next count more many r answer h kept coded given answered changed counted_is =
-    let same = ap (λ (k : Kept). stations_of k.setup) (sym kept) in
-    SoFar-next (stations_of old.setup) old.returns mid.returns new all left next count more many r answer h coded given
-    (ap (λ stations. row_answer stations mid.returns r) same ∙ answered) (changed ∙ ap (λ stations. after_row stations mid.returns r) (sym same)) counted_is
 
 -- a keeper that has changed its returns alone, and does so again
 pub kept-next : (old mid new : Kept) → mid ≡ record old { returns = mid.returns } → new ≡ record mid { returns = new.returns } → new ≡ record old { returns = new.returns }
@@ -171,6 +164,60 @@ own-last d fault gave own = (gave.0, (gave.1.0, all d.start.coming gave.1.3), in
     all None are = tt
     all (Some coming) are = ([], are.0 ∙ sym (append-nil gave.0))
 
+-- ---- the rows that are named
+
+-- the same, and the rows that were named, after those that were named before
+pub record NamedSoFar (stations : Stations) (old now : Returns) (all left : SourceAt) (count : ImportCount) (many : ℕ) (before named : List NamedRow) : Type 0 where
+  pub so_far : SoFar stations old now all left count many
+  pub named_is : named ≡ before ++ named_rows 1 so_far.rows (answers stations old so_far.rows)
+
+pub NamedSoFar-start : (stations : Stations) (old : Returns) (all : SourceAt) (count : ImportCount) (before : List NamedRow) → count ≡ count_of [] → NamedSoFar stations old old all all count 0 before before
+unfolding SoFar-start
+NamedSoFar-start stations old all count before is = record { so_far = SoFar-start stations old all count is; named_is = sym (append-nil before) }
+
+-- one row more, and the row that is named of it
+named-push : (stations : Stations) (old now : Returns) (rows : List Row) (many : ℕ) (r : Row) (answer : RowAnswer) (before mid named : List NamedRow)
+    → length rows ≡ many → now ≡ returns_after_import stations old rows → row_answer stations now r ≡ answer
+    → mid ≡ before ++ named_rows 1 rows (answers stations old rows) → named ≡ mid ++ named_row (many + 1) r answer
+    → named ≡ before ++ named_rows 1 (rows ++ r ∷ []) (answers stations old (rows ++ r ∷ []))
+named-push stations old now rows many r answer before mid named many_are now_is answered was is =
+    let answered_so_far = answers stations old rows in
+    let at : many + 1 ≡ 1 + length rows = omega (arith, many_are) in
+    is ∙ ap (λ l. l ++ named_row (many + 1) r answer) was
+    ∙ append_assoc before (named_rows 1 rows answered_so_far) (named_row (many + 1) r answer)
+    ∙ ap (λ n. before ++ (named_rows 1 rows answered_so_far ++ named_row n r answer)) at
+    ∙ ap (λ l. before ++ l) (sym (named_rows-push 1 rows answered_so_far r answer (length-answers stations old rows)))
+    ∙ ap (λ a. before ++ named_rows 1 (rows ++ r ∷ []) (answered_so_far ++ a ∷ [])) (sym answered ∙ ap (λ m. row_answer stations m r) now_is)
+    ∙ ap (λ l. before ++ named_rows 1 (rows ++ r ∷ []) l) (sym (answers-push stations old rows r))
+
+pub NamedSoFar-next : (stations : Stations) (old now new : Returns) (all left next : SourceAt) (count more : ImportCount) (many : ℕ) (before mid named : List NamedRow) (r : Row) (answer : RowAnswer)
+    → NamedSoFar stations old now all left count many before mid → IsCodedRow r → GivesAt left (Ok (Some r)) next
+    → row_answer stations now r ≡ answer → new ≡ after_row stations now r → more ≡ count_with_row count (many + 1) answer → named ≡ mid ++ named_row (many + 1) r answer
+    → NamedSoFar stations old new all next more (many + 1) before named
+unfolding SoFar-next
+NamedSoFar-next stations old now new all left next count more many before mid named r answer h coded given answered changed counted_is named_is = record {
+  so_far = SoFar-next stations old now new all left next count more many r answer h.so_far coded given answered changed counted_is;
+  named_is = named-push stations old now h.so_far.rows many r answer before mid named h.so_far.many_are h.so_far.now_is answered h.named_is named_is;
+}
+
+-- the same of a keeper that has changed its returns alone
+pub NamedSoFar-taken : (old mid : Kept) (new : Returns) (all left next : SourceAt) (count more : ImportCount) (many : ℕ) (before was named : List NamedRow) (r : Row) (answer : RowAnswer)
+    → NamedSoFar (stations_of old.setup) old.returns mid.returns all left count many before was → mid ≡ record old { returns = mid.returns } → IsCodedRow r → GivesAt left (Ok (Some r)) next
+    → row_answer (stations_of mid.setup) mid.returns r ≡ answer → new ≡ after_row (stations_of mid.setup) mid.returns r → more ≡ count_with_row count (many + 1) answer
+    → named ≡ was ++ named_row (many + 1) r answer → NamedSoFar (stations_of old.setup) old.returns new all next more (many + 1) before named
+NamedSoFar-taken old mid new all left next count more many before was named r answer h kept coded given answered changed counted_is named_is =
+    let same = ap (λ (k : Kept). stations_of k.setup) (sym kept) in
+    NamedSoFar-next (stations_of old.setup) old.returns mid.returns new all left next count more many before was named r answer h coded given
+    (ap (λ stations. row_answer stations mid.returns r) same ∙ answered) (changed ∙ ap (λ stations. after_row stations mid.returns r) (sym same)) counted_is named_is
+
+-- where the source ends, these are all rows that are named
+pub NamedSoFar-end : (setup : List Constituency) (s : State) (now : Returns) (all left next : SourceAt) (count : ImportCount) (many : ℕ) (before named : List NamedRow)
+    → NamedSoFar (stations_of setup) s.returns now all left count many before named → many ≤ row_limit → GivesAt left (Ok None) next
+    → NamesRows setup (Some s) (record { start = all; finish = next }) before named
+NamedSoFar-end setup s now all left next count many before named h few given =
+    let so_far = h.so_far in
+    (so_far.rows, all-given all left next so_far.rows so_far.given so_far.taken (omega (arith, few, so_far.many_are)) given, h.named_is)
+
 -- an import leaves what a keeper in memory holds as it has to be
 imported-held : (k : Kept) (rows : List Row) → All IsCodedRow rows → IsHeld k → IsHeld (record k { returns = returns_after_import (stations_of k.setup) k.returns rows })
 imported-held k [] codes held = held
@@ -184,3 +231,17 @@ pub import-held : (old new : Kept) (d : Delivery) (count : ImportCount) → IsHe
     → IsImportOf old.setup (Some (state_in old)) d count (Some (state_in new)) → IsHeld new
 import-held old new d count held kept is =
     subst IsHeld (sym (kept ∙ ap (λ (s : State). record old { returns = s.returns }) is.3.3)) (imported-held old is.0 is.3.4 held)
+
+-- ---- trials
+
+-- without what a trial lodged there is what there was before it
+pub trial-undone : (old mid new : Kept) (lodged : List (List ℕ)) → mid ≡ record old { returns = mid.returns } → returns_without lodged mid.returns ≡ old.returns
+    → new ≡ record mid { returns = returns_without lodged mid.returns } → new ≡ old
+trial-undone old mid new lodged kept undone out =
+    out ∙ ap (λ (k : Kept). record k { returns = returns_without lodged mid.returns }) kept ∙ ap (λ m. record old { returns = m }) undone
+
+-- the import that was tried, or its fault, and the state of before
+pub trial-tries : (setup : List Constituency) (s after : State) (d : Delivery) (r : Result ImportCount ImportFault)
+    → IfOk r (λ count. IsImportOf setup (Some s) d count (Some after)) → IfErr r (IsImportFault d) → Tries setup (Some s) d r (Some s)
+trial-tries setup s after d (Ok count) imported fault = (Some after, imported, refl)
+trial-tries setup s after d (Err e) imported fault = (fault, refl)

@@ -116,3 +116,11 @@ Imports setup old d (Err fault) new =
 abbrev pub ImportsComing : List Constituency → Option State → Option Coming → Delivery
     → Result ImportCount ImportFault → Option State → Type 0
 ImportsComing setup old known d r new = (d.start.coming ≡ known) × Imports setup old d r new
+
+-- What the trial of an import comes to: what the import would come to, and the state stays. A fault
+-- is as that of an import.
+abbrev pub Tries : List Constituency → Option State → Delivery → Result ImportCount ImportFault
+    → Option State → Type 0
+Tries setup old d (Ok count) new =
+    (after : Option State) × IsImportOf setup old d count after × (new ≡ old)
+Tries setup old d (Err fault) new = Imports setup old d (Err fault) new

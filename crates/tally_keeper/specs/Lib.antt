@@ -1,4 +1,7 @@
 pub mod internal
+pub mod MapOf
+pub mod Kept
+pub mod MovedSum
 pub mod Delivery
 pub mod Events
 pub mod FaultNumbers
@@ -6,6 +9,7 @@ pub mod Given
 pub mod Held
 pub mod Import
 pub mod Keeper
+pub mod NamedRows
 pub mod Shown
 pub mod Source
 pub mod Stays

@@ -21,7 +21,7 @@ pub record Coming : Type 0 where
 abbrev pub IsLodgeOrBad : Row → Type 0
 IsLodgeOrBad (row.Lodge (Lodge station slip counts)) = Unit {0}
 IsLodgeOrBad (row.Lodge other) = ⊥
-IsLodgeOrBad row.Bad = Unit {0}
+IsLodgeOrBad (row.Bad cause) = Unit {0}
 
 -- a fault that may come at any row of a source: a read that failed, or out of memory
 abbrev pub IsSudden : ImportFault → Type 0

@@ -1,14 +1,107 @@
 //! Rows of an import, and the count of what they were answered.
 
-ghost use Rattle.std.specs.Prelude.{◌≡◌, ◌+◌, ◌<◌, ◌^◌, ◌++◌, List, [], ◌∷◌, length, Some};
+ghost use Rattle.std.specs.Prelude.{◌≡◌, ◌+◌, ◌<◌, ◌^◌, ◌++◌, ℕ, List, [], ◌∷◌, length, Some};
+ghost use Rattle.std.specs.Prelude.{IfOk, None, OnOk};
+ghost use Rattle.tally_returns.specs.Counts.{VoteCounts};
+ghost use Rattle.tally_keeper.specs.NamedRows.{named_row};
 
+use std::alloc::AllocError;
 use tally_returns::{Ask, LodgeReply, Refusal};
+use tally_rules::Code;
 
 /// A row of an import: a Lodge, or a row that cannot be read as one.
 #[derive(Debug, Drop)]
 pub enum Row {
     Lodge(Ask),
-    Bad,
+    Bad(BadRow),
+}
+
+/// Why a row cannot be read: the first of these causes, in this order.
+#[derive(Clone, Copy, Debug, PartialEq, Eq)]
+pub enum BadRow {
+    /// It has so many fields, and its header another number of them.
+    Fields(usize),
+    /// Its station is not a code.
+    BadStation,
+    /// Its station is not one of the constituency.
+    NoStation,
+    /// Its slip is not a code.
+    BadSlip,
+    /// The number in this column cannot be read, and those in the columns before it can.
+    BadNumber(Column),
+}
+
+/// A column of numbers.
+#[derive(Clone, Copy, Debug, PartialEq, Eq)]
+pub enum Column {
+    Blank,
+    Spoiled,
+    /// The votes of the list at this place of the header (from 0).
+    List(usize),
+}
+
+/// A row that was neither lodged nor there already, and why.
+#[derive(Clone, Copy, Debug, PartialEq, Eq)]
+pub struct NamedRow {
+    /// Its number, from 1.
+    pub row: u32,
+    pub cause: RowCause,
+}
+
+/// Why a row was neither lodged nor there already.
+#[derive(Clone, Copy, Debug, PartialEq, Eq)]
+pub enum RowCause {
+    /// It cannot be read.
+    Bad(BadRow),
+    /// The return of this station was refused.
+    Refused(Code, Refusal),
+}
+
+impl RowCause {
+    ghost use Rattle.tally_keeper.specs.NamedRows.{cause_number};
+
+    /// Its number: that of the refusal, or 0 of a bad row.
+    pub fn number(&self) -> u32
+        ensures { result ≡ cause_number self.now }
+    {
+        match self {
+            RowCause::Bad(_) => 0,
+            RowCause::Refused(_, refusal) => refusal.number(),
+        }
+    }
+}
+
+/// Names a row that cannot be read, which is answered nothing.
+pub fn name_bad(
+    named: &mut Vec<NamedRow>,
+    row: u32,
+    why: BadRow,
+) -> Result<Option<Result<LodgeReply, Refusal>>, AllocError>
+    ensures answer { IfOk result (λ answer. answer ≡ None) }
+    ensures named { OnOk result
+        (named.new.items ≡ named.old.items ++ named_row row (Row.Bad why) None) }
+{
+    let cause = RowCause::Bad(why);
+    named.push(NamedRow { row, cause })?;
+    Ok(None)
+}
+
+/// Names a row whose return, of this station, was refused, and no other.
+pub fn name_refused(
+    named: &mut Vec<NamedRow>,
+    row: u32,
+    station: Code,
+    answer: &Result<LodgeReply, Refusal>,
+) -> Result<(), AllocError>
+    ensures { OnOk result ((slip : List ℕ) (counts : VoteCounts)
+        → named.new.items ≡ named.old.items
+        ++ named_row row (Row.Lodge (Ask.Lodge station slip counts)) (Some answer.now)) }
+{
+    if let Err(refusal) = answer {
+        let cause = RowCause::Refused(station, *refusal);
+        named.push(NamedRow { row, cause })?;
+    }
+    Ok(())
 }
 
 /// The first row that was neither lodged nor there already.

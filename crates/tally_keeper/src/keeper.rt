@@ -1,6 +1,7 @@
 //! Keepers of the office's state.
 
 ghost use Rattle.std.specs.Prelude.{◌≡◌, [], List, Option, Some, IfErr, IfOk, IfSome};
+ghost use Rattle.std.specs.Prelude.{OnOk};
 ghost use Rattle.tally_rules.specs.Constituency.{Constituency};
 ghost use Rattle.tally_rules.specs.Setup.{constituency_with};
 ghost use Rattle.tally_returns.specs.State.{State};
@@ -8,13 +9,14 @@ ghost use Rattle.tally_returns.specs.View.{FitsView};
 ghost use Rattle.tally_steps.specs.Kinds.{IsReplyTo};
 ghost use Rattle.tally_steps.specs.LawfulState.{IsLawfulState};
 ghost use Rattle.tally_keeper.specs.Delivery.{delivery};
-ghost use Rattle.tally_keeper.specs.Keeper.{Happens, Imports, request};
+ghost use Rattle.tally_keeper.specs.Keeper.{Happens, Imports, Tries, request};
+ghost use Rattle.tally_keeper.specs.NamedRows.{NamesRows};
 ghost use Rattle.tally_keeper.specs.Shown.{AnswersShowCon, ShowsReturns};
 ghost use Rattle.tally_keeper.specs.Stays.{StaysBy};
 ghost use Rattle.tally_keeper.specs.declared.source.ImportFault.TheVariants as fault;
 ghost use Rattle.tally_returns.specs.declared.refusal.Refusal.TheVariants as refusal;
 
-use crate::import::ImportCount;
+use crate::import::{ImportCount, NamedRow};
 use crate::source::{ImportFault, RowSource};
 use tally_returns::{Ask, ConView, Refusal, Reply, StationRow};
 use tally_rules::{Code, Setup};
@@ -84,13 +86,39 @@ pub trait Keeper {
         ensures store { IfErr result (λ e. e ≡ refusal.Store → HasDatabase self.old) };
 
     /// Lodges the rows of a source one by one, all that it gives until its end and no others;
-    /// refused and bad ones are passed over. With a fault nothing has changed, unless a failed disk
-    /// shut the keeper at it. The fault is that with which the source ended, or the keeper's own:
-    /// out of memory, a database that refuses, or the 20,001st row of a source of unknown content.
-    fn lodge_from<R: RowSource>(&mut self, rows: &mut R) -> Result<ImportCount, ImportFault>
+    /// refused and bad ones are passed over, and added to `named`. With a fault nothing has
+    /// changed, unless a failed disk shut the keeper at it. The fault is that with which the source
+    /// ended, or the keeper's own: out of memory, also for a row to be named; a database that
+    /// refuses; or the 20,001st row of a source of unknown content. After a fault `named` is of no
+    /// use.
+    fn lodge_from<R: RowSource>(
+        &mut self,
+        rows: &mut R,
+        named: &mut Vec<NamedRow>,
+    ) -> Result<ImportCount, ImportFault>
         ensures stays { StaysBy constituencies content IsTrusted HasDatabase self.old self.new }
         ensures imported { IsTrusted self.new →
             Imports (constituencies self.old) (content self.old)
             (delivery R.RowSource rows.old rows.new) result (content self.new) }
+        ensures named { IsTrusted self.new → OnOk result
+            (NamesRows (constituencies self.old) (content self.old)
+            (delivery R.RowSource rows.old rows.new) named.old.items named.new.items) }
+        ensures store { IfErr result (λ e. e ≡ fault.Store → HasDatabase self.old) };
+
+    /// Answers what `lodge_from` would answer now, with the rows that it would name, and lodges
+    /// nothing: each row is judged over what the rows before it would have lodged. Nothing has
+    /// changed, unless a failed disk shut the keeper at it; then it is answered with a fault.
+    fn trial_from<R: RowSource>(
+        &mut self,
+        rows: &mut R,
+        named: &mut Vec<NamedRow>,
+    ) -> Result<ImportCount, ImportFault>
+        ensures stays { StaysBy constituencies content IsTrusted HasDatabase self.old self.new }
+        ensures tried { IsTrusted self.new →
+            Tries (constituencies self.old) (content self.old)
+            (delivery R.RowSource rows.old rows.new) result (content self.new) }
+        ensures named { IsTrusted self.new → OnOk result
+            (NamesRows (constituencies self.old) (content self.old)
+            (delivery R.RowSource rows.old rows.new) named.old.items named.new.items) }
         ensures store { IfErr result (λ e. e ≡ fault.Store → HasDatabase self.old) };
 }

@@ -7,16 +7,23 @@ mod fault;
 mod given;
 mod import;
 mod keeper;
+mod ledger;
+mod returns;
 mod runs;
 mod source;
+mod sums;
+mod views;
 
 pub use fault::{CreateFault, OpenFault};
 pub use given::Given;
-pub use import::{FirstRow, ImportCount, Row};
+pub use import::{
+    BadRow, Column, FirstRow, ImportCount, NamedRow, Row, RowCause, name_bad, name_refused,
+};
 pub use keeper::Keeper;
+pub use ledger::Ledger;
 pub use runs::run;
 pub use source::{ImportFault, ROW_LIMIT, RowSource};
-pub use tally_ledger::moved;
+pub use sums::moved;
 pub use tally_returns::{
     Ask, Change, ConView, Counts, Gone, ListSet, LodgeReply, Past, ProgressRow, Refusal, Reply,
     Return, StationRow, Status, decide_at, decide_lodge, decide_return,

@@ -26,7 +26,7 @@ use Rattle.clap.specs.declared.parser.matches.ArgMatches.TheViews.{out-SubComman
 use Rattle.clap.specs.declared.parser.matches.SubCommand.{SubCommand}
 use Rattle.std.specs.Box.{box_value}
 use Rattle.std.specs.Result.{IsErrAnd}
-use Rattle.tally_line.specs.Line.{IsRefusal, IsLineWithinLimits, LineSeen, NewSeen, ImportSeen, ShowSeen, ServeSeen, fault_from, LacksCon, is_out_of_memory, lacks_con, lacks_report, line_of, line_of_command, line_seen, number_in_range, number_given, office_app, report_of, sep_given, show_line, show_seen, usage_kinds}
+use Rattle.tally_line.specs.Line.{IsRefusal, IsLineWithinLimits, LineSeen, NewSeen, ImportSeen, ShowSeen, ServeSeen, fault_from, LacksCon, is_out_of_memory, is_set, lacks_con, lacks_report, line_of, line_of_command, line_seen, number_in_range, number_given, office_app, report_of, sep_given, show_line, show_seen, usage_kinds}
 use Rattle.tally_line.specs.internal.Arguments.{IsCommandFault, has, has_arguments}
 use Rattle.tally_line.specs.declared.line.Line.{Line}
 use Rattle.tally_line.specs.declared.line.Line.TheVariants as line
@@ -209,7 +209,10 @@ import_readable = (
     (refl, refl, inl refl),
     (
       (refl, refl, inl refl),
-      ((refl, (codes "true", refl, refl), inr (codes "false", refl, refl)), ((refl, tt, inl refl), tt)),
+      (
+        (refl, (codes "true", refl, refl), inr (codes "false", refl, refl)),
+        ((refl, (codes "true", refl, refl), inr (codes "false", refl, refl)), ((refl, tt, inl refl), tt)),
+      ),
     ),
   ),
 )
@@ -386,7 +389,7 @@ new_within (Some d) None = tt
 new_within (Some d) (Some s) = tt
 
 import_within : (db con csv : Option Text) (rows : List Row)
-    → OnFound IsSeenWithin (option_and_then (λ d. option_and_then (λ c. option_and_then (λ v. Some (ImportSeen d c v (sep_given rows))) csv) con) db)
+    → OnFound IsSeenWithin (option_and_then (λ d. option_and_then (λ c. option_and_then (λ v. Some (ImportSeen d c v (sep_given rows) (is_set (codes "rows") rows))) csv) con) db)
 import_within None con csv rows = tt
 import_within (Some d) None csv rows = tt
 import_within (Some d) (Some c) None rows = tt
@@ -431,9 +434,9 @@ is_some_text f None = refl
 is_some_text f (Some x) = refl
 
 seen_within : (l : Line) → IsSeenWithin (line_seen l) → IsLineWithinLimits l
-seen_within (line.Check sep) h = tt
+seen_within (line.Check sep rows) h = tt
 seen_within (line.New db setup) h = tt
-seen_within (line.Import db con csv sep) h = tt
+seen_within (line.Import db con csv sep rows) h = tt
 seen_within (line.Show db name con) h = λ needs. sym (is_some_text _ con) ∙ h needs
 seen_within (line.Serve db port count) h = h
 

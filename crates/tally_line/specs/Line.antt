@@ -28,12 +28,9 @@ use Rattle.tally_overview.specs.declared.shown.Shown.{Shown}
 
 -- ---- what the program offers
 
--- `--semicolon`, a flag
-abbrev pub semicolon_rule : Rule
-semicolon_rule = record (new_rule (codes "semicolon")) {
-  long = Some (codes "semicolon");
-  action = Some SetTrue;
-}
+-- `--NAME`, a flag
+abbrev pub flag_rule : Text → Rule
+flag_rule name = record (new_rule name) { long = Some name; action = Some SetTrue }
 
 -- `--NAME VALUE`, which may be left out
 abbrev pub value_rule : Text → Rule
@@ -47,9 +44,11 @@ wanted_rule name = record (value_rule name) { required = true }
 abbrev pub number_rule : Text → ℕ → ℕ → Rule
 number_rule name low high = record (wanted_rule name) { parser = Some (Unsigned low high) }
 
--- `check [--semicolon]`
+-- `check [--semicolon] [--rows]`
 abbrev pub check_app : App
-check_app = with_rule (new_app (codes "check")) semicolon_rule
+check_app =
+    with_rule (with_rule (new_app (codes "check")) (flag_rule (codes "semicolon")))
+    (flag_rule (codes "rows"))
 
 -- `new --db FILE --setup FILE`
 abbrev pub new_office_app : App
@@ -57,14 +56,15 @@ new_office_app =
     with_rule (with_rule (new_app (codes "new")) (wanted_rule (codes "db")))
     (wanted_rule (codes "setup"))
 
--- `--csv FILE [--semicolon]`, beside what there is
-abbrev pub with_csv : App → App
-with_csv app = with_rule (with_rule app (wanted_rule (codes "csv"))) semicolon_rule
+-- `import --db FILE --con CODE --csv FILE`
+abbrev pub bare_import_app : App
+bare_import_app = with_rule (with_rule (with_rule (new_app (codes "import"))
+    (wanted_rule (codes "db"))) (wanted_rule (codes "con"))) (wanted_rule (codes "csv"))
 
--- `import --db FILE --con CODE --csv FILE [--semicolon]`
+-- the same with `[--semicolon] [--rows]`
 abbrev pub import_app : App
-import_app = with_csv (with_rule (with_rule (new_app (codes "import"))
-    (wanted_rule (codes "db"))) (wanted_rule (codes "con")))
+import_app = with_rule (with_rule bare_import_app (flag_rule (codes "semicolon")))
+    (flag_rule (codes "rows"))
 
 -- `show --db FILE --report NAME [--con CODE]`
 abbrev pub show_app : App
@@ -129,17 +129,17 @@ report_of rows = option_and_then shown_named (first_of (codes "report") rows)
 
 -- A line as contracts see it: a text is its bytes, however a program keeps it.
 pub data LineSeen : Type 0 where
-  CheckSeen : Sep → LineSeen
+  CheckSeen : Sep → Bool → LineSeen
   NewSeen : Text → Text → LineSeen
-  ImportSeen : Text → Text → Text → Sep → LineSeen
+  ImportSeen : Text → Text → Text → Sep → Bool → LineSeen
   ShowSeen : Text → Shown → Option Text → LineSeen
   ServeSeen : Text → ℕ → ℕ → LineSeen
 
 abbrev pub line_seen : Line → LineSeen
-line_seen (line.Check sep) = CheckSeen sep
+line_seen (line.Check sep rows) = CheckSeen sep rows
 line_seen (line.New db setup) = NewSeen (string_bytes db) (string_bytes setup)
-line_seen (line.Import db con csv sep) =
-    ImportSeen (string_bytes db) (string_bytes con) (string_bytes csv) sep
+line_seen (line.Import db con csv sep rows) =
+    ImportSeen (string_bytes db) (string_bytes con) (string_bytes csv) sep rows
 line_seen (line.Show db name con) = ShowSeen (string_bytes db) name (option_map string_bytes con)
 line_seen (line.Serve db port count) = ServeSeen (string_bytes db) port count
 
@@ -152,6 +152,9 @@ infixl 10 ◌>>=◌
 abbrev pub ◌>>=◌ : {A B : Type 0} → Option A → (A → Option B) → Option B
 found >>= next = option_and_then next found
 
+abbrev pub check_line : List Row → Option LineSeen
+check_line rows = Some (CheckSeen (sep_given rows) (is_set (codes "rows") rows))
+
 abbrev pub new_line : List Row → Option LineSeen
 new_line rows = do
   db ← first_of (codes "db") rows
@@ -163,7 +166,7 @@ import_line rows = do
   db ← first_of (codes "db") rows
   con ← first_of (codes "con") rows
   csv ← first_of (codes "csv") rows
-  Some (ImportSeen db con csv (sep_given rows))
+  Some (ImportSeen db con csv (sep_given rows) (is_set (codes "rows") rows))
 
 -- a report, of the constituency that is named, where the report needs one
 abbrev pub show_seen : Text → Shown → Option Text → Option LineSeen
@@ -186,7 +189,7 @@ serve_line rows = do
 -- the line that a subcommand and the matches of its arguments are
 abbrev pub line_of_command : Text × List Row → Option LineSeen
 line_of_command p =
-    if bytes_eq p.0 (codes "check") then Some (CheckSeen (sep_given p.1))
+    if bytes_eq p.0 (codes "check") then check_line p.1
     else if bytes_eq p.0 (codes "new") then new_line p.1
     else if bytes_eq p.0 (codes "import") then import_line p.1
     else if bytes_eq p.0 (codes "show") then show_line p.1

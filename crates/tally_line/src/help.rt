@@ -58,7 +58,13 @@ What comes out:
               is none
   blank N     the blank votes of the lodged returns
   spoiled N   their spoiled votes
-  CODE N      the votes of each list, in the header's order";
+  CODE N      the votes of each list, in the header's order
+With --rows, after this a line for each row that was neither lodged nor same:
+  row R N WORD STATION  row R was refused: N and the word of the refusal are
+              4 bad_counts, 6 too_many_votes or 7 differs
+  row R 0 CAUSE         row R is bad, by the first of these causes:
+              fields F (it has F fields), bad_station, bad_slip, bad_number
+              blank, bad_number spoiled, bad_number CODE (that list's votes)";
 
 pub const CHECK_EXAMPLE: &str = "\
 Example:
@@ -91,6 +97,8 @@ Exit status:
        memory    the program is out of memory
        read      standard input cannot be read
        write     standard output takes no more; a part may be printed";
+
+pub const ROWS: &str = "Name each row that was neither lodged nor same, and why";
 
 pub const SEMICOLON: &str = "The fields are separated by semicolons instead of commas";
 
@@ -204,6 +212,7 @@ What goes in:
                header is station,slip,blank,spoiled and then the codes of the
                constituency's lists, in the order of the setup
   --semicolon  where the fields are separated by semicolons
+  --rows       where each row that was neither lodged nor same is to be named
 
 What comes out:
   lodged N    returns that were lodged, the first good one of each station
@@ -215,7 +224,14 @@ What comes out:
   bad N       rows that are no return of a station of the constituency
   first R N   the first row R that was neither lodged nor same, and why: N is
               0 for a bad row, 4 for a number above 1000000, 6 for too many
-              votes, 7 for a row that differs; 'first -' where there is none";
+              votes, 7 for a row that differs; 'first -' where there is none
+With --rows, after this a line for each row that was neither lodged nor same:
+  row R N WORD STATION  row R was refused: N and the word of the refusal are
+              4 bad_counts, 6 too_many_votes or 7 differs
+  row R 0 CAUSE         row R is bad, by the first of these causes:
+              fields F (it has F fields), bad_station, no_station (no station
+              of the constituency), bad_slip, bad_number blank, bad_number
+              spoiled, bad_number CODE (that list's votes)";
 
 pub const IMPORT_EXAMPLE: &str = "\
 Example:
@@ -368,6 +384,8 @@ The routes, with S the code of a station, C that of a constituency:
   POST /con/C/import        a CSV of at most 1048576 bytes, with curl
                             --data-binary @returns.csv; the fields separated by
                             semicolons: /con/C/import/semicolon
+  POST /con/C/trial         the same, and so /con/C/trial/semicolon: what the
+                            import would come to; nothing is lodged
 
 What comes out:
   On standard error, once it listens:

@@ -5,12 +5,12 @@ ghost use Rattle.std.specs.Prelude.{option_map, string_bytes};
 ghost use Rattle.clap.specs.Words.{app_of, first_of, kind_of, new_app, rule_of};
 ghost use Rattle.clap.specs.declared.builder.command.Command.TheViews.{out-Command};
 ghost use Rattle.clap.specs.declared.error.ErrorKind.TheVariants.{InvalidValue};
-ghost use Rattle.tally_line.specs.Line.{GivesLine, IsRefusal, IsLineWithinLimits, check_app};
-ghost use Rattle.tally_line.specs.Line.{import_app, import_line, is_set, line_of, line_of_command};
-ghost use Rattle.tally_line.specs.Line.{new_line, new_office_app, number_given, number_rule};
-ghost use Rattle.tally_line.specs.Line.{office_app, semicolon_rule, sep_given};
+ghost use Rattle.tally_line.specs.Line.{GivesLine, IsRefusal, IsLineWithinLimits, bare_import_app};
+ghost use Rattle.tally_line.specs.Line.{check_app, flag_rule, import_app, import_line, is_set};
+ghost use Rattle.tally_line.specs.Line.{line_of, line_of_command, new_line, new_office_app};
+ghost use Rattle.tally_line.specs.Line.{number_given, number_rule, office_app, sep_given};
 ghost use Rattle.tally_line.specs.Line.{serve_app, serve_line, show_app, show_line};
-ghost use Rattle.tally_line.specs.Line.{value_rule, wanted_rule, with_commands, with_csv};
+ghost use Rattle.tally_line.specs.Line.{value_rule, wanted_rule, with_commands};
 ghost use Rattle.tally_line.specs.internal.Arguments.{IsCommandFault, IsShowFault, given_rows, has};
 ghost use Rattle.tally_line.specs.internal.Arguments.{has_arguments, has_count, has_port};
 
@@ -34,6 +34,8 @@ const SERVE: &str = "serve";
 
 const SEMICOLON: &str = "semicolon";
 
+const ROWS: &str = "rows";
+
 const DB: &str = "db";
 
 const SETUP: &str = "setup";
@@ -55,21 +57,24 @@ const MOST_COUNT: u64 = 1_000_000;
 /// What a command line asks for. A text is as it was given.
 #[derive(Debug, PartialEq, Eq, Drop)]
 pub enum Line {
-    /// Check the returns on standard input.
+    /// Check the returns on standard input, and with `rows` name each row that is not lodged.
     Check {
         sep: Sep,
+        rows: bool,
     },
     /// Make an office of a setup, in the database of this name.
     New {
         db: String,
         setup: String,
     },
-    /// Lodge the returns of a file, of the stations of a constituency.
+    /// Lodge the returns of a file, of the stations of a constituency, and with `rows` name each
+    /// row that is not lodged.
     Import {
         db: String,
         con: String,
         csv: String,
         sep: Sep,
+        rows: bool,
     },
     /// Show a report of a constituency, or of all.
     Show {
@@ -141,6 +146,7 @@ fn read_command(alloc: Global, name: &str, arguments: &ArgMatches<'_>) -> Result
     match name {
         CHECK => Ok(Line::Check {
             sep: read_sep(arguments),
+            rows: is_given(arguments, ROWS),
         }),
         NEW => Ok(read_new(alloc, arguments)?),
         IMPORT => Ok(read_import(alloc, arguments)?),
@@ -172,6 +178,7 @@ fn read_import(alloc: Global, arguments: &ArgMatches<'_>) -> Result<Line, AllocE
         con: read_text(alloc, arguments, CON)?,
         csv: read_text(alloc, arguments, CSV)?,
         sep: read_sep(arguments),
+        rows: is_given(arguments, ROWS),
     })
 }
 
@@ -344,7 +351,8 @@ fn check_command<'a>(alloc: Global) -> Result<Command<'a>, AllocError>
         help::CHECK_LONG,
         help::CHECK_EXAMPLE,
     )
-    .arg(semicolon_arg(alloc))
+    .arg(flag_arg(alloc, SEMICOLON, help::SEMICOLON))?
+    .arg(flag_arg(alloc, ROWS, help::ROWS))
 }
 
 fn new_command<'a>(alloc: Global) -> Result<Command<'a>, AllocError>
@@ -360,7 +368,17 @@ fn import_command<'a>(alloc: Global) -> Result<Command<'a>, AllocError>
     ensures app { IfOk result (λ c. app_of c ≡ import_app) }
     ensures local { IfOk result (λ c. (out-Command c).has_globals ≡ false) }
 {
-    let import = described_command(
+    bare_import_command(alloc)?
+        .arg(flag_arg(alloc, SEMICOLON, help::SEMICOLON))?
+        .arg(flag_arg(alloc, ROWS, help::ROWS))
+}
+
+// The command without its flags.
+fn bare_import_command<'a>(alloc: Global) -> Result<Command<'a>, AllocError>
+    ensures app { IfOk result (λ c. app_of c ≡ bare_import_app) }
+    ensures local { IfOk result (λ c. (out-Command c).has_globals ≡ false) }
+{
+    described_command(
         alloc,
         IMPORT,
         help::IMPORT,
@@ -368,18 +386,8 @@ fn import_command<'a>(alloc: Global) -> Result<Command<'a>, AllocError>
         help::IMPORT_EXAMPLE,
     )
     .arg(wanted_arg(alloc, DB, "FILE", help::DB))?
-    .arg(wanted_arg(alloc, CON, "CODE", help::IMPORT_CON))?;
-    add_csv(alloc, import)
-}
-
-fn add_csv<'a>(alloc: Global, import: Command<'a>) -> Result<Command<'a>, AllocError>
-    requires { (out-Command import).has_globals ≡ false }
-    ensures app { IfOk result (λ c. app_of c ≡ with_csv (app_of import.entry)) }
-    ensures local { IfOk result (λ c. (out-Command c).has_globals ≡ false) }
-{
-    import
-        .arg(wanted_arg(alloc, CSV, "FILE", help::CSV))?
-        .arg(semicolon_arg(alloc))
+    .arg(wanted_arg(alloc, CON, "CODE", help::IMPORT_CON))?
+    .arg(wanted_arg(alloc, CSV, "FILE", help::CSV))
 }
 
 fn show_command<'a>(alloc: Global) -> Result<Command<'a>, AllocError>
@@ -408,14 +416,15 @@ fn serve_command<'a>(alloc: Global) -> Result<Command<'a>, AllocError>
     .arg(number_arg(alloc, COUNT, MOST_COUNT, help::COUNT))
 }
 
-fn semicolon_arg<'a>(alloc: Global) -> Arg<'a>
-    ensures rule { rule_of result ≡ semicolon_rule }
+// An argument without a value, which may be left out.
+fn flag_arg<'a>(alloc: Global, name: &'a str, text: &'a str) -> Arg<'a>
+    ensures rule { rule_of result ≡ flag_rule name.now }
     ensures local { result.global ≡ false }
 {
-    Arg::new(alloc, SEMICOLON)
-        .long(SEMICOLON)
+    Arg::new(alloc, name)
+        .long(name)
         .action(ArgAction::SetTrue)
-        .help(help::SEMICOLON)
+        .help(text)
 }
 
 // An argument with one value, which may be left out.

@@ -2,7 +2,7 @@
 use Rattle.std.proofs.Common.{◌≡◌, [], subst, sym}
 use Rattle.sqlite.specs.Effect.{IsDatabase}
 use Rattle.sqlite.specs.State.{State as Seen}
-use Rattle.tally_rows.specs.Rows.{HaveDistinctRowids}
+use Rattle.tally_schema.specs.Rows.{HaveDistinctRowids}
 use Rattle.tally_schema.specs.Made.{HasEmptyTables}
 use Rattle.tally_schema.specs.Tables.{setup_tree}
 use Rattle.tally_statements.specs.declared.table.KeyedTable.{KeyedTable}

@@ -14,9 +14,9 @@ use Rattle.sqlite.specs.declared.transaction.Transaction.{Transaction}
 use Rattle.sqlite.specs.Held.{state}
 use Rattle.sqlite.specs.State.{State as Seen, HasCleanDisk, IsUnchanged}
 use Rattle.sqlite.proofs.Callers.{unchanged_then}
-use Rattle.tally_rows.specs.Rows.{HaveDistinctRowids, cells}
-use Rattle.tally_rows.proofs.RisingRowidLemmas.{distinct_shown}
-use Rattle.tally_rows.proofs.RowidLemmas.{distinct_permuted}
+use Rattle.tally_schema.specs.Rows.{HaveDistinctRowids, cells}
+use Rattle.tally_schema.proofs.RisingRowidLemmas.{distinct_shown}
+use Rattle.tally_schema.proofs.RowidLemmas.{distinct_permuted}
 use Rattle.tally_rules.specs.Constituency.{Constituency}
 use Rattle.tally_rules.specs.Limits.{IsSetup}
 use Rattle.tally_judge.specs.Numbers.{HasNumbersOfRows, numbers_of}

@@ -12,9 +12,9 @@ use Rattle.sqlite_keyed.proofs.ListLemmas.{IsPermutation-flat_map}
 use Rattle.sqlite_value.specs.Order.{Row}
 use Rattle.sqlite.specs.declared.error.Error.{Error}
 use Rattle.sqlite.specs.State.{State as Seen}
-use Rattle.tally_rows.specs.Rows.{text_cmp, cells, AreRowsOf}
-use Rattle.tally_rows.proofs.EntryLemmas.{other_entries, inserted}
-use Rattle.tally_rows.proofs.RowsLemmas.{text_total, text_exact, none_then_all, with_key_is}
+use Rattle.tally_schema.specs.Rows.{text_cmp, cells, AreRowsOf}
+use Rattle.tally_schema.proofs.EntryLemmas.{other_entries, inserted}
+use Rattle.tally_schema.proofs.RowsLemmas.{text_total, text_exact, none_then_all, with_key_is}
 use Rattle.tally_rules.specs.Constituency.{Constituency}
 use Rattle.tally_rules.specs.Limits.{IsSetup}
 use Rattle.tally_rules.specs.Reading.{setup_of_text}
@@ -25,7 +25,7 @@ use Rattle.tally_returns.specs.State.{ConState, con_state, opening, opening_con,
 use Rattle.tally_returns.specs.Return.{StationReturn}
 use Rattle.tally_returns.specs.View.{blank_of, closed_counts, counts_if_closed, spoiled_of, view_of, votes_of_lists}
 use Rattle.tally_steps.specs.Outcome.{HasSeats}
-use Rattle.tally_ledger.proofs.SetupLemmas.{Apart, Differ, Has, cons-differ, con-only}
+use Rattle.tally_keeper.proofs.SetupLemmas.{Apart, Differ, Has, cons-differ, con-only}
 use Rattle.tally_schema.specs.Made.{HasEmptyTables}
 use Rattle.tally_statements.specs.declared.table.KeyedTable.{KeyedTable}
 use Rattle.tally_statements.specs.declared.table.KeyedTable.TheVariants.{Returns, Counts, Cons, Lots, Seats, Gone, Totals, Past}

@@ -13,8 +13,8 @@ use Rattle.sqlite_value.specs.declared.value.Value.{Value}
 use Rattle.sqlite_value.specs.declared.value.Value.TheVariants.{Int, Text}
 use Rattle.sqlite_value.specs.Order.{Row, column, row_cmp, value_cmp}
 use Rattle.sqlite_value.proofs.OrderLemmas.{value_cmp-Int, value_cmp-Text, value_cmp_total}
-use Rattle.tally_rows.specs.Rows.{text_cmp}
-use Rattle.tally_rows.proofs.RowsLemmas.{AreKeyedBy, keys_rise}
+use Rattle.tally_schema.specs.Rows.{text_cmp}
+use Rattle.tally_schema.proofs.RowsLemmas.{AreKeyedBy, keys_rise}
 use Rattle.tally_statements.specs.declared.table.KeyedTable.{KeyedTable}
 use Rattle.tally_statements.specs.declared.table.KeyedTable.TheVariants.{Returns, Counts, Cons, Lots, Seats, Gone, Totals, Past}
 use Rattle.tally_statements.specs.Office.{AreInOrder, all_cells, key_cells}

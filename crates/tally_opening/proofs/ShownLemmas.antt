@@ -11,7 +11,7 @@ use Rattle.sqlite_trees.specs.Tree.{IsAscending}
 use Rattle.sqlite_value.specs.declared.value.Value.TheVariants.{Int, Text}
 use Rattle.sqlite_value.specs.Order.{column, value_cmp}
 use Rattle.sqlite_value.proofs.OrderLemmas.{value_cmp-Int}
-use Rattle.tally_rows.specs.Rows.{text_cmp}
+use Rattle.tally_schema.specs.Rows.{text_cmp}
 use Rattle.tally_steps.specs.LawfulState.{IsUnderPlaces}
 use Rattle.tally_statements.specs.declared.table.KeyedTable.TheVariants.{Gone, Past}
 use Rattle.tally_statements.specs.Office.{AreInOrder}

@@ -12,8 +12,8 @@ use Rattle.std.proofs.lemmas.List.Sorted.{IsPermutation-sym}
 use Rattle.sqlite_keyed.proofs.ListLemmas.{all_weaker}
 use Rattle.sqlite_value.specs.Order.{Row}
 use Rattle.sqlite.specs.State.{State as Seen}
-use Rattle.tally_rows.specs.Rows.{AreRowsOf, text_cmp}
-use Rattle.tally_rows.proofs.RowsLemmas.{keys_rise}
+use Rattle.tally_schema.specs.Rows.{AreRowsOf, text_cmp}
+use Rattle.tally_schema.proofs.RowsLemmas.{keys_rise}
 use Rattle.tally_rules.specs.Constituency.{Constituency}
 use Rattle.tally_rules.specs.Limits.{IsSetup}
 use Rattle.tally_rules.specs.Setup.{constituency_with, station_with}
@@ -25,7 +25,7 @@ use Rattle.tally_returns.specs.Lodge.{StationLimits}
 use Rattle.tally_returns.specs.Return.{StationReturn, Returns}
 use Rattle.tally_returns.specs.State.{ConState, State, con_state, opening_con}
 use Rattle.tally_returns.specs.View.{blank_of, closed_counts, spoiled_of, votes_at, votes_of_lists}
-use Rattle.tally_ledger.proofs.SetupLemmas.{con-found, con-limits, station-found}
+use Rattle.tally_keeper.proofs.SetupLemmas.{con-found, con-limits, station-found}
 use Rattle.tally_steps.specs.LawfulState.{IsLawfulState, IsUnderPlaces}
 use Rattle.tally_schema.specs.Cells.{setup_row}
 use Rattle.tally_schema.specs.Tables.{setup_tree}

@@ -20,7 +20,7 @@ use Rattle.tally_program.proofs.WrittenLemmas.{any, counted, made, served, unwri
 pub without-memory : {R W E : Type 0} (Opens : Resource → OpeningOutcome) (left : Bytes R) (held : Bytes W) (reported : Bytes E) (words : List (List ℕ)) (line : Option LineSeen)
     (i : R) (o : W) (before after : E) → IsReported (reported before) (reported after) (codes "failed: memory\n")
     → PerformsLine Opens left held reported words line (record { input = i; output = o; errors = before }) (record { input = i; output = o; errors = after }) 3
-without-memory Opens left held reported words (Some (CheckSeen sep)) i o before after so =
+without-memory Opens left held reported words (Some (CheckSeen sep rows)) i o before after so =
     inr (record { input = refl; output = refl }, record { report = so; gives = refl })
 without-memory Opens left held reported words (Some (NewSeen db setup)) i o before after so = record {
   outcome = Err trouble.Memory;
@@ -30,10 +30,10 @@ without-memory Opens left held reported words (Some (NewSeen db setup)) i o befo
   gives = refl;
   unread = refl;
 }
-without-memory Opens left held reported words (Some (ImportSeen db con csv sep)) i o before after so = record {
+without-memory Opens left held reported words (Some (ImportSeen db con csv sep rows)) i o before after so = record {
   outcome = Err trouble.Memory;
   named = inr (inl (inl (inl refl)));
-  written = unwritten held IsCountText counted o trouble.Memory;
+  written = unwritten held (IsCountText rows) (counted rows) o trouble.Memory;
   errors = so;
   gives = refl;
   unread = refl;

@@ -1,10 +1,9 @@
 -- What a command writes: nothing where it had a trouble before, and a
 -- text of a kind where it wrote one that is of the kind.
-use Rattle.std.proofs.Common.{◌≡◌, ◌⊎◌, ℕ, List, [], Option, Some, None, Result, Ok, Err, IfOk, IfErr, OnOk, OnErr, refl, sym, subst, append-nil, arith, inl, inr}
+use Rattle.std.proofs.Common.{◌≡◌, ◌⊎◌, ℕ, Bool, List, [], Option, Some, None, Result, Ok, Err, IfOk, IfErr, OnOk, OnErr, refl, sym, subst, append-nil, arith, inl, inr}
 use Rattle.std.specs.Io.KnownBytes.{Appends}
 use Rattle.tally_keeper.specs.declared.import.ImportCount.{ImportCount}
-use Rattle.tally_import.specs.Check.{count_text}
-use Rattle.tally_commands.specs.Imported.{IsCountText}
+use Rattle.tally_commands.specs.Imported.{IsCountText, import_text}
 use Rattle.tally_commands.specs.Made.{IsMadeText, constituencies_text}
 use Rattle.tally_commands.specs.Served.{IsServedText, listening_line, served_line}
 use Rattle.tally_commands.specs.Reported.{IsReported}
@@ -27,8 +26,8 @@ no_rows = record { lodged = 0; same = 0; differs = 0; refused = 0; bad = 0; firs
 pub made : Example IsMadeText
 made = (constituencies_text [], ([], refl))
 
-pub counted : Example IsCountText
-counted = (count_text no_rows, (no_rows, refl))
+pub counted : (lines : Bool) → Example (IsCountText lines)
+counted lines = (import_text lines [] no_rows [], ([], no_rows, [], refl))
 
 pub any : Example IsAnyText
 any = ([], tt)
@@ -43,7 +42,7 @@ any_text bytes (Err t) = tt
 -- where nothing was written there may have been any trouble
 pub unwritten : {W : Type 0} (held : Bytes W) (IsText : List ℕ → Type 0) → Example IsText → (w : W) (t : Trouble) → IsWritten held IsText w w (Err t)
 unwritten held IsText example w trouble.Write = (example.0, 0, example.1, appends-nothing (held w))
-unwritten held IsText example w (trouble.Setup fault) = refl
+unwritten held IsText example w (trouble.Setup fault place) = refl
 unwritten held IsText example w trouble.NotEmpty = refl
 unwritten held IsText example w trouble.NoTables = refl
 unwritten held IsText example w trouble.BadTables = refl
@@ -64,7 +63,7 @@ pub of_kind : {W : Type 0} (held : Bytes W) (IsText : List ℕ → Type 0) (text
     → IsWritten held (λ written. written ≡ text) old new r → IsWritten held IsText old new r
 of_kind held IsText text is old new (Ok done) (written, same, appends) = (written, subst IsText (sym same) is, appends)
 of_kind held IsText text is old new (Err trouble.Write) (written, n, same, appends) = (written, n, subst IsText (sym same) is, appends)
-of_kind held IsText text is old new (Err (trouble.Setup fault)) keeps = keeps
+of_kind held IsText text is old new (Err (trouble.Setup fault place)) keeps = keeps
 of_kind held IsText text is old new (Err trouble.NotEmpty) keeps = keeps
 of_kind held IsText text is old new (Err trouble.NoTables) keeps = keeps
 of_kind held IsText text is old new (Err trouble.BadTables) keeps = keeps

@@ -1,5 +1,6 @@
 -- What the program does for a command line.
-use Rattle.std.specs.Prelude.{◌≡◌, ◌⊎◌, ℕ, List, Option, Some, None, IfSome, Result, Ok, Err, codes}
+use Rattle.std.specs.Prelude.{◌≡◌, ◌⊎◌, ℕ, Bool, List, Option, Some, None, IfSome, Result, Ok, Err}
+use Rattle.std.specs.Prelude.{codes}
 use Rattle.tally_import.specs.Check.{Checks, IsSilent}
 use Rattle.tally_records.specs.declared.separator.Sep.{Sep}
 use Rattle.tally_import.specs.declared.CheckFault.{CheckFault}
@@ -23,14 +24,14 @@ check_outcome (Ok done) = Ok done
 check_outcome (Err fault) = Err (check_trouble fault)
 
 -- One check takes the input from its bytes to the rest, and the output from what it held to what it
--- holds. What is reported and answered is that of its outcome. Nothing is said of an input that is
--- not known.
+-- holds, with the lines of the rows or without. What is reported and answered is that of its
+-- outcome. Nothing is said of an input that is not known.
 pub record EndsCheck {R W E : Type 0} (left : Bytes R) (held : Bytes W) (reported : Bytes E)
-    (sep : Sep)
+    (lines : Bool) (sep : Sep)
     (old new : Streams R W E) (status : ℕ) : Type 0 where
   pub outcome : Result (Unit {0}) CheckFault
   pub checks : IfSome (left old.input) (λ text.
-      Checks sep text (left new.input) (held old.output) (held new.output) outcome)
+      Checks lines sep text (left new.input) (held old.output) (held new.output) outcome)
   pub silent : IsSilent (held old.output) (held new.output) outcome
   pub errors : IsOutcomeReported reported old.errors new.errors (check_outcome outcome)
   pub gives : status ≡ command_status (check_outcome outcome)
@@ -76,13 +77,13 @@ not_text_line = codes "error: the arguments are not all UTF-8 text\n"
 abbrev pub PerformsLine : {R W E : Type 0} → (Resource → OpeningOutcome)
     → Bytes R → Bytes W → Bytes E → List (List ℕ) → Option LineSeen
     → Streams R W E → Streams R W E → ℕ → Type 0
-PerformsLine Opens left held reported words (Some (CheckSeen sep)) old new status =
-    EndsCheck left held reported sep old new status
+PerformsLine Opens left held reported words (Some (CheckSeen sep rows)) old new status =
+    EndsCheck left held reported rows sep old new status
     ⊎ (IsUntouched old new × IsOutOfMemory reported old new status)
 PerformsLine Opens left held reported words (Some (NewSeen db setup)) old new status =
     EndsCommand held reported IsMadeText IsTroubleOfNew old new status
-PerformsLine Opens left held reported words (Some (ImportSeen db con csv sep)) old new status =
-    EndsCommand held reported IsCountText IsTroubleOfImport old new status
+PerformsLine Opens left held reported words (Some (ImportSeen db con csv sep rows)) old new status =
+    EndsCommand held reported (IsCountText rows) IsTroubleOfImport old new status
 PerformsLine Opens left held reported words (Some (ShowSeen db name con)) old new status =
     EndsCommand held reported IsAnyText IsTroubleOfShow old new status
 PerformsLine Opens left held reported words (Some (ServeSeen db port count)) old new status =

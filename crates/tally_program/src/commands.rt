@@ -28,8 +28,8 @@ use std::fs::File;
 use std::io::Write;
 use tally_commands::{
     CONSTITUENCIES_ROOM, LISTENING_ROOM, SERVED_ROOM, Sep, Shown, Trouble, Watch,
-    constituencies_text, has_con, import_returns, listening_text, served_text, show_country,
-    show_progress, show_report, show_stations, tell,
+    constituencies_text, has_con, import_returns, judge_setup, listening_text, served_text,
+    show_country, show_progress, show_report, show_stations, tell,
 };
 use tally_desk::{Door, TcpDoor, serve};
 use tally_import::write_text;
@@ -86,7 +86,7 @@ fn line_room(rt: &HostRuntime, bytes: usize) -> Result<String, Trouble>
     }
 }
 
-/// Makes an office of a setup.
+/// Makes an office of a setup, which is judged before the database is opened.
 pub fn make<O: Offices, W: Write>(
     rt: &HostRuntime,
     offices: &O,
@@ -101,6 +101,10 @@ pub fn make<O: Offices, W: Write>(
         Ok(text) => text,
         Err(trouble) => return Err(trouble),
     };
+    match judge_setup(rt.alloc(), text.as_slice()) {
+        Ok(()) => {}
+        Err(trouble) => return Err(trouble),
+    }
     let line = match line_room(rt, CONSTITUENCIES_ROOM) {
         Ok(line) => line,
         Err(trouble) => return Err(trouble),
@@ -126,7 +130,7 @@ fn made_text<K: Keeper>(mut line: String, keeper: &K) -> String
     }
 }
 
-/// Lodges the returns of a file.
+/// Lodges the returns of a file, and with `lines` names each row that is not lodged.
 pub fn import<O: Offices, W: Write>(
     rt: &HostRuntime,
     offices: &O,
@@ -134,38 +138,40 @@ pub fn import<O: Offices, W: Write>(
     con: &str,
     csv: &str,
     sep: Sep,
+    lines: bool,
     output: &mut W,
 ) -> Result<(), Trouble>
-    ensures written { IsWritten W.contents IsCountText output.old output.new result }
+    ensures written { IsWritten W.contents (IsCountText lines) output.old output.new result }
     ensures named { IfErr result IsTroubleOfImport }
 {
     let mut office = match offices.open_office(rt, db) {
         Ok(office) => office,
         Err(trouble) => return Err(trouble),
     };
-    let outcome = import_file(rt, &mut office, con, csv, sep, &mut Watch::new());
+    let outcome = import_file(rt, &mut office, con, csv, sep, lines, &mut Watch::new());
     close_and_print(rt, offices, db, office, outcome, output)
 }
 
-/// The counts of the rows of a file that were imported. The constituency is looked up before the
-/// file is opened. A failed read is answered only where one was noted on the watch; where the rows
-/// were imported, none was.
+/// The text of the import of a file. The constituency is looked up before the file is opened. A
+/// failed read is answered only where one was noted on the watch; where the rows were imported,
+/// none was.
 fn import_file<K: Keeper>(
     rt: &HostRuntime,
     keeper: &mut K,
     con: &str,
     csv: &str,
     sep: Sep,
+    lines: bool,
     watch: &mut Watch<File>,
 ) -> Result<String, Trouble>
     ensures stays { StaysKeeper K.Keeper keeper.old keeper.new }
-    ensures text { IfOk result (λ text. IsCountText (string_bytes text)) }
+    ensures text { IfOk result (λ text. IsCountText lines (string_bytes text)) }
     ensures named { IfErr result IsTroubleOfFileImport }
     ensures read { K.IsTrusted keeper.new →
         result ≡ Err Trouble.Read → has_failed watch.new ≡ true }
     ensures all_read { K.IsTrusted keeper.new → OnOk result (NotesNothing watch.old watch.new) }
     ensures imported { K.IsTrusted keeper.new → IfOk result (λ text.
-        IsFileImported con.now sep (K.constituencies keeper.old) (K.content keeper.old)
+        IsFileImported con.now sep lines (K.constituencies keeper.old) (K.content keeper.old)
         (string_bytes text) (K.content keeper.new)) }
     ensures trouble { K.IsTrusted keeper.new → IfErr result (λ trouble.
         IsFileTrouble con.now sep (K.constituencies keeper.old) (K.content keeper.old)
@@ -175,7 +181,7 @@ fn import_file<K: Keeper>(
         return Err(Trouble::NoConstituency);
     }
     match open_file(rt, csv) {
-        Ok(file) => import_returns(rt.alloc(), keeper, con, sep, file, watch),
+        Ok(file) => import_returns(rt.alloc(), keeper, con, sep, lines, file, watch),
         Err(trouble) => Err(trouble),
     }
 }

@@ -36,16 +36,24 @@ pub fn perform<O: Offices, R: Read, W: Write, E: Write>(
         (streams input.new output.new errors.new) result }
 {
     match read_line(rt.alloc(), words) {
-        Ok(Line::Check { sep }) => {
-            let outcome = check_csv(rt.alloc(), input, output, sep);
+        Ok(Line::Check { sep, rows }) => {
+            let outcome = check_csv(rt.alloc(), input, output, sep, rows);
             report_check(outcome, errors)
         }
         Ok(Line::New { db, setup }) => {
             let outcome = make(rt, offices, &db, &setup, output);
             report_command(&outcome, errors)
         }
-        Ok(Line::Import { db, con, csv, sep }) => {
-            let outcome = import(rt, offices, &db, &con, &csv, sep, output);
+        Ok(
+            Line::Import {
+                db,
+                con,
+                csv,
+                sep,
+                rows,
+            },
+        ) => {
+            let outcome = import(rt, offices, &db, &con, &csv, sep, rows, output);
             report_command(&outcome, errors)
         }
         Ok(Line::Show { db, report, con }) => {

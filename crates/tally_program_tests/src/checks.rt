@@ -29,6 +29,22 @@ A 80
 B 100
 ";
 
+const NAMED: &str = "\
+lodged 2
+same 1
+differs 1
+refused 1
+bad 1
+first 4 7
+blank 2
+spoiled 1
+A 80
+B 100
+row 4 7 differs s2
+row 5 0 bad_number A
+row 6 6 too_many_votes s4
+";
+
 const SEMICOLONS: &str = "station;slip;blank;spoiled;A\ns1;p1;1;2;3\n";
 
 const ADDED: &str = "\
@@ -54,8 +70,9 @@ For more information, try '--help'.
 ";
 
 // A line, the text, the status, and what is written on the output and on standard error.
-const LINES: [(&str, &str, u8, &str, &str); 7] = [
+const LINES: [(&str, &str, u8, &str, &str); 8] = [
     ("office check", RETURNS, 0, CHECKED, ""),
+    ("office check --rows", RETURNS, 0, NAMED, ""),
     ("office check --semicolon", SEMICOLONS, 0, ADDED, ""),
     ("office check", SEMICOLONS, REFUSED, "", BAD_HEADER),
     ("office check --semicolon", RETURNS, REFUSED, "", BAD_HEADER),

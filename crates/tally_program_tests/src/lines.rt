@@ -30,14 +30,22 @@ fn text_of_words(alloc: Global, words: &[String]) -> Result<String, AllocError> 
 
 fn text_of_line(alloc: Global, line: &Line) -> Result<String, AllocError> {
     match line {
-        Line::Check { sep } => {
+        Line::Check { sep, rows } => {
             let sep = text_of_sep(*sep);
-            format!(in alloc; "check {sep}")
+            let rows = if *rows { " rows" } else { "" };
+            format!(in alloc; "check {sep}{rows}")
         }
         Line::New { db, setup } => format!(in alloc; "new {db} {setup}"),
-        Line::Import { db, con, csv, sep } => {
+        Line::Import {
+            db,
+            con,
+            csv,
+            sep,
+            rows,
+        } => {
             let sep = text_of_sep(*sep);
-            format!(in alloc; "import {db} {con} {csv} {sep}")
+            let rows = if *rows { " rows" } else { "" };
+            format!(in alloc; "import {db} {con} {csv} {sep}{rows}")
         }
         Line::Show {
             db,
@@ -97,11 +105,14 @@ fn first_wrong(alloc: Global, lines: &str) -> Result<String, Fail> {
 
 const READ: &str = "office check = check comma
 office check --semicolon = check semicolon
+office check --rows = check comma rows
+office check --rows --semicolon = check semicolon rows
 office new --db a.db --setup s.toml = new a.db s.toml
 office new --setup=s.toml --db=a.db = new a.db s.toml
 office import --db a.db --con c1 --csv r.csv = import a.db c1 r.csv comma
 office import --semicolon --csv r.csv --con c1 --db a.db = import a.db c1 r.csv semicolon
 office import --db a.db --con=-x --csv r.csv = import a.db -x r.csv comma
+office import --rows --db a.db --con c1 --csv r.csv = import a.db c1 r.csv comma rows
 office show --db a.db --report tally --con c1 = show a.db Tally c1
 office show --db a.db --report seats --con c1 = show a.db Seats c1
 office show --db a.db --report quotients --con c1 = show a.db Quotients c1
@@ -181,6 +192,7 @@ office frobnicate = InvalidSubcommand
 office check extra = UnknownArgument
 office --semicolon check = UnknownArgument
 office new --semicolon = UnknownArgument
+office new --rows = UnknownArgument
 office check --semicolon=yes = TooManyValues
 office check --semicolon --semicolon = ArgumentConflict
 office new --db a --db b --setup s = ArgumentConflict

@@ -54,7 +54,7 @@ fn office_of(rt: &HostRuntime, text: &[u8]) -> Result<Book, Trouble>
     let setup = match read_setup(rt.alloc(), text) {
         Ok(setup) => setup,
         Err(SetupFault::Memory) => return Err(Trouble::Memory),
-        Err(fault) => return Err(Trouble::Setup(fault)),
+        Err(fault) => return Err(Trouble::Setup(fault, None)),
     };
     match Book::new(rt.alloc(), setup) {
         Ok(book) => Ok(book),
@@ -114,7 +114,7 @@ office import --db unclosed --con c1 --csv offices.csv = failed: store
 office serve --db nowhere --port 8080 --count 1 = refused: no_tables
 office serve --db in --port 8080 --count 1 = failed: port
 office new --db in --setup nowhere.toml = failed: file
-office new --db in --setup offices.csv = refused: not_toml
+office new --db in --setup empty.toml = refused: missing profile
 office new --db full --setup offices.toml = refused: not_empty
 office new --db unclosed --setup offices.toml = failed: store";
 
@@ -140,6 +140,7 @@ fn check_reported(rt: &HostRuntime, line: &'static str) -> Result<(), Fail> {
 fn command_lines_over_an_office(rt: HostRuntime) -> Result<(), Fail> {
     fs::write(&rt, "offices.toml", TWIN_TOWN.as_bytes())?;
     fs::write(&rt, "offices.csv", RETURNS.as_bytes())?;
+    fs::write(&rt, "empty.toml", b"")?;
     for (line, output) in DONE_LINES {
         check(&rt, line, "", DONE, output, "")?;
     }
@@ -148,5 +149,6 @@ fn command_lines_over_an_office(rt: HostRuntime) -> Result<(), Fail> {
     }
     fs::remove_file(&rt, "offices.toml")?;
     fs::remove_file(&rt, "offices.csv")?;
+    fs::remove_file(&rt, "empty.toml")?;
     Ok(())
 }

@@ -15,7 +15,7 @@ use Rattle.tally_statements.specs.internal.Inside.{IsOpenInside, StaysFrom, Stay
 use Rattle.tally_statements.specs.Office.{IsInside, tree_of}
 use Rattle.tally_statements.proofs.StaysLemmas.{stays-then}
 use Rattle.tally_statements.specs.declared.table.KeyedTable.TheVariants.{Cons}
-use Rattle.tally_rows.specs.Rows.{cells}
+use Rattle.tally_schema.specs.Rows.{cells}
 use Rattle.tally_entries.proofs.FindLemmas.{inside_still}
 use Rattle.tally_rules.specs.Constituency.{Constituency}
 use Rattle.tally_rules.specs.Limits.{IsSetup}

@@ -12,8 +12,8 @@ use Rattle.sqlite_value.specs.Order.{Row, column}
 use Rattle.sqlite_keyed.proofs.ListLemmas.{all-append}
 use Rattle.sqlite.specs.declared.error.Error.{Error}
 use Rattle.sqlite.specs.State.{State as Seen}
-use Rattle.tally_rows.specs.Rows.{AreRowsOf}
-use Rattle.tally_rows.proofs.RowsLemmas.{AreKeyedBy, same_rows}
+use Rattle.tally_schema.specs.Rows.{AreRowsOf}
+use Rattle.tally_schema.proofs.RowsLemmas.{AreKeyedBy, same_rows}
 use Rattle.tally_rules.specs.Code.{code_cmp}
 use Rattle.tally_rules.specs.Constituency.{Constituency}
 use Rattle.tally_rules.specs.Setup.{constituency_with}

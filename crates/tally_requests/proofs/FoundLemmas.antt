@@ -29,7 +29,7 @@ use Rattle.tally_returns.specs.declared.returns.Status.{Status}
 use Rattle.tally_returns.specs.declared.returns.Status.TheVariants.{Received, Queried, Corrected, Closed}
 use Rattle.tally_returns.proofs.ClosedLemmas.{station_with-con}
 use Rattle.tally_returns.proofs.DecideLemmas.{first_refusal-append_first, passed-first, passed-rest}
-use Rattle.tally_ledger.proofs.SetupLemmas.{con-limits, station-found}
+use Rattle.tally_keeper.proofs.SetupLemmas.{con-limits, station-found}
 use Rattle.tally_steps.specs.Kinds.{IsReplyTo}
 use Rattle.tally_steps.specs.LawfulState.{IsLawfulState}
 use Rattle.tally_steps.specs.Step.{IsStep, state_after, after_put, after_return, con_of_station, change_in_state, move_reply, reply_seen, with_return, without_lot}

@@ -33,9 +33,9 @@ use Rattle.tally_returns.specs.declared.reply.Reply.{Reply}
 use Rattle.tally_returns.specs.declared.returns.Status.{Status}
 use Rattle.tally_returns.specs.declared.returns.Status.TheVariants.{Received}
 use Rattle.tally_returns.proofs.ClosedLemmas.{put-elsewhere, same-tied, station-elsewhere, station_with-con, stations_in-same, tied-same}
-use Rattle.tally_ledger.proofs.SetupLemmas.{Has, con-limits, station-found, stations-differ}
-use Rattle.tally_ledger.proofs.SumLemmas.{one_if, stations_in-total}
-use Rattle.tally_ledger.proofs.TreeLemmas.{get-tree, tree-insert}
+use Rattle.tally_keeper.proofs.SetupLemmas.{Has, con-limits, station-found, stations-differ}
+use Rattle.tally_keeper.proofs.SumLemmas.{one_if, stations_in-total}
+use Rattle.tally_keeper.proofs.TreeLemmas.{get-tree, tree-insert}
 use Rattle.tally_keeper.specs.internal.Held.{moves_return}
 use Rattle.tally_keeper.specs.Import.{RowAnswer, after_row as returns_after_row, row_answer}
 use Rattle.tally_keeper.specs.declared.import.Row.{Row}

@@ -7,7 +7,7 @@ use Rattle.std.specs.Option.{option_map_or}
 use Rattle.std.specs.Ordering.{eq_by_cmp}
 use Rattle.std.proofs.lemmas.Bool.{and_parts, eqb-true}
 use Rattle.sqlite.specs.State.{State as Seen, HasCleanDisk, IsUnchanged}
-use Rattle.tally_rows.specs.Rows.{AreRowsOf}
+use Rattle.tally_schema.specs.Rows.{AreRowsOf}
 use Rattle.tally_rules.specs.Code.{code_cmp}
 use Rattle.tally_rules.specs.Constituency.{Constituency}
 use Rattle.tally_rules.specs.Limits.{IsSetup}
@@ -33,7 +33,7 @@ use Rattle.tally_returns.specs.declared.reply.LodgeReply.TheVariants.{Lodged, Sa
 use Rattle.tally_returns.specs.declared.reply.Reply.{Reply}
 use Rattle.tally_returns.proofs.ClosedLemmas.{tied-same}
 use Rattle.tally_returns.proofs.DecideLemmas.{passed-first}
-use Rattle.tally_ledger.proofs.SetupLemmas.{con-limits, station-found}
+use Rattle.tally_keeper.proofs.SetupLemmas.{con-limits, station-found}
 use Rattle.tally_steps.specs.LawfulState.{IsLawfulState}
 use Rattle.tally_steps.specs.Outcome.{HasSeats}
 use Rattle.tally_steps.specs.Step.{Answer, state_after, after_return, answer, return_reply, return_shown, reply_seen}

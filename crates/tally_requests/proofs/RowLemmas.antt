@@ -1,5 +1,5 @@
 -- An import in a transaction, so far.
-use Rattle.std.proofs.Common.{◌≡◌, ◌≤◌, ◌+◌, ◌∙◌, ℕ, List, [], ◌++◌, ◌∷◌, None, Some, Ok, Err, length, refl, sym, ap, subst, arith, length-append}
+use Rattle.std.proofs.Common.{◌≡◌, ◌≤◌, ◌+◌, ◌∙◌, ℕ, List, [], ◌++◌, ◌∷◌, None, Some, Ok, Err, length, refl, sym, ap, subst, arith, length-append, append-nil}
 use Rattle.std.specs.FinMap.{empty}
 use Rattle.sqlite.specs.State.{State as Seen}
 use Rattle.tally_rules.specs.Constituency.{Constituency}
@@ -7,16 +7,21 @@ use Rattle.tally_rules.specs.Limits.{IsSetup}
 use Rattle.tally_returns.specs.Lodge.{Stations}
 use Rattle.tally_returns.specs.Return.{Returns}
 use Rattle.tally_returns.specs.State.{State, stations_of}
+use Rattle.tally_returns.specs.declared.ask.Ask.{Ask}
+use Rattle.tally_returns.specs.declared.ask.Ask.TheVariants.{Lodge}
 use Rattle.tally_steps.specs.LawfulState.{IsLawfulState}
-use Rattle.tally_ledger.specs.Kept.{Kept}
+use Rattle.tally_keeper.specs.Kept.{Kept}
 use Rattle.tally_keeper.specs.Import.{IsCodedRow, RowAnswer, after_row, count_of, count_with_row, row_answer}
 use Rattle.tally_keeper.specs.Keeper.{IsImportFault, IsOwnFault}
+use Rattle.tally_keeper.specs.NamedRows.{NamesRows, named_row}
 use Rattle.tally_keeper.specs.Source.{GaveAll, SourceAt, row_limit}
 use Rattle.tally_keeper.specs.declared.import.ImportCount.{ImportCount}
+use Rattle.tally_keeper.specs.declared.import.NamedRow.{NamedRow}
 use Rattle.tally_keeper.specs.declared.import.Row.{Row}
+use Rattle.tally_keeper.specs.declared.import.Row.TheVariants as row
 use Rattle.tally_keeper.specs.declared.source.ImportFault.{ImportFault}
 use Rattle.tally_keeper.proofs.ImportLemmas.{push_is}
-use Rattle.tally_keeper.proofs.TakenLemmas.{GivesAt, SoFar, SoFar-end, SoFar-fault, SoFar-next, SoFar-own, SoFar-start, all-given}
+use Rattle.tally_keeper.proofs.TakenLemmas.{GivesAt, NamedSoFar, NamedSoFar-end, NamedSoFar-next, NamedSoFar-start, SoFar, SoFar-end, SoFar-fault, SoFar-next, SoFar-own, SoFar-start, all-given}
 use Rattle.tally_requests.specs.internal.Known.{AreKnown, Known}
 use Rattle.tally_requests.specs.internal.Counting.{known_after_row as after_row_known}
 use Rattle.tally_requests.specs.internal.Requests.{IsImportedKnown, IsInState}
@@ -65,47 +70,59 @@ counted-next count more many answer was is = (
   length-append was.0 (answer ∷ []) ∙ ap (λ n. n + 1) was.2,
 )
 
+-- a request that has no answer is not named
+pub unanswered : (number : ℕ) (named : List NamedRow) (asked : Ask) → named ≡ named ++ named_row number (row.Lodge asked) None
+unanswered number named (Lodge station slip counts) = sym (append-nil named)
+unanswered number named other = sym (append-nil named)
+
 -- ---- what is known of the tables of a lawful state
 
--- so many rows came, and were taken; the state that they left, and what is known of it
-pub record RowsSoFar (setup : List Constituency) (text : List ℕ) (s : State) (all left : SourceAt) (count : ImportCount) (many : ℕ) (before after : Known) (new : Seen) : Type 0 where
+-- so many rows came, and were taken; the state that they left, what is known of it, and the rows
+-- that were named
+pub record RowsSoFar (setup : List Constituency) (text : List ℕ) (s : State) (all left : SourceAt) (count : ImportCount) (many : ℕ) (before after : Known) (names named : List NamedRow) (new : Seen) : Type 0 where
   pub returns : Returns
-  pub so_far : SoFar (stations_of setup) s.returns returns all left count many
+  pub so_far : NamedSoFar (stations_of setup) s.returns returns all left count many names named
   pub lawful : IsLawfulState setup (record s { returns = returns })
   pub in_state : IsInState setup text (record s { returns = returns }) new
   pub known : AreKnown setup s.returns before → AreKnown setup returns after
 
-pub rows-start : (setup : List Constituency) (text : List ℕ) (s : State) (all : SourceAt) (count : ImportCount) (known : Known) (old : Seen) → count ≡ count_of [] → IsLawfulState setup s → IsInState setup text s old
-    → RowsSoFar setup text s all all count 0 known known old
-rows-start setup text s all count known old is lawful here = record {
+pub rows-start : (setup : List Constituency) (text : List ℕ) (s : State) (all : SourceAt) (count : ImportCount) (known : Known) (names : List NamedRow) (old : Seen) → count ≡ count_of [] → IsLawfulState setup s → IsInState setup text s old
+    → RowsSoFar setup text s all all count 0 known known names names old
+rows-start setup text s all count known names old is lawful here = record {
   returns = s.returns;
-  so_far = SoFar-start (stations_of setup) s.returns all count is;
+  so_far = NamedSoFar-start (stations_of setup) s.returns all count names is;
   lawful = lawful;
   in_state = here;
   known = λ held. held;
 }
 
-pub rows-next : (setup : List Constituency) (text : List ℕ) (s : State) (all left next : SourceAt) (count more : ImportCount) (many : ℕ) (r : Row) (answer : RowAnswer) (before known after : Known) (mid new : Seen)
-    → IsSetup setup → (was : RowsSoFar setup text s all left count many before known mid) → IsCodedRow r → GivesAt left (Ok (Some r)) next
-    → IsRowTaken setup text (record s { returns = was.returns }) r answer new → after ≡ after_row_known setup r answer known → more ≡ count_with_row count (many + 1) answer
-    → RowsSoFar setup text s all next more (many + 1) before after new
-rows-next setup text s all left next count more many r answer before known after mid new limits was coded given taken put counted_is = record {
+pub rows-next : (setup : List Constituency) (text : List ℕ) (s : State) (all left next : SourceAt) (count more : ImportCount) (many : ℕ) (r : Row) (answer : RowAnswer) (before known after : Known) (names mid_named named : List NamedRow) (mid new : Seen)
+    → IsSetup setup → (was : RowsSoFar setup text s all left count many before known names mid_named mid) → IsCodedRow r → GivesAt left (Ok (Some r)) next
+    → IsRowTaken setup text (record s { returns = was.returns }) r answer new → after ≡ after_row_known setup r answer known → more ≡ count_with_row count (many + 1) answer → named ≡ mid_named ++ named_row (many + 1) r answer
+    → RowsSoFar setup text s all next more (many + 1) before after names named new
+rows-next setup text s all left next count more many r answer before known after names mid_named named mid new limits was coded given taken put counted_is named_is = record {
   returns = after_row (stations_of setup) was.returns r;
-  so_far = SoFar-next (stations_of setup) s.returns was.returns (after_row (stations_of setup) was.returns r) all left next count more many r answer was.so_far coded given taken.answered refl counted_is;
+  so_far = NamedSoFar-next (stations_of setup) s.returns was.returns (after_row (stations_of setup) was.returns r) all left next count more many names mid_named named r answer was.so_far coded given taken.answered refl counted_is named_is;
   lawful = row-lawful setup (record s { returns = was.returns }) r coded limits was.lawful;
   in_state = taken.in_state;
   known = λ held. subst (AreKnown setup (after_row (stations_of setup) was.returns r)) (sym put) (known-row setup was.returns r answer known limits taken.answered (was.known held));
 }
 
 -- the import is done where its source ends
-pub rows-end : (setup : List Constituency) (text : List ℕ) (s : State) (all left next : SourceAt) (count : ImportCount) (many : ℕ) (before after : Known) (new : Seen)
-    → RowsSoFar setup text s all left count many before after new → many ≤ row_limit → GivesAt left (Ok None) next → IsImportedKnown setup text s (record { start = all; finish = next }) before after count new
-rows-end setup text s all left next count many before after new was few given =
+pub rows-end : (setup : List Constituency) (text : List ℕ) (s : State) (all left next : SourceAt) (count : ImportCount) (many : ℕ) (before after : Known) (names named : List NamedRow) (new : Seen)
+    → RowsSoFar setup text s all left count many before after names named new → many ≤ row_limit → GivesAt left (Ok None) next → IsImportedKnown setup text s (record { start = all; finish = next }) before after count new
+rows-end setup text s all left next count many before after names named new was few given =
     let old : Kept = record { setup = setup; returns = s.returns; cons = s.cons; seats = empty } in (
       record {
         state = record s { returns = was.returns };
-        imported = SoFar-end old (record old { returns = was.returns }) all left next count many was.so_far refl few given;
+        imported = SoFar-end old (record old { returns = was.returns }) all left next count many was.so_far.so_far refl few given;
         in_state = was.in_state;
       },
       was.known,
     )
+
+-- and these are all rows that are named of it
+pub rows-named : (setup : List Constituency) (text : List ℕ) (s : State) (all left next : SourceAt) (count : ImportCount) (many : ℕ) (before after : Known) (names named : List NamedRow) (new : Seen)
+    → RowsSoFar setup text s all left count many before after names named new → many ≤ row_limit → GivesAt left (Ok None) next → NamesRows setup (Some s) (record { start = all; finish = next }) names named
+rows-named setup text s all left next count many before after names named new was few given =
+    NamedSoFar-end setup s was.returns all left next count many names named was.so_far few given

@@ -12,7 +12,7 @@ use Rattle.std.proofs.lemmas.List.{get_or_past}
 use Rattle.std.proofs.lemmas.Result.{IfOk-weaker}
 use Rattle.sqlite.specs.declared.error.Error.{Error}
 use Rattle.sqlite.specs.State.{State as Seen, HasCleanDisk, IsUnchanged}
-use Rattle.tally_rows.specs.Rows.{AreRowsOf}
+use Rattle.tally_schema.specs.Rows.{AreRowsOf}
 use Rattle.tally_rules.specs.Constituency.{Constituency}
 use Rattle.tally_rules.specs.Limits.{IsSetup}
 use Rattle.tally_rules.specs.Setup.{constituency_with, station_with}
@@ -22,10 +22,10 @@ use Rattle.tally_returns.specs.Return.{StationReturn, Returns}
 use Rattle.tally_returns.specs.State.{State}
 use Rattle.tally_returns.specs.View.{blank_of, closed_counts, spoiled_of, votes_at, votes_of_lists}
 use Rattle.tally_returns.proofs.ClosedLemmas.{closed_counts-same, get-kept, get-put, put-elsewhere, station-elsewhere}
-use Rattle.tally_ledger.specs.MovedSum.{moved_sum}
-use Rattle.tally_ledger.specs.internal.Sums.{moved_sums}
-use Rattle.tally_ledger.proofs.SetupLemmas.{Has, Apart, Differ, apart-has, bytes_flipped, code_of_station, con-found, con-only, not_apart, station-found, stations-differ}
-use Rattle.tally_ledger.proofs.SumLemmas.{at_place, closed-total, if_closed, mapped-same, total}
+use Rattle.tally_keeper.specs.MovedSum.{moved_sum}
+use Rattle.tally_keeper.specs.internal.Sums.{moved_sums}
+use Rattle.tally_keeper.proofs.SetupLemmas.{Has, Apart, Differ, apart-has, bytes_flipped, code_of_station, con-found, con-only, not_apart, station-found, stations-differ}
+use Rattle.tally_keeper.proofs.SumLemmas.{at_place, closed-total, if_closed, mapped-same, total}
 use Rattle.tally_steps.specs.LawfulState.{IsLawfulState}
 use Rattle.tally_schema.specs.Tables.{setup_tree}
 use Rattle.tally_statements.specs.Office.{IsInside, tree_of}

@@ -1,16 +1,17 @@
 //! The rows of a source, lodged.
 
-ghost use Rattle.std.specs.Prelude.{◌≡◌, ◌↔◌, Some, IfErr, true};
+ghost use Rattle.std.specs.Prelude.{◌≡◌, ◌↔◌, ◌++◌, Some, IfErr, IfOk, true};
 ghost use Rattle.sqlite.specs.Held.{state};
 ghost use Rattle.tally_keeper.specs.Delivery.{delivery};
 ghost use Rattle.tally_keeper.specs.Import.{IsCodedRow};
 ghost use Rattle.tally_keeper.specs.Keeper.{IsOwnFault};
+ghost use Rattle.tally_keeper.specs.NamedRows.{named_row};
 ghost use Rattle.tally_keeper.specs.declared.import.Row.{Row};
 ghost use Rattle.tally_rules.specs.Code.{is_code};
 ghost use Rattle.tally_statements.specs.internal.Inside.{StaysInside};
 ghost use Rattle.tally_requests.specs.internal.Inside.{StaysInState};
 ghost use Rattle.tally_requests.specs.internal.Counting.{CountsLodge, CountsRow};
-ghost use Rattle.tally_requests.specs.internal.Requests.{LodgesRows};
+ghost use Rattle.tally_requests.specs.internal.Requests.{LodgesRows, NamesImported};
 ghost use Rattle.tally_requests.specs.internal.Lodging.{Lodges, TakesRow, WritesOnlyLodged};
 ghost use Rattle.tally_requests.specs.internal.Lodging.{WritesOnlyLodgedRow};
 
@@ -19,24 +20,30 @@ use sqlite::{Alter, Error, ErrorCode, Transaction};
 use std::alloc::Global;
 use std::collections::BTreeMap;
 use tally_keeper::{
-    Ask, Counts, ImportCount, ImportFault, LodgeReply, ROW_LIMIT, Refusal, Row, RowSource,
+    Ask, Counts, ImportCount, ImportFault, LodgeReply, NamedRow, ROW_LIMIT, Refusal, Row,
+    RowSource, name_bad, name_refused,
 };
 use tally_rules::{Code, Setup};
 use tally_statements::is_memory;
 use tally_tables::Statuses;
 
-/// Lodges the rows of a source one by one. Refused and bad rows are passed over. With a fault the
-/// caller undoes what was written, and forgets what was known.
+/// Lodges the rows of a source one by one. Refused and bad rows are passed over, and named. With a
+/// fault, or where nothing is to be lodged, the caller undoes what was written, and forgets what
+/// was known.
 pub fn take_rows<S: Alter, R: RowSource>(
     alloc: Global,
     tx: &mut Transaction<'_, S>,
     setup: &Setup,
     known: &mut BTreeMap<Code, Statuses>,
     source: &mut R,
+    named: &mut Vec<NamedRow>,
 ) -> Result<ImportCount, ImportFault>
     ensures stays { StaysInState setup.now S.Store tx.old tx.new }
     ensures lodges { LodgesRows S.Store setup.now (delivery R.RowSource source.old source.new)
         known.old known.new tx.old tx.new result }
+    ensures named { NamesImported setup.now (delivery R.RowSource source.old source.new)
+        named.old.items named.new.items
+        (state S.Store tx.old.conn.now) (state S.Store tx.new.conn.now) result }
 {
     // Called for what its contract says: the setup is within its limits.
     let _cons = setup.cons();
@@ -45,19 +52,21 @@ pub fn take_rows<S: Alter, R: RowSource>(
         let Some(row) = source.next_row()? else {
             return Ok(count);
         };
-        let answer = take_row(alloc, tx, setup, known, row)?;
+        let answer = take_row(alloc, tx, setup, known, named, before + 1, row)?;
         count.add_row(before + 1, answer);
     }
     Err(ImportFault::TooLong)
 }
 
-/// Lodges a row. A row that is not a Lodge has no answer, as a bad row has none. It takes one layer
-/// off, which the prover needs.
+/// Lodges a row, and names it where it is bad or refused. A row that is not a Lodge has no answer,
+/// as a bad row has none. It takes one layer off, which the prover needs.
 fn take_row<S: Alter>(
     alloc: Global,
     tx: &mut Transaction<'_, S>,
     setup: &Setup,
     known: &mut BTreeMap<Code, Statuses>,
+    named: &mut Vec<NamedRow>,
+    number: u32,
     row: Row,
 ) -> Result<Option<Result<LodgeReply, Refusal>>, ImportFault>
     ensures stays { StaysInside S.Store tx.old tx.new }
@@ -65,23 +74,27 @@ fn take_row<S: Alter>(
     ensures taken { TakesRow setup.now row
         (state S.Store tx.old.conn.now) (state S.Store tx.new.conn.now) result }
     ensures known { CountsRow setup.now row known.old known.new result }
+    ensures named { IfOk result (λ answer.
+        named.new.items ≡ named.old.items ++ named_row number row answer) }
     ensures unwritten { WritesOnlyLodgedRow
         (state S.Store tx.old.conn.now) (state S.Store tx.new.conn.now) result }
     ensures own { IfErr result IsOwnFault }
 {
-    let Row::Lodge(ask) = row else {
-        return Ok(None);
-    };
-    take_ask(alloc, tx, setup, known, ask)
+    match row {
+        Row::Lodge(ask) => take_ask(alloc, tx, setup, known, named, number, ask),
+        Row::Bad(why) => Ok(name_bad(named, number, why)?),
+    }
 }
 
-/// Lodges what a Lodge brings. Another request has no answer. It takes one layer off, which the
-/// prover needs.
+/// Lodges what a Lodge brings, and names the row where that is refused. Another request has no
+/// answer. It takes one layer off, which the prover needs.
 fn take_ask<S: Alter>(
     alloc: Global,
     tx: &mut Transaction<'_, S>,
     setup: &Setup,
     known: &mut BTreeMap<Code, Statuses>,
+    named: &mut Vec<NamedRow>,
+    number: u32,
     ask: Ask,
 ) -> Result<Option<Result<LodgeReply, Refusal>>, ImportFault>
     ensures stays { StaysInside S.Store tx.old tx.new }
@@ -89,6 +102,8 @@ fn take_ask<S: Alter>(
     ensures taken { TakesRow setup.now (Row.Lodge ask)
         (state S.Store tx.old.conn.now) (state S.Store tx.new.conn.now) result }
     ensures known { CountsRow setup.now (Row.Lodge ask) known.old known.new result }
+    ensures named { IfOk result (λ answer.
+        named.new.items ≡ named.old.items ++ named_row number (Row.Lodge ask) answer) }
     ensures unwritten { WritesOnlyLodgedRow
         (state S.Store tx.old.conn.now) (state S.Store tx.new.conn.now) result }
     ensures own { IfErr result IsOwnFault }
@@ -102,6 +117,7 @@ fn take_ask<S: Alter>(
         return Ok(None);
     };
     let answer = take_return(alloc, tx, setup, known, station, slip, &counts)?;
+    name_refused(named, number, station, &answer)?;
     Ok(Some(answer))
 }
 

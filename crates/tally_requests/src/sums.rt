@@ -4,15 +4,15 @@ ghost use Rattle.std.specs.Prelude.{◌≡◌, ◌≤◌, OnSome, SomeIff, lengt
 ghost use Rattle.tally_frac.specs.Limits.{most_lists};
 ghost use Rattle.tally_statements.specs.internal.Inside.{InDatabase, StaysInside};
 ghost use Rattle.tally_requests.specs.internal.Moves.{MovesSums};
-ghost use Rattle.tally_ledger.specs.MovedSum.{CanMove, moved_sum};
-ghost use Rattle.tally_ledger.specs.internal.Sums.{moved_sums};
+ghost use Rattle.tally_keeper.specs.MovedSum.{CanMove, moved_sum};
+ghost use Rattle.tally_keeper.specs.internal.Sums.{moved_sums};
 ghost use Rattle.tally_requests.specs.internal.Sums.{FitCounts, FitEach, with_counts_moved};
 
 use sqlite::{Alter, Error, ErrorCode, Transaction};
 use std::alloc::Global;
 use tally_entries::{find_sums, put_sums};
 use tally_frac::MOST_VOTES;
-use tally_ledger::moved;
+use tally_keeper::moved;
 use tally_returns::Counts;
 use tally_rules::Constituency;
 use tally_tables::Sums;

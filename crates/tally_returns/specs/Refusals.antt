@@ -1,5 +1,5 @@
 -- The table of refusals.
-use Rattle.std.specs.Prelude.{ℕ}
+use Rattle.std.specs.Prelude.{ℕ, List, codes}
 use Rattle.tally_returns.specs.declared.refusal.Refusal.{Refusal}
 use Rattle.tally_returns.specs.declared.refusal.Refusal.TheVariants.{NoStation, NoConstituency}
 use Rattle.tally_returns.specs.declared.refusal.Refusal.TheVariants.{NoCandidate, BadCounts}
@@ -39,3 +39,30 @@ refusal_number NotHolder = 21
 refusal_number Memory = 22
 refusal_number Store = 23
 refusal_number NotConfirmed = 24
+
+-- the word of a refusal
+abbrev pub refusal_word : Refusal → List ℕ
+refusal_word NoStation = codes "no_station"
+refusal_word NoConstituency = codes "no_constituency"
+refusal_word NoCandidate = codes "no_candidate"
+refusal_word BadCounts = codes "bad_counts"
+refusal_word BadNote = codes "bad_note"
+refusal_word TooManyVotes = codes "too_many_votes"
+refusal_word (Differs rev) = codes "differs"
+refusal_word NoReturn = codes "no_return"
+refusal_word Certified = codes "certified"
+refusal_word NotCertified = codes "not_certified"
+refusal_word (Stale now) = codes "stale"
+refusal_word Exhausted = codes "exhausted"
+refusal_word (WrongStatus status) = codes "wrong_status"
+refusal_word (NotAllClosed left) = codes "not_all_closed"
+refusal_word NoEligible = codes "no_eligible"
+refusal_word LotStands = codes "lot_stands"
+refusal_word LotNotNeeded = codes "lot_not_needed"
+refusal_word (LotWrongGroup group) = codes "lot_wrong_group"
+refusal_word (LotMissing group seats) = codes "lot_missing"
+refusal_word AlreadyGone = codes "already_gone"
+refusal_word NotHolder = codes "not_holder"
+refusal_word Memory = codes "unavailable"
+refusal_word Store = codes "unavailable"
+refusal_word NotConfirmed = codes "not_confirmed"

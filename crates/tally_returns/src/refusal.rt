@@ -1,6 +1,6 @@
 //! Refusals. A command that the machine refuses changes nothing.
 
-ghost use Rattle.std.specs.Prelude.{◌≡◌};
+ghost use Rattle.std.specs.Prelude.{◌≡◌, ◌≤◌, length};
 
 use crate::returns::Status;
 use std::alloc::AllocError;
@@ -63,7 +63,7 @@ pub enum Refusal {
 }
 
 impl Refusal {
-    ghost use Rattle.tally_returns.specs.Refusals.{refusal_number};
+    ghost use Rattle.tally_returns.specs.Refusals.{refusal_number, refusal_word};
 
     /// The refusal's number, by which the office's answers and texts name it.
     pub fn number(&self) -> u32
@@ -94,6 +94,38 @@ impl Refusal {
             Refusal::Memory => 22,
             Refusal::Store => 23,
             Refusal::NotConfirmed => 24,
+        }
+    }
+
+    /// The refusal's word, as answers and texts show it.
+    pub fn word(&self) -> &'static str
+        ensures word { result.now ≡ refusal_word self.now }
+        ensures short { length result.now ≤ 16 }
+    {
+        match self {
+            Refusal::NoStation => "no_station",
+            Refusal::NoConstituency => "no_constituency",
+            Refusal::NoCandidate => "no_candidate",
+            Refusal::BadCounts => "bad_counts",
+            Refusal::BadNote => "bad_note",
+            Refusal::TooManyVotes => "too_many_votes",
+            Refusal::Differs { .. } => "differs",
+            Refusal::NoReturn => "no_return",
+            Refusal::Certified => "certified",
+            Refusal::NotCertified => "not_certified",
+            Refusal::Stale { .. } => "stale",
+            Refusal::Exhausted => "exhausted",
+            Refusal::WrongStatus { .. } => "wrong_status",
+            Refusal::NotAllClosed { .. } => "not_all_closed",
+            Refusal::NoEligible => "no_eligible",
+            Refusal::LotStands => "lot_stands",
+            Refusal::LotNotNeeded => "lot_not_needed",
+            Refusal::LotWrongGroup { .. } => "lot_wrong_group",
+            Refusal::LotMissing { .. } => "lot_missing",
+            Refusal::AlreadyGone => "already_gone",
+            Refusal::NotHolder => "not_holder",
+            Refusal::NotConfirmed => "not_confirmed",
+            Refusal::Memory | Refusal::Store => "unavailable",
         }
     }
 }

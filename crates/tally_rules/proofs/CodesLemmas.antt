@@ -1,6 +1,6 @@
 -- Codes in order: the place of each, and that they differ.
 use Rattle.std.proofs.Common.{◌≡◌, ◌≢◌, ◌<◌, ℕ, zero, suc, Bool, true, false, cond, List, [], ◌∷◌, ◌++◌, length, map, Option, Some, None, option_map, is_some, arith, refl, ap, ◌∙◌, sym, get_or}
-use Rattle.std.specs.Prelude.{◌||◌}
+use Rattle.std.specs.Prelude.{◌||◌, IfSome}
 use Rattle.std.specs.List.{slice_get, find}
 use Rattle.std.specs.Option.{option_or, option_and_then}
 use Rattle.std.specs.Str.{bytes_eq}
@@ -10,8 +10,8 @@ use Rattle.std.proofs.lemmas.Slice.Eq.{bytes_eq-Decides}
 use Rattle.std.proofs.lemmas.Map.Text.{is_eq-slice_cmp}
 use Rattle.std.proofs.lemmas.List.Quantifiers.{all_pairs_push}
 use Rattle.tally_rules.specs.Code.{code_cmp}
-use Rattle.tally_rules.specs.Codes.{is_among_codes, AreDistinct}
-use Rattle.tally_rules.specs.internal.Index.{index_of, IsIndex}
+use Rattle.tally_rules.specs.Codes.{is_among_codes, index_of, AreDistinct}
+use Rattle.tally_rules.specs.internal.Index.{IsIndex}
 
 -- a code added at the end is at the place after the others, unless it was there
 pub index_of-push : (q code : List ℕ) (codes : List (List ℕ)) → index_of q (codes ++ code ∷ []) ≡ option_or (index_of q codes) (cond (bytes_eq q code) (Some (length codes)) None)
@@ -92,3 +92,18 @@ IsIndex-push code codes old new index absent updates = record {
 
     at : (q : List ℕ) → (bytes_eq code q ≡ true → code ≡ q) × (code ≡ q → bytes_eq code q ≡ true) → (bytes_eq q code ≡ true → q ≡ code) × (q ≡ code → bytes_eq q code ≡ true) → cond (is_eq (code_cmp code q)) (Some (length codes)) (get code_cmp old q) ≡ index_of q (codes ++ code ∷ [])
     at q e f = ap (λ b. cond b (Some (length codes)) (get code_cmp old q)) (is_eq-slice_cmp code q) ∙ ap (cond (bytes_eq code q) (Some (length codes))) (index.found q) ∙ by_case q (bytes_eq code q) (bytes_eq q code) e f ∙ sym (index_of-push q code codes)
+
+-- a place is one of a code
+pub index_of-below : (q : List ℕ) (codes : List (List ℕ)) (i : ℕ) → index_of q codes ≡ Some i → i < length codes
+index_of-below q [] i e = cc
+index_of-below q (first ∷ others) i e = by_case (bytes_eq q first) (index_of q others) (index_of-below q others) e
+  where
+    by_case : (b : Bool) (o : Option ℕ) → ((j : ℕ) → o ≡ Some j → j < length others) → cond b (Some 0) (option_map suc o) ≡ Some i → i < length (first ∷ others)
+    by_case true o rest e = let z : 0 ≡ i = cc in omega (arith, z)
+    by_case false None rest e = cc
+    by_case false (Some j) rest e = let z : suc j ≡ i = cc in let below : j < length others = rest j refl in omega (arith, z, below)
+
+-- a place is below what the number of the codes is below
+pub index_of-fits : (q : List ℕ) (codes : List (List ℕ)) (o : Option ℕ) (n : ℕ) → o ≡ index_of q codes → length codes < n → IfSome o (λ place. place < n)
+index_of-fits q codes None n e below = tt
+index_of-fits q codes (Some i) n e below = let place : i < length codes = index_of-below q codes i (sym e) in omega (arith, place, below)

@@ -3,4 +3,5 @@ pub mod TextLemmas
 pub mod CodesLemmas
 pub mod SetupLemmas
 pub mod ReadLemmas
+pub mod PlaceLemmas
 pub mod ProfileLemmas

@@ -12,7 +12,8 @@ use Rattle.tally_rules.specs.Constituency.{Constituency, station_codes}
 use Rattle.tally_rules.specs.declared.constituency.Station.{Station}
 use Rattle.tally_rules.specs.declared.setup.StationPlace.{StationPlace}
 use Rattle.tally_rules.specs.Setup.{all_stations, station_with, constituency_with, all_station_codes}
-use Rattle.tally_rules.specs.internal.Index.{station_at, places_in, IsIndexed, index_of}
+use Rattle.tally_rules.specs.Codes.{index_of}
+use Rattle.tally_rules.specs.internal.Index.{station_at, places_in, IsIndexed}
 use Rattle.tally_rules.proofs.CodesLemmas.{find-index_of}
 
 -- one more element at the front of a list, and the element itself

@@ -5,6 +5,7 @@ pub mod Constituency
 pub mod Fault
 pub mod Limits
 pub mod Method
+pub mod Place
 pub mod Reading
 pub mod Setup
 pub mod Text

@@ -1,7 +1,8 @@
--- The setup that a text is, or its first fault. Each definition below has the order of checks of
--- one part of the format.
-use Rattle.std.specs.Prelude.{ℕ, ℤ, pos, negsuc, Bool, ◌==◌, ◌&&◌, not, nat_lt, nat_le, List, []}
-use Rattle.std.specs.Prelude.{◌∷◌, ◌++◌, length, map, Option, Some, None, option_map, is_some}
+-- The setup that a text is, or its first fault and the entry that has it. Each definition below has
+-- the order of checks of one part of the format.
+use Rattle.std.specs.Prelude.{ℕ, ℤ, pos, negsuc, Bool, ◌+◌, ◌-◌, ◌==◌, ◌&&◌, not, nat_lt}
+use Rattle.std.specs.Prelude.{nat_le, List, [], ◌∷◌, ◌++◌, length, map, Option, Some, None}
+use Rattle.std.specs.Prelude.{option_map, is_some}
 use Rattle.std.specs.Prelude.{Result, Ok, Err, if◌then◌else◌, codes}
 use Rattle.std.specs.List.{list_all}
 use Rattle.std.specs.Map.{lookup}
@@ -12,18 +13,26 @@ use Rattle.toml.specs.Data.{as_table}
 use Rattle.toml.specs.Parse.{parse_document}
 use Rattle.tally_frac.specs.Limits.{most_lists, most_seats, whole_base}
 use Rattle.tally_rules.specs.Code.{code_of}
-use Rattle.tally_rules.specs.Codes.{is_among_codes}
+use Rattle.tally_rules.specs.Codes.{index_of, is_among_codes}
 use Rattle.tally_rules.specs.Constituency.{Constituency, ListEntry, list_codes, station_codes}
 use Rattle.tally_rules.specs.Fault.{Fault, not_toml, missing, bad_value, over_limit, duplicate}
-use Rattle.tally_rules.specs.Fault.{unknown_profile}
+use Rattle.tally_rules.specs.Fault.{unknown_profile, Placed}
 use Rattle.tally_rules.specs.Limits.{most_candidates, most_constituencies, most_electors}
 use Rattle.tally_rules.specs.Limits.{most_profiles, most_stations}
 use Rattle.tally_rules.specs.Method.{method_named}
+use Rattle.tally_rules.specs.Place.{coded, constituency_way, in_code, in_entry, list_way, nowhere}
+use Rattle.tally_rules.specs.Place.{nth}
 use Rattle.tally_rules.specs.Setup.{constituency_codes, all_station_codes}
 use Rattle.tally_rules.specs.Text.{is_name}
 use Rattle.tally_rules.specs.declared.constituency.Entry.{Entry}
 use Rattle.tally_rules.specs.declared.constituency.Entry.TheVariants.{Single, Double}
 use Rattle.tally_rules.specs.declared.constituency.Station.{Station}
+use Rattle.tally_rules.specs.declared.place.Holder.{Holder}
+use Rattle.tally_rules.specs.declared.place.SetupArray.{SetupArray}
+use Rattle.tally_rules.specs.declared.place.SetupArray.TheVariants.{Candidates, Constituencies}
+use Rattle.tally_rules.specs.declared.place.SetupArray.TheVariants.{Lists as ListArray, Profiles}
+use Rattle.tally_rules.specs.declared.place.SetupArray.TheVariants.{Stations}
+use Rattle.tally_rules.specs.declared.place.Way.{Way}
 use Rattle.tally_rules.specs.declared.profile.Base.{Base}
 use Rattle.tally_rules.specs.declared.profile.Base.TheVariants.{Valid, Lists}
 use Rattle.tally_rules.specs.declared.profile.LotRule.{LotRule}
@@ -33,7 +42,7 @@ use Rattle.tally_rules.specs.declared.profile.Profile.{Profile}
 
 -- one step after another, as far as the first fault
 infixl 10 ◌>>=◌
-abbrev pub ◌>>=◌ : {A B : Type 0} → Result A Fault → (A → Result B Fault) → Result B Fault
+abbrev pub ◌>>=◌ : {A B E : Type 0} → Result A E → (A → Result B E) → Result B E
 Ok a >>= step = step a
 Err fault >>= step = Err fault
 
@@ -155,80 +164,134 @@ abbrev pub is_table : Data → Bool
 is_table value = is_some (as_table value)
 
 -- the entries of an array of tables, in order, each read beside those before it
-unfoldable pub in_turn : {A : Type 0} → (List A → Data → Result A Fault) → List A → List Data →
-    Result (List A) Fault
+unfoldable pub in_turn : {A : Type 0} → (List A → Data → Result A Placed) → List A → List Data →
+    Result (List A) Placed
 in_turn read before [] = Ok before
 in_turn read before (entry ∷ entries) = do
   a ← read before entry
   in_turn read (before ++ a ∷ []) entries
+
+-- ---- codes that differ
+
+-- the entry of an array that has a code first, among those of these codes
+abbrev pub first_in : SetupArray → List (List ℕ) → Fault → Option Way
+first_in array taken (duplicate code) =
+    option_map (λ place. coded array (place + 1) code) (index_of code taken)
+first_in array taken fault = None
+
+-- the code of the entry after those of these codes
+unfoldable pub next_code : SetupArray → List (List ℕ) → Data → Result (List ℕ) Placed
+next_code array taken entry =
+    in_code (first_in array taken) (nth array (length taken + 1)) (new_code taken entry)
 
 -- ---- profiles, lists, stations, constituencies
 
 abbrev pub profile_codes : List (List ℕ × Profile) → List (List ℕ)
 profile_codes profiles = map (λ (p : List ℕ × Profile). p.0) profiles
 
--- an entry of `profile`
-unfoldable pub profile_entry : List (List ℕ) → Data → Result (List ℕ × Profile) Fault
-profile_entry taken entry = do
-  code ← new_code taken entry
+-- what an entry of `profile` has beside its code
+unfoldable pub rest_of_profile : Data → Result Profile Fault
+rest_of_profile entry = do
   method ← read_method entry
   threshold ← read_number (codes "threshold") 0 whole_base entry
   base ← read_base entry
   lot ← read_lot_rule entry
-  Ok (code, record { method = method; threshold = threshold; base = base; lot = lot })
+  Ok (record { method = method; threshold = threshold; base = base; lot = lot })
 
--- `candidates`
-unfoldable pub read_candidates : Data → Result (List (List ℕ)) Fault
-read_candidates entry = do
-  names ← read_array is_text (codes "candidates") most_candidates entry
-  in_turn (λ _. name_from (codes "candidates")) [] names
+-- an entry of `profile`, after those of these codes
+unfoldable pub profile_entry : List (List ℕ) → Data → Result (List ℕ × Profile) Placed
+profile_entry taken entry = do
+  code ← next_code Profiles taken entry
+  profile ← in_entry (coded Profiles (length taken + 1) code) (rest_of_profile entry)
+  Ok (code, profile)
 
--- an entry of `list`
-unfoldable pub list_entry : List (List ℕ) → Data → Result ListEntry Fault
-list_entry taken entry = do
-  code ← new_code taken entry
-  name ← read_name entry
-  candidates ← read_candidates entry
-  Ok (record { code = code; name = name; candidates = candidates })
+-- an item of `candidates`, of this number
+abbrev pub candidate : Holder → Holder → ℕ → Data → Result (List ℕ) Placed
+candidate con list number value =
+    in_entry (nth (Candidates con list) number) (name_from (codes "candidates") value)
 
--- `list`
-unfoldable pub read_lists : Data → Result (List ListEntry) Fault
-read_lists entry = do
-  entries ← read_array is_table (codes "list") most_lists entry
-  in_turn (λ before. list_entry (list_codes before)) [] entries
+-- `candidates` of a list of a constituency
+unfoldable pub read_candidates : Holder → Holder → Data → Result (List (List ℕ)) Placed
+read_candidates con list entry = do
+  names ← in_entry (list_way con list)
+      (read_array is_text (codes "candidates") most_candidates entry)
+  in_turn (λ before. candidate con list (length before + 1)) [] names
 
--- an entry of `station`
-unfoldable pub station_entry : List (List ℕ) → Data → Result Station Fault
-station_entry taken entry = do
-  code ← new_code taken entry
-  electors ← read_number (codes "electors") 1 most_electors entry
+-- what an entry of `list` has beside its code, of this constituency and this list
+unfoldable pub rest_of_list : Holder → Holder → Data → Result ListEntry Placed
+rest_of_list con list entry = do
+  name ← in_entry (list_way con list) (read_name entry)
+  candidates ← read_candidates con list entry
+  Ok (record { code = list.code; name = name; candidates = candidates })
+
+-- an entry of `list` of a constituency, after those of these codes
+unfoldable pub list_entry : Holder → List (List ℕ) → Data → Result ListEntry Placed
+list_entry con taken entry = do
+  code ← next_code (ListArray con) taken entry
+  rest_of_list con (record { number = length taken + 1; code = code }) entry
+
+-- `list` of a constituency
+unfoldable pub read_lists : Holder → Data → Result (List ListEntry) Placed
+read_lists con entry = do
+  entries ← in_entry (constituency_way con) (read_array is_table (codes "list") most_lists entry)
+  in_turn (λ before. list_entry con (list_codes before)) [] entries
+
+-- The station at a place, from 0, among those of these constituencies and after them those so far
+-- of one more. The first of these has the number that is given.
+abbrev pub station_way : ℕ → List Constituency → Holder → ℕ → List ℕ → Way
+station_way number [] con place code = coded (Stations con) (place + 1) code
+station_way number (first ∷ others) con place code =
+    if nat_lt place (length first.stations)
+    then coded (Stations (record { number = number; code = first.code })) (place + 1) code
+    else station_way (number + 1) others con (place - length first.stations) code
+
+-- the station that has a code first, among those of these codes
+abbrev pub first_station : List Constituency → Holder → List (List ℕ) → Fault → Option Way
+first_station before con taken (duplicate code) =
+    option_map (λ place. station_way 1 before con place code) (index_of code taken)
+first_station before con taken fault = None
+
+-- what an entry of `station` has beside its code, of this number and code
+unfoldable pub rest_of_station : Holder → ℕ → List ℕ → Data → Result Station Placed
+rest_of_station con number code entry = do
+  electors ← in_entry (coded (Stations con) number code)
+      (read_number (codes "electors") 1 most_electors entry)
   Ok (record { code = code; electors = electors })
 
--- `station`, beside the codes of the stations of other constituencies
-unfoldable pub read_stations : List (List ℕ) → Data → Result (List Station) Fault
-read_stations taken entry = do
-  entries ← read_array is_table (codes "station") most_stations entry
-  in_turn (λ before. station_entry (taken ++ station_codes before)) [] entries
+-- an entry of `station` of a constituency, after these constituencies and these stations
+unfoldable pub station_entry : List Constituency → Holder → List Station → Data →
+    Result Station Placed
+station_entry before con stations entry = do
+  code ← in_code (first_station before con (all_station_codes before ++ station_codes stations))
+      (nth (Stations con) (length stations + 1))
+      (new_code (all_station_codes before ++ station_codes stations) entry)
+  rest_of_station con (length stations + 1) code entry
+
+-- `station` of a constituency, after these constituencies
+unfoldable pub read_stations : List Constituency → Holder → Data → Result (List Station) Placed
+read_stations before con entry = do
+  entries ← in_entry
+      (constituency_way con) (read_array is_table (codes "station") most_stations entry)
+  in_turn (station_entry before con) [] entries
 
 -- the profile of a code
 abbrev pub profile_with : List ℕ → List (List ℕ × Profile) → Option Profile
 profile_with code profiles = lookup (bytes_eq code) profiles
 
--- an entry of `constituency`, beside the codes of the constituencies before it and those of their
--- stations
-unfoldable pub constituency_entry : List (List ℕ × Profile) → List (List ℕ) → List (List ℕ) → Data →
-    Result Constituency Fault
-constituency_entry profiles taken stations_taken entry = do
-  code ← new_code taken entry
-  name ← read_name entry
-  seats ← read_number (codes "seats") 1 most_seats entry
-  profile_code ← read_code (codes "profile") entry
-  profile ← ok_or (profile_with profile_code profiles) unknown_profile
-  needed ← read_entry entry
-  lists ← read_lists entry
-  stations ← read_stations stations_taken entry
+-- what an entry of `constituency` has beside its code, after these, of this constituency
+unfoldable pub rest_of_constituency : List (List ℕ × Profile) → List Constituency → Holder → Data →
+    Result Constituency Placed
+rest_of_constituency profiles before con entry = do
+  name ← in_entry (constituency_way con) (read_name entry)
+  seats ← in_entry (constituency_way con) (read_number (codes "seats") 1 most_seats entry)
+  profile_code ← in_entry (constituency_way con) (read_code (codes "profile") entry)
+  profile ← in_entry
+      (constituency_way con) (ok_or (profile_with profile_code profiles) unknown_profile)
+  needed ← in_entry (constituency_way con) (read_entry entry)
+  lists ← read_lists con entry
+  stations ← read_stations before con entry
   Ok (record {
-    code = code;
+    code = con.code;
     name = name;
     seats = seats;
     profile_code = profile_code;
@@ -238,41 +301,46 @@ constituency_entry profiles taken stations_taken entry = do
     stations = stations;
   })
 
+-- an entry of `constituency`, after these
+unfoldable pub constituency_entry : List (List ℕ × Profile) → List Constituency → Data →
+    Result Constituency Placed
+constituency_entry profiles before entry = do
+  code ← next_code Constituencies (constituency_codes before) entry
+  rest_of_constituency profiles before (record { number = length before + 1; code = code }) entry
+
 -- `profile` of the document
-unfoldable pub read_profiles : Data → Result (List (List ℕ × Profile)) Fault
+unfoldable pub read_profiles : Data → Result (List (List ℕ × Profile)) Placed
 read_profiles document = do
-  entries ← read_array is_table (codes "profile") most_profiles document
+  entries ← nowhere (read_array is_table (codes "profile") most_profiles document)
   in_turn (λ before. profile_entry (profile_codes before)) [] entries
 
 -- `constituency` of the document
 unfoldable pub read_constituencies : List (List ℕ × Profile) → Data
-    → Result (List Constituency) Fault
+    → Result (List Constituency) Placed
 read_constituencies profiles document = do
-  entries ← read_array is_table (codes "constituency") most_constituencies document
-  in_turn
-      (λ before. constituency_entry profiles (constituency_codes before) (all_station_codes before))
-      [] entries
+  entries ← nowhere (read_array is_table (codes "constituency") most_constituencies document)
+  in_turn (constituency_entry profiles) [] entries
 
 -- ---- the text
 
 -- the table that the bytes are in TOML
-unfoldable pub document_of : List ℕ → Result Data Fault
+unfoldable pub document_of : List ℕ → Result Data Placed
 document_of bytes =
-    if is_utf8 bytes then ok_or (option_map table (parse_document bytes)) not_toml
-    else Err not_toml
+    if is_utf8 bytes then ok_or (option_map table (parse_document bytes)) (not_toml, None)
+    else Err (not_toml, None)
 
 -- what a text reads as
 abbrev pub Reading : Type 0
-Reading = Result (List Constituency) Fault
+Reading = Result (List Constituency) Placed
 
 -- the setup of a document: its profiles, and then its constituencies
-unfoldable pub setup_of : Data → Result (List Constituency) Fault
+unfoldable pub setup_of : Data → Result (List Constituency) Placed
 setup_of document = do
   profiles ← read_profiles document
   read_constituencies profiles document
 
 -- the setup of a text, which has at most 8,388,608 bytes
-unfoldable pub setup_of_text : List ℕ → Result (List Constituency) Fault
+unfoldable pub setup_of_text : List ℕ → Result (List Constituency) Placed
 setup_of_text text =
-    if nat_lt 8388608 (length text) then Err (over_limit (codes "text"))
+    if nat_lt 8388608 (length text) then Err (over_limit (codes "text"), None)
     else (document_of text >>= setup_of)

@@ -1,8 +1,8 @@
 //! Codes that differ, in order.
 
-ghost use Rattle.std.specs.Prelude.{◌≡◌, [], ◌∷◌, ◌++◌, not, IfOk, if◌then◌else◌};
-ghost use Rattle.tally_rules.specs.Codes.{is_among_codes, AreDistinct};
-ghost use Rattle.tally_rules.specs.internal.Index.{index_of};
+ghost use Rattle.std.specs.Prelude.{◌≡◌, ◌<◌, [], ◌∷◌, ◌++◌, ◌^◌, length, not, IfOk, IfSome};
+ghost use Rattle.std.specs.Prelude.{if◌then◌else◌};
+ghost use Rattle.tally_rules.specs.Codes.{is_among_codes, index_of, AreDistinct};
 
 use crate::code::Code;
 use std::alloc::{AllocError, Global};
@@ -55,10 +55,21 @@ impl Codes {
         Ok(true)
     }
 
+    /// How many there are.
+    pub fn len(&self) -> usize
+        ensures count { result ≡ length self.now }
+        ensures bound { result < 2 ^ 63 }
+    {
+        self.codes.len()
+    }
+
     /// The place of a code, from 0.
     pub fn index_of(&self, code: Code) -> Option<usize>
-        ensures { result ≡ index_of code self.now }
+        ensures place { result ≡ index_of code self.now }
+        ensures bound { IfSome result (λ place. place < 2 ^ 63) }
     {
+        // Called for what its contract says: a place fits a number.
+        let _count = self.len();
         self.places.get(&code).copied()
     }
 }

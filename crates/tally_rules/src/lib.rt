@@ -6,6 +6,8 @@ mod code;
 mod codes;
 mod constituency;
 mod fault;
+mod limits;
+mod place;
 mod profile;
 mod read;
 mod setup;
@@ -15,8 +17,12 @@ mod threshold;
 pub use code::Code;
 pub use constituency::{Constituency, Entry, ListEntry, Station};
 pub use fault::SetupFault;
+pub use limits::{
+    MOST_CANDIDATES, MOST_CONSTITUENCIES, MOST_ELECTORS, MOST_PROFILES, MOST_STATIONS,
+};
+pub use place::{Holder, Place, SetupArray, Way};
 pub use profile::{Base, LotRule, Method, Profile};
-pub use read::read_setup;
+pub use read::{read_setup, read_setup_placed};
 pub use setup::Setup;
 pub use tally_frac::ListSet;
 pub use text::good_note;

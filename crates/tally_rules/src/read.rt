@@ -1,11 +1,13 @@
 //! Reading a setup.
 
-ghost use Rattle.std.specs.Prelude.{◌≡◌, Ok, IfOk, IfErr};
+ghost use Rattle.std.specs.Prelude.{◌≡◌, ◌+◌, ◌≤◌, ◌++◌, ◌^◌, Ok, IfOk, IfErr, length};
 ghost use Rattle.toml.specs.View.{view};
-ghost use Rattle.tally_rules.specs.Fault.{IsFaultIn};
-ghost use Rattle.tally_rules.specs.internal.Found.{IsFoundIn};
+ghost use Rattle.tally_rules.specs.Fault.{IsFaultIn, IsPlacedFaultIn};
+ghost use Rattle.tally_rules.specs.Place.{IsPlaceIn, place_after};
+ghost use Rattle.tally_rules.specs.internal.Found.{IsNoDocument, IsPlacedIn};
 ghost use Rattle.tally_rules.specs.Reading.{read_constituencies, document_of, setup_of};
 ghost use Rattle.tally_rules.specs.Reading.{setup_of_text};
+ghost use Rattle.tally_rules.specs.declared.fault.SetupFault.TheVariants.{NotToml};
 
 mod entry;
 mod fault;
@@ -14,13 +16,14 @@ mod profile;
 
 use crate::codes::Codes;
 use crate::fault::SetupFault;
+use crate::limits::MOST_CONSTITUENCIES;
+use crate::place::Place;
 use crate::setup::Setup;
 use entry::{Kind, constituency_entry, read_array};
-use fault::{Key, KeyFault};
+use fault::{Key, KeyFault, PlacedFault};
 use profile::{Profiles, read_profiles};
 use std::alloc::Global;
 use std::str;
-use tally_frac::MOST_CONSTITUENCIES;
 use toml::Value;
 
 /// The most bytes that a setup's text has, 8 MiB.
@@ -33,44 +36,91 @@ pub fn read_setup(alloc: Global, text: &[u8]) -> Result<Setup, SetupFault>
     ensures setup { IfOk result (λ setup. setup_of_text text.now ≡ Ok setup) }
     ensures fault { IfErr result (IsFaultIn (setup_of_text text.now)) }
 {
-    match setup_of_text(alloc, text) {
+    match read_setup_placed(alloc, text) {
         Ok(setup) => Ok(setup),
-        Err(fault) => Err(fault.named()),
+        Err((fault, _)) => Err(fault),
     }
 }
 
+/// As `read_setup`, and beside the fault its place: of a text that is not TOML the line and the
+/// column, of any other fault the entry that has it. A text over the limit, a fault of the arrays
+/// of profiles and of constituencies themselves, and being out of memory have no place.
 #[tactic(auto, unfolding(crate::specs::Reading::setup_of_text))]
-fn setup_of_text(alloc: Global, text: &[u8]) -> Result<Setup, KeyFault>
+pub fn read_setup_placed(alloc: Global, text: &[u8]) -> Result<Setup, (SetupFault, Option<Place>)>
     ensures setup { IfOk result (λ setup. setup_of_text text.now ≡ Ok setup) }
-    ensures fault { IfErr result (IsFoundIn (setup_of_text text.now)) }
+    ensures fault { IfErr result (IsPlacedFaultIn (setup_of_text text.now)) }
+    ensures not_toml { IfErr result (λ e. e.0 ≡ NotToml → IsPlaceIn text.now e.1) }
 {
     if text.len() > TEXT_LIMIT {
-        return Err(KeyFault::OverLimit(Key::Text));
+        return Err((SetupFault::OverLimit("text"), None));
     }
-    setup_of(alloc, &document_of(alloc, text)?)
+    let document = match document_of(alloc, text) {
+        Ok(document) => document,
+        Err(TextFault::NotToml(offset)) => {
+            return Err((SetupFault::NotToml, Some(place_after(&text[..offset]))));
+        }
+        Err(TextFault::Memory) => return Err((SetupFault::Memory, None)),
+    };
+    match setup_of(alloc, &document) {
+        Ok(setup) => Ok(setup),
+        Err(
+            PlacedFault {
+                fault: KeyFault::Memory,
+                place: _,
+            },
+        ) => Err((SetupFault::Memory, None)),
+        Err(PlacedFault { fault, place }) => Err((fault.named(), place)),
+    }
+}
+
+/// Why a text has no table.
+#[derive(Clone, Copy)]
+enum TextFault {
+    /// It is not TOML from this byte on, from 0.
+    NotToml(usize),
+    Memory,
 }
 
 /// The table that the text is in TOML.
 #[tactic(auto, unfolding(crate::specs::Reading::document_of))]
-fn document_of(alloc: Global, text: &[u8]) -> Result<Value, KeyFault>
+fn document_of(alloc: Global, text: &[u8]) -> Result<Value, TextFault>
     ensures document { IfOk result (λ document. document_of text.now ≡ Ok (view document)) }
-    ensures fault { IfErr result (IsFoundIn (document_of text.now)) }
+    ensures fault { IfErr result (IsNoDocument text.now) }
 {
     let text = match str::from_utf8(text) {
         Ok(text) => text,
-        Err(_) => return Err(KeyFault::NotToml),
+        Err(fault) => return Err(TextFault::NotToml(fault.valid_up_to())),
     };
     match toml::table_from_str(alloc, text) {
         Ok(table) => Ok(Value::Table(table)),
-        Err(fault) if fault.is_memory() => Err(KeyFault::Memory),
-        Err(_) => Err(KeyFault::NotToml),
+        Err(fault) => match fault.span() {
+            Some(span) => Err(TextFault::NotToml(span.start)),
+            None => Err(TextFault::Memory),
+        },
     }
 }
 
+/// The place after these bytes of a text.
+fn place_after(before: &[u8]) -> Place
+    ensures { result ≡ place_after 1 1 before.now }
+{
+    let mut line = 1;
+    let mut column = 1;
+    for byte in before {
+        if *byte == b'\n' {
+            line += 1;
+            column = 1;
+        } else {
+            column += 1;
+        }
+    }
+    Place::Text(line, column)
+}
+
 #[tactic(auto, unfolding(crate::specs::Reading::setup_of))]
-fn setup_of(alloc: Global, document: &Value) -> Result<Setup, KeyFault>
+fn setup_of(alloc: Global, document: &Value) -> Result<Setup, PlacedFault>
     ensures setup { IfOk result (λ setup. setup_of (view document.now) ≡ Ok setup) }
-    ensures fault { IfErr result (IsFoundIn (setup_of (view document.now))) }
+    ensures fault { IfErr result (IsPlacedIn (setup_of (view document.now))) }
 {
     let profiles = read_profiles(alloc, document)?;
     read_constituencies(alloc, document, &profiles)
@@ -82,11 +132,11 @@ fn read_constituencies(
     alloc: Global,
     document: &Value,
     profiles: &Profiles,
-) -> Result<Setup, KeyFault>
+) -> Result<Setup, PlacedFault>
     ensures setup { IfOk result (λ setup.
         read_constituencies profiles.now (view document.now) ≡ Ok setup) }
     ensures fault { IfErr result
-        (IsFoundIn (read_constituencies profiles.now (view document.now))) }
+        (IsPlacedIn (read_constituencies profiles.now (view document.now))) }
 {
     let limit = MOST_CONSTITUENCIES;
     let entries = read_array(document, Key::Constituency, Kind::Table, limit)?;
@@ -94,7 +144,8 @@ fn read_constituencies(
     let mut stations = Codes::new(alloc);
     let mut cons = Vec::with_capacity(alloc, entries.len())?;
     for con in entries {
-        cons.push(constituency_entry(alloc, con, profiles, &mut codes, &mut stations)?)?;
+        let con = constituency_entry(alloc, con, profiles, &cons, &mut codes, &mut stations)?;
+        cons.push(con)?;
     }
     Ok(Setup::new(alloc, cons, codes, stations)?)
 }

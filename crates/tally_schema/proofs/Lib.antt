@@ -1,1 +1,14 @@
+pub mod StatementLemmas
+pub mod RowidLemmas
+pub mod EntryLemmas
+pub mod AnswerLemmas
+pub mod RowsLemmas
+pub mod InsertLemmas
+pub mod ManyLemmas
+pub mod UpdateLemmas
+pub mod DeleteLemmas
+pub mod CreateLemmas
+pub mod ReadLemmas
+pub mod RisingRowidLemmas
+pub mod ColumnLemmas
 pub mod TextLemmas

@@ -14,7 +14,7 @@ use Rattle.sqlite.specs.State.{State}
 use Rattle.sqlite.specs.declared.error.Error.{Error}
 use Rattle.sqlite.proofs.Callers.{IsPlain, command_of, statement_of, runs_as}
 use Rattle.sqlite_tied.specs.Compute.{everything}
-use Rattle.tally_rows.proofs.CreateLemmas.{made_by}
+use Rattle.tally_schema.proofs.CreateLemmas.{made_by}
 use Rattle.tally_schema.specs.Tables.{schema_with, past_tree, setup_table, returns_table, counts_table, cons_table, lots_table, seats_table, gone_table, totals_table, past_table}
 use Rattle.tally_schema.specs.internal.Texts.{create_setup_text, create_returns_text, create_counts_text, create_cons_text, create_lots_text, create_seats_text, create_gone_text, create_totals_text, create_past_text}
 use Rattle.tally_schema.specs.Made.{HasRun, HasFirstTables, AddsTable, HasEmptyTables, RunsStatement, Makes, MakesPast}

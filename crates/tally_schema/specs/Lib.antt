@@ -1,4 +1,6 @@
 pub mod internal
+pub mod Rows
+pub mod Values
 pub mod Tables
 pub mod Made
 pub mod Cells

@@ -7,10 +7,10 @@ ghost use Rattle.sqlite.specs.Steps.{over_memory, IsEmpty};
 ghost use Rattle.tally_schema.specs.Tables.{office_schema, former_schema};
 
 use crate::making::{create_former_tables, create_tables};
+use crate::same_schema::is_same_schema;
 use sqlite::{Connection, Error, ErrorCode, MemStore};
 use sqlite_schema::schema::Schema;
 use std::alloc::Global;
-use tally_rows::is_same_schema;
 
 fn empty_database(alloc: Global) -> Result<Connection<MemStore>, Error>
     ensures { IfOk result (λ conn. IsEmpty (state over_memory conn)) }

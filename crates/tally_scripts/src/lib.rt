@@ -15,7 +15,7 @@ pub use answers::{
     text_of_refusal, text_of_stations,
 };
 pub use commands::{command, counts};
-pub use imports::{import_from, text_of_import_from};
+pub use imports::{import_from, text_of_import_from, text_of_named, text_of_tried, trial_from};
 pub use readers::{Failing, Pieces};
 pub use returns::{
     ALL_LODGED, BAD_RETURNS, CUT_RETURNS, HEADER, NONE_LODGED, QUOTED_RETURNS, RETURNS,

@@ -24,8 +24,8 @@ use Rattle.sqlite.specs.Values.{bound, bound_value}
 use Rattle.sqlite.specs.Listing.{understood}
 use Rattle.sqlite.specs.State.{State}
 use Rattle.sqlite_tied.specs.Compute.{everything}
-use Rattle.tally_rows.proofs.ManyLemmas.{unnumbered}
-use Rattle.tally_rows.proofs.StatementLemmas.{cast_int}
+use Rattle.tally_schema.proofs.ManyLemmas.{unnumbered}
+use Rattle.tally_schema.proofs.StatementLemmas.{cast_int}
 use Rattle.tally_statements.specs.declared.table.KeyedTable.{KeyedTable}
 use Rattle.tally_statements.specs.declared.numbered.NumberedTable.{NumberedTable}
 use Rattle.tally_statements.specs.declared.numbered.NumberedTable.TheVariants as numbered

@@ -17,9 +17,9 @@ use Rattle.sqlite.specs.State.{State, Shown}
 use Rattle.sqlite.proofs.Callers.{reads_as}
 use Rattle.sqlite_keyed.proofs.ListLemmas.{filter-map, filter_same, ascending_weaker}
 use Rattle.sqlite_tied.specs.Compute.{everything}
-use Rattle.tally_rows.specs.Rows.{cells, has_key}
-use Rattle.tally_rows.proofs.AnswerLemmas.{from_table, passes_all, answer_in_order}
-use Rattle.tally_rows.proofs.UpdateLemmas.{by_text, by_text_is, next_column}
+use Rattle.tally_schema.specs.Rows.{cells, has_key}
+use Rattle.tally_schema.proofs.AnswerLemmas.{from_table, passes_all, answer_in_order}
+use Rattle.tally_schema.proofs.UpdateLemmas.{by_text, by_text_is, next_column}
 use Rattle.tally_schema.specs.Tables.{office_schema}
 use Rattle.tally_statements.specs.declared.table.KeyedTable.{KeyedTable}
 use Rattle.tally_statements.specs.declared.table.KeyedTable.TheVariants.{Returns, Counts, Cons, Lots, Seats, Gone, Totals, Past}

@@ -27,12 +27,12 @@ use Rattle.sqlite.specs.State.{State, Shown, ExecutesInside, mode_of}
 use Rattle.sqlite.proofs.Callers.{statement_of, runs_as, reads_as}
 use Rattle.sqlite_keyed.proofs.ListLemmas.{all_both}
 use Rattle.sqlite_tied.specs.Compute.{everything}
-use Rattle.tally_rows.specs.Rows.{HaveDistinctRowids}
-use Rattle.tally_rows.proofs.AnswerLemmas.{from_table}
-use Rattle.tally_rows.proofs.InsertLemmas.{stores_one}
-use Rattle.tally_rows.proofs.ReadLemmas.{shown_open}
-use Rattle.tally_rows.proofs.StatementLemmas.{cast_int, cast_null}
-use Rattle.tally_rows.proofs.UpdateLemmas.{IsOnly, updates_one}
+use Rattle.tally_schema.specs.Rows.{HaveDistinctRowids}
+use Rattle.tally_schema.proofs.AnswerLemmas.{from_table}
+use Rattle.tally_schema.proofs.InsertLemmas.{stores_one}
+use Rattle.tally_schema.proofs.ReadLemmas.{shown_open}
+use Rattle.tally_schema.proofs.StatementLemmas.{cast_int, cast_null}
+use Rattle.tally_schema.proofs.UpdateLemmas.{IsOnly, updates_one}
 use Rattle.tally_schema.specs.Cells.{setup_row}
 use Rattle.tally_schema.specs.Tables.{office_schema, setup_tree, setup_table}
 use Rattle.tally_statements.specs.declared.table.KeyedTable.{KeyedTable}

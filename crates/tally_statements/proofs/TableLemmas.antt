@@ -4,8 +4,8 @@ use Rattle.std.proofs.lemmas.Bool.Decides.{eqb_tells}
 use Rattle.sqlite_rules.specs.Edit.{IsNoIndex}
 use Rattle.sqlite.specs.Effect.{IsDatabase}
 use Rattle.sqlite.specs.State.{State}
-use Rattle.tally_rows.specs.Rows.{HaveDistinctRowids}
-use Rattle.tally_rows.proofs.InsertLemmas.{IsOrdinary}
+use Rattle.tally_schema.specs.Rows.{HaveDistinctRowids}
+use Rattle.tally_schema.proofs.InsertLemmas.{IsOrdinary}
 use Rattle.tally_schema.specs.Tables.{office_schema, setup_tree, setup_table}
 use Rattle.tally_statements.specs.declared.table.KeyedTable.{KeyedTable}
 use Rattle.tally_statements.specs.declared.table.KeyedTable.TheVariants.{Returns, Counts, Cons, Lots, Seats, Gone, Totals, Past}

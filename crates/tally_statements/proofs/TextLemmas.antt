@@ -10,9 +10,9 @@ use Rattle.sqlite.specs.declared.error.Error.{Error}
 use Rattle.sqlite.specs.Listing.{understood}
 use Rattle.sqlite.specs.State.{State}
 use Rattle.sqlite_tied.specs.Compute.{everything}
-use Rattle.tally_rows.proofs.AnswerLemmas.{from_table}
-use Rattle.tally_rows.proofs.StatementLemmas.{cast_int}
-use Rattle.tally_rows.proofs.UpdateLemmas.{by_text}
+use Rattle.tally_schema.proofs.AnswerLemmas.{from_table}
+use Rattle.tally_schema.proofs.StatementLemmas.{cast_int}
+use Rattle.tally_schema.proofs.UpdateLemmas.{by_text}
 use Rattle.tally_schema.specs.Cells.{flag}
 use Rattle.tally_statements.specs.declared.table.KeyedTable.TheVariants.{Returns, Counts, Cons, Lots, Seats, Gone, Totals}
 use Rattle.tally_statements.specs.Office.{tree_of, RunsWithValues, Inserts, Replaces, SetsItem, Deletes, item_cells}

@@ -24,10 +24,10 @@ use Rattle.sqlite.specs.State.{State, Shown}
 use Rattle.sqlite.proofs.Callers.{reads_as}
 use Rattle.sqlite_keyed.proofs.ListLemmas.{all_both, ascending_weaker}
 use Rattle.sqlite_tied.specs.Compute.{everything}
-use Rattle.tally_rows.specs.Rows.{cells}
-use Rattle.tally_rows.proofs.AnswerLemmas.{from_table, passes_all, shows, answer_is, answer_in_order}
-use Rattle.tally_rows.proofs.ColumnLemmas.{values_from, whole_row_is}
-use Rattle.tally_rows.proofs.ReadLemmas.{shown_open}
+use Rattle.tally_schema.specs.Rows.{cells}
+use Rattle.tally_schema.proofs.AnswerLemmas.{from_table, passes_all, shows, answer_is, answer_in_order}
+use Rattle.tally_schema.proofs.ColumnLemmas.{values_from, whole_row_is}
+use Rattle.tally_schema.proofs.ReadLemmas.{shown_open}
 use Rattle.tally_schema.specs.Tables.{office_schema}
 use Rattle.tally_statements.specs.declared.table.KeyedTable.{KeyedTable}
 use Rattle.tally_statements.specs.declared.table.KeyedTable.TheVariants.{Returns, Counts, Cons, Lots, Seats, Gone, Totals, Past}

@@ -24,13 +24,13 @@ use Rattle.sqlite.specs.Listing.{understood}
 use Rattle.sqlite.specs.State.{State, Writes, mode_of, ExecutesInside}
 use Rattle.sqlite.proofs.Callers.{IsPlain, command_of, statement_of, runs_as, one_permutation}
 use Rattle.sqlite_keyed.proofs.ListLemmas.{IsPermutation-filter}
-use Rattle.tally_rows.specs.Rows.{has_key, others, without}
-use Rattle.tally_rows.proofs.AnswerLemmas.{from_table, passes_all, shows}
-use Rattle.tally_rows.proofs.RowsLemmas.{none_then_all}
-use Rattle.tally_rows.proofs.InsertLemmas.{inserts_one}
-use Rattle.tally_rows.proofs.ManyLemmas.{unnumbered, inserts_many}
-use Rattle.tally_rows.proofs.UpdateLemmas.{by_text, by_text_is, equals_text, equals_int, next_column, and_true_right, updates_one, only_row}
-use Rattle.tally_rows.proofs.DeleteLemmas.{deletes_all}
+use Rattle.tally_schema.specs.Rows.{has_key, others, without}
+use Rattle.tally_schema.proofs.AnswerLemmas.{from_table, passes_all, shows}
+use Rattle.tally_schema.proofs.RowsLemmas.{none_then_all}
+use Rattle.tally_schema.proofs.InsertLemmas.{inserts_one}
+use Rattle.tally_schema.proofs.ManyLemmas.{unnumbered, inserts_many}
+use Rattle.tally_schema.proofs.UpdateLemmas.{by_text, by_text_is, equals_text, equals_int, next_column, and_true_right, updates_one, only_row}
+use Rattle.tally_schema.proofs.DeleteLemmas.{deletes_all}
 use Rattle.tally_schema.specs.Tables.{office_schema, setup_tree}
 use Rattle.tally_statements.specs.declared.table.KeyedTable.{KeyedTable}
 use Rattle.tally_statements.specs.Office.{table_of, tree_of, rows_in, IsInside, HasRows, item_cells, is_item}

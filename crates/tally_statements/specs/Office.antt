@@ -13,7 +13,7 @@ use Rattle.sqlite_schema.specs.declared.schema.Table.{Table}
 use Rattle.sqlite.specs.declared.error.Error.{Error}
 use Rattle.sqlite.specs.Effect.{IsDatabase}
 use Rattle.sqlite.specs.State.{State as Seen, HasCleanDisk, ExecutesInside}
-use Rattle.tally_rows.specs.Rows.{cells, has_key, others, HaveDistinctRowids}
+use Rattle.tally_schema.specs.Rows.{cells, has_key, others, HaveDistinctRowids}
 use Rattle.tally_schema.specs.Cells.{flag, setup_row}
 use Rattle.tally_schema.specs.Tables.{office_schema, setup_tree, returns_table, returns_tree}
 use Rattle.tally_schema.specs.Tables.{counts_table, counts_tree, cons_table, cons_tree, lots_table}

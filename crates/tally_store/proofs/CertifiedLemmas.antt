@@ -6,8 +6,8 @@ use Rattle.std.specs.List.{flat_map}
 use Rattle.std.specs.Option.{option_to_list}
 use Rattle.std.proofs.lemmas.List.{append-nil}
 use Rattle.sqlite.specs.State.{State as Seen}
-use Rattle.tally_rows.specs.Rows.{AreRowsOf, has_key}
-use Rattle.tally_rows.proofs.RowsLemmas.{rows_of_key}
+use Rattle.tally_schema.specs.Rows.{AreRowsOf, has_key}
+use Rattle.tally_schema.proofs.RowsLemmas.{rows_of_key}
 use Rattle.tally_rules.specs.Constituency.{Constituency}
 use Rattle.tally_rules.specs.Limits.{IsSetup}
 use Rattle.tally_rules.specs.Setup.{constituency_with}

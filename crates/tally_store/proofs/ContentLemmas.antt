@@ -15,7 +15,7 @@ use Rattle.tally_returns.specs.State.{ConState, GoneCandidates, PastRecords, Sta
 use Rattle.tally_returns.specs.View.{gone_candidate, gone_candidates, past_record, past_records, view_with}
 use Rattle.tally_steps.specs.LawfulState.{IsLawfulState, IsUnderPlaces}
 use Rattle.tally_steps.specs.LawStatements.{ViewsAreLawful}
-use Rattle.tally_rows.specs.Rows.{text_cmp}
+use Rattle.tally_schema.specs.Rows.{text_cmp}
 use Rattle.tally_statements.specs.declared.table.KeyedTable.TheVariants.{Returns as Heads, Counts, Cons, Lots, Seats, Gone, Totals, Past}
 use Rattle.tally_judge.specs.OfficeRows.{AreOfficeRows}
 use Rattle.tally_judge.proofs.StateLemmas.{IsHeld, all_held, under_held, view_entry, view_is, views_of}

@@ -11,8 +11,8 @@ use Rattle.sqlite.specs.State.{State as Seen}
 use Rattle.sqlite_keyed.proofs.ListLemmas.{all_weaker}
 use Rattle.sqlite_value.specs.declared.value.Value.TheVariants.{Int, Text}
 use Rattle.sqlite_value.specs.Order.{Row}
-use Rattle.tally_rows.specs.Rows.{has_key}
-use Rattle.tally_rows.proofs.RowsLemmas.{keys_rise, rows_of_key}
+use Rattle.tally_schema.specs.Rows.{has_key}
+use Rattle.tally_schema.proofs.RowsLemmas.{keys_rise, rows_of_key}
 use Rattle.tally_rules.specs.Constituency.{Constituency}
 use Rattle.tally_rules.specs.Limits.{IsSetup}
 use Rattle.tally_rules.specs.Setup.{constituency_with, station_with}

@@ -4,6 +4,7 @@ pub mod RequestLemmas
 pub mod EndLemmas
 pub mod ShownLemmas
 pub mod StationLemmas
+pub mod TrialLemmas
 pub mod CertifiedLemmas
 pub mod EnteredTwiceLemmas
 pub mod NextOpeningLemmas

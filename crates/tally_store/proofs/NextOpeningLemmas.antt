@@ -20,7 +20,7 @@ use Rattle.tally_keeper.specs.declared.fault.OpenFault.{OpenFault}
 use Rattle.tally_keeper.specs.declared.fault.OpenFault.TheVariants.{BadTables, Memory, NoTables, Setup, Store}
 use Rattle.tally_returns.specs.State.{State}
 use Rattle.tally_rules.specs.Constituency.{Constituency}
-use Rattle.tally_rules.specs.Fault.{IsFaultIn}
+use Rattle.tally_rules.specs.Fault.{IsFaultIn, without_place}
 use Rattle.tally_rules.specs.Reading.{setup_of_text}
 use Rattle.tally_rules.specs.declared.fault.SetupFault.{SetupFault}
 use Rattle.tally_rules.specs.declared.fault.SetupFault.TheVariants as setup_fault
@@ -73,12 +73,12 @@ module _ (setup : List Constituency) (text : List ℕ) (s : State) (found : Data
   found_text other words t (inr is) = absurd (forms_differ (sym schema ∙ is.0))
 
   no_fault : (fault : SetupFault) → IsFaultIn (setup_of_text text) fault → fault ≢ setup_fault.Memory → ⊥
-  no_fault setup_fault.NotToml is other = let e = sym is ∙ whole.reads in cc
-  no_fault (setup_fault.Missing key) is other = let e = sym is ∙ whole.reads in cc
-  no_fault (setup_fault.BadValue key) is other = let e = sym is ∙ whole.reads in cc
-  no_fault (setup_fault.OverLimit key) is other = let e = sym is ∙ whole.reads in cc
-  no_fault (setup_fault.Duplicate code) is other = let e = sym is ∙ whole.reads in cc
-  no_fault setup_fault.UnknownProfile is other = let e = sym is ∙ whole.reads in cc
+  no_fault setup_fault.NotToml is other = let e = sym is ∙ ap without_place whole.reads in cc
+  no_fault (setup_fault.Missing key) is other = let e = sym is ∙ ap without_place whole.reads in cc
+  no_fault (setup_fault.BadValue key) is other = let e = sym is ∙ ap without_place whole.reads in cc
+  no_fault (setup_fault.OverLimit key) is other = let e = sym is ∙ ap without_place whole.reads in cc
+  no_fault (setup_fault.Duplicate code) is other = let e = sym is ∙ ap without_place whole.reads in cc
+  no_fault setup_fault.UnknownProfile is other = let e = sym is ∙ ap without_place whole.reads in cc
   no_fault setup_fault.Memory is other = other refl
 
   one : (other : List Constituency) (words : List ℕ) (t : State) → AreOfOneState other words t found → (other ≡ setup) × (t ≡ s)

@@ -9,7 +9,7 @@ use Rattle.sqlite.specs.declared.transaction.Transaction.{Transaction}
 use Rattle.sqlite.specs.State.{State as Seen, HasCleanDisk, IsUnchanged, KeepsCounts, Shows, Survives}
 use Rattle.sqlite_trees.specs.declared.store.Store.{Ghosts}
 use Rattle.sqlite_trees.specs.Tree.{Trees}
-use Rattle.tally_rows.specs.Rows.{HaveDistinctRowids}
+use Rattle.tally_schema.specs.Rows.{HaveDistinctRowids}
 use Rattle.tally_rules.specs.Constituency.{Constituency}
 use Rattle.tally_rules.specs.Limits.{IsSetup}
 use Rattle.tally_returns.specs.Named.{BringsCode}
@@ -33,7 +33,7 @@ use Rattle.tally_keeper.specs.Source.{Delivery}
 use Rattle.tally_keeper.specs.declared.import.ImportCount.{ImportCount}
 use Rattle.tally_keeper.specs.declared.source.ImportFault.{ImportFault}
 use Rattle.tally_keeper.proofs.EventLemmas.{happen-lawful}
-use Rattle.tally_ledger.proofs.TreeLemmas.{get-tree}
+use Rattle.tally_keeper.proofs.TreeLemmas.{get-tree}
 use Rattle.tally_requests.specs.internal.Inside.{IsLawfulInside, StaysInState}
 use Rattle.tally_requests.specs.internal.Known.{AreKnown, Known, known_of}
 use Rattle.tally_requests.specs.internal.Requests.{IsCarriedOut, IsImported, IsImportedKnown, IsInState}

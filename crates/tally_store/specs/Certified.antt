@@ -1,7 +1,7 @@
 -- What the database of an office has of a certified constituency.
 use Rattle.std.specs.Prelude.{◌≡◌, ℕ, true, List, map, filter, Some, IsPermutation}
 use Rattle.sqlite.specs.State.{State as Seen}
-use Rattle.tally_rows.specs.Rows.{has_key}
+use Rattle.tally_schema.specs.Rows.{has_key}
 use Rattle.tally_rules.specs.Constituency.{Constituency}
 use Rattle.tally_rules.specs.Setup.{constituency_with}
 use Rattle.tally_returns.specs.State.{State, con_state}

@@ -12,7 +12,7 @@ use Rattle.tally_returns.specs.PastSeats.{PastSeats}
 use Rattle.tally_returns.specs.Return.{StationReturn}
 use Rattle.tally_returns.specs.State.{ConState, State, opening}
 use Rattle.tally_returns.specs.View.{View}
-use Rattle.tally_ledger.specs.Kept.{Kept, opening_kept, view_in}
+use Rattle.tally_keeper.specs.Kept.{Kept, opening_kept, view_in}
 use Rattle.tally_statements.specs.declared.table.KeyedTable.{KeyedTable}
 use Rattle.tally_statements.specs.declared.table.KeyedTable.TheVariants.{Returns, Counts, Cons}
 use Rattle.tally_statements.specs.declared.table.KeyedTable.TheVariants.{Lots, Seats, Gone, Totals}

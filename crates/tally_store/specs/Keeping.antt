@@ -1,5 +1,5 @@
 -- What a call on a store does to its content, what it keeps, and what a crash may leave after it.
-use Rattle.std.specs.Prelude.{ℕ, List, Option, Result, Ok, Err, IfSome, IsTrue, Vec}
+use Rattle.std.specs.Prelude.{ℕ, List, Option, Result, Ok, Err, IfSome, IsTrue, OnOk, Vec}
 use Rattle.std.specs.declared.alloc.Global.{Global}
 use Rattle.sqlite_trees.specs.declared.store.Store.{Ghosts}
 use Rattle.sqlite.specs.Held.{Held, state}
@@ -9,11 +9,13 @@ use Rattle.tally_returns.specs.View.{View}
 use Rattle.tally_returns.specs.declared.ask.Ask.{Ask}
 use Rattle.tally_returns.specs.declared.refusal.Refusal.{Refusal}
 use Rattle.tally_returns.specs.declared.station_row.StationRow.{StationRow}
-use Rattle.tally_keeper.specs.Keeper.{Event, Happens, Imports}
+use Rattle.tally_keeper.specs.Keeper.{Event, Happens, Imports, Tries}
+use Rattle.tally_keeper.specs.NamedRows.{NamesRows}
 use Rattle.tally_keeper.specs.Shown.{AnswersShowCon, ShowsReturns}
 use Rattle.tally_keeper.specs.Source.{Delivery}
 use Rattle.tally_keeper.specs.Stays.{StaysBy}
 use Rattle.tally_keeper.specs.declared.import.ImportCount.{ImportCount}
+use Rattle.tally_keeper.specs.declared.import.NamedRow.{NamedRow}
 use Rattle.tally_keeper.specs.declared.source.ImportFault.{ImportFault}
 use Rattle.tally_opening.specs.Office.{IsOffice}
 use Rattle.tally_store.specs.Certified.{HasCertificates}
@@ -57,6 +59,20 @@ abbrev pub ImportsIn : {S : Type 0} → Ghosts S → Delivery → Result ImportC
 ImportsIn g d result old new =
     HasCleanDisk (state g new.conn)
     → Imports old.setup (content_in g old) d result (content_in g new)
+
+-- and so was it tried
+abbrev pub TriesIn : {S : Type 0} → Ghosts S → Delivery → Result ImportCount ImportFault
+    → Stored S → Stored S → Type 0
+TriesIn g d result old new =
+    HasCleanDisk (state g new.conn)
+    → Tries old.setup (content_in g old) d result (content_in g new)
+
+-- and so were the rows of an import or a trial with a count named
+abbrev pub NamesRowsIn : {S : Type 0} → Ghosts S → Delivery → Result ImportCount ImportFault
+    → List NamedRow → List NamedRow → Stored S → Stored S → Type 0
+NamesRowsIn g d result before after old new =
+    HasCleanDisk (state g new.conn)
+    → OnOk result (NamesRows old.setup (content_in g old) d before after)
 
 -- The database of a store that is not shut is that of its content.
 abbrev pub ShowsContent : {S : Type 0} → Ghosts S → Stored S → Type 0

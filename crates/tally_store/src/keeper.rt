@@ -12,19 +12,20 @@ ghost use Rattle.tally_rules.specs.Constituency.{Constituency};
 ghost use Rattle.tally_rules.specs.Setup.{constituency_with};
 ghost use Rattle.tally_steps.specs.Kinds.{IsReplyTo};
 ghost use Rattle.tally_steps.specs.Runs.{is_act};
+ghost use Rattle.tally_opening.specs.Crash.{IsUnwritten};
 ghost use Rattle.tally_store.specs.Content.{content_of};
 ghost use Rattle.tally_store.specs.Crash.{LeavesAsBefore, LooksWithoutWriting};
 ghost use Rattle.tally_store.specs.Crash.{WritesOnlyLodgedRows};
-ghost use Rattle.tally_store.specs.Keeping.{HappensIn, ImportsIn, KeepsTextIn, ShowsConIn};
-ghost use Rattle.tally_store.specs.Keeping.{ShowsContent, ShowsReturnsIn};
+ghost use Rattle.tally_store.specs.Keeping.{HappensIn, ImportsIn, KeepsTextIn, NamesRowsIn};
+ghost use Rattle.tally_store.specs.Keeping.{ShowsConIn, ShowsContent, ShowsReturnsIn, TriesIn};
 ghost use Rattle.tally_store.specs.Keeping.{StaysStore, SurvivesImport, SurvivesLook};
 ghost use Rattle.tally_store.specs.Keeping.{SurvivesRequest};
 
-use crate::requests::{answer_request, import_rows, show_request, show_stations};
+use crate::requests::{answer_request, import_rows, show_request, show_stations, try_rows};
 use crate::store::Store;
 use sqlite::Alter;
 use tally_keeper::{
-    Ask, ConView, ImportCount, ImportFault, Keeper, Refusal, Reply, RowSource, StationRow,
+    Ask, ConView, ImportCount, ImportFault, Keeper, NamedRow, Refusal, Reply, RowSource, StationRow,
 };
 use tally_machine::laws;
 use tally_rules::{Code, Setup};
@@ -124,10 +125,16 @@ impl<S: Alter> Keeper for Store<S> {
     /// state, with the same text of the setup, or a failed disk has shut the store. A crash at the
     /// end of the call leaves what it could leave before, or the tables after an import of all rows
     /// that the source gave until its end. An import that lodges nothing writes nothing.
-    fn lodge_from<R: RowSource>(&mut self, rows: &mut R) -> Result<ImportCount, ImportFault>
+    fn lodge_from<R: RowSource>(
+        &mut self,
+        rows: &mut R,
+        named: &mut Vec<NamedRow>,
+    ) -> Result<ImportCount, ImportFault>
         ensures stays { StaysStore S.Store self.old self.new }
         ensures imported { ImportsIn S.Store
             (delivery R.RowSource rows.old rows.new) result self.old self.new }
+        ensures named { NamesRowsIn S.Store (delivery R.RowSource rows.old rows.new) result
+            named.old.items named.new.items self.old self.new }
         ensures tables { ShowsContent S.Store self.new }
         ensures text { KeepsTextIn S.Store self.old self.new }
         ensures crash { SurvivesImport S.Store
@@ -143,6 +150,30 @@ impl<S: Alter> Keeper for Store<S> {
             &self.setup,
             &mut self.known,
             rows,
+            named,
         )
+    }
+
+    /// Tries an import in a transaction that is undone, whatever it comes to. The database is then
+    /// that of the store's state, as it was, or a failed disk has shut the store. Nothing is
+    /// written: a crash leaves what was there, and nothing else.
+    fn trial_from<R: RowSource>(
+        &mut self,
+        rows: &mut R,
+        named: &mut Vec<NamedRow>,
+    ) -> Result<ImportCount, ImportFault>
+        ensures stays { StaysStore S.Store self.old self.new }
+        ensures tried { TriesIn S.Store
+            (delivery R.RowSource rows.old rows.new) result self.old self.new }
+        ensures named { NamesRowsIn S.Store (delivery R.RowSource rows.old rows.new) result
+            named.old.items named.new.items self.old self.new }
+        ensures tables { ShowsContent S.Store self.new }
+        ensures text { KeepsTextIn S.Store self.old self.new }
+        ensures unwritten { IsUnwritten
+            (state S.Store self.old.conn) (state S.Store self.new.conn) }
+    {
+        // Called for what its contract says: a constituency has a view in each lawful state.
+        laws::a_constituency_has_a_view();
+        try_rows(self.alloc, &mut self.conn, &self.setup, rows, named)
     }
 }

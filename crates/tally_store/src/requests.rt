@@ -5,7 +5,10 @@ ghost use Rattle.std.specs.Prelude.{OnOk};
 ghost use Rattle.sqlite.specs.State.{HasCleanDisk};
 ghost use Rattle.sqlite.specs.Held.{state};
 ghost use Rattle.tally_keeper.specs.Delivery.{delivery};
-ghost use Rattle.tally_keeper.specs.Keeper.{IsImportFault};
+ghost use Rattle.tally_keeper.specs.Keeper.{IsImportFault, IsOwnFault};
+ghost use Rattle.tally_keeper.specs.Source.{GaveAll};
+ghost use Rattle.tally_opening.specs.Crash.{IsUnwritten};
+ghost use Rattle.tally_opening.specs.internal.Ending.{EndsUnchanged};
 ghost use Rattle.tally_keeper.specs.Shown.{IsReturnsRefusal, con_with};
 ghost use Rattle.tally_steps.specs.Kinds.{IsReplyTo};
 ghost use Rattle.tally_steps.specs.Runs.{is_act};
@@ -20,8 +23,9 @@ ghost use Rattle.tally_store.specs.Crash.{WritesOnlyLodgedRows};
 ghost use Rattle.tally_statements.specs.internal.Inside.{StaysInside};
 ghost use Rattle.tally_requests.specs.internal.Inside.{StaysInState};
 ghost use Rattle.tally_requests.specs.internal.Known.{ForgetsNone, known_of};
-ghost use Rattle.tally_requests.specs.internal.Requests.{AnswersIn, LodgesRows};
-ghost use Rattle.tally_store.specs.internal.Requests.{Does, DoesImport, DoesShow, DoesShowReturns};
+ghost use Rattle.tally_requests.specs.internal.Requests.{AnswersIn, LodgesRows, NamesImported};
+ghost use Rattle.tally_store.specs.internal.Requests.{Does, DoesImport, DoesName, DoesShow};
+ghost use Rattle.tally_store.specs.internal.Requests.{DoesShowReturns, DoesTry};
 ghost use Rattle.tally_store.specs.internal.Requests.{EndsFrom, EndsImport, EndsRequest};
 ghost use Rattle.tally_store.specs.internal.Requests.{EndsTransaction, IsNothing};
 ghost use Rattle.tally_store.specs.internal.Requests.{IsRefusedByKeeper};
@@ -32,7 +36,9 @@ ghost use Rattle.tally_store.specs.internal.Served.{IsKnownOf};
 use sqlite::{Alter, Connection, Error, ErrorCode, Transaction};
 use std::alloc::Global;
 use std::collections::BTreeMap;
-use tally_keeper::{Ask, ConView, ImportCount, ImportFault, Refusal, Reply, RowSource, StationRow};
+use tally_keeper::{
+    Ask, ConView, ImportCount, ImportFault, NamedRow, Refusal, Reply, RowSource, StationRow,
+};
 use tally_requests::{
     answer_in, import_fault_of, see_open, show_con_in, show_returns_in, take_rows,
 };
@@ -137,15 +143,16 @@ pub(crate) fn show_stations<S: Alter>(
     end_request(tx, known, rows)
 }
 
-/// Lodges the rows of a source in the database. With a fault the database is as it was, unless a
-/// disk that failed has shut the connection, and nothing is known. Where no row was lodged nothing
-/// is written.
+/// Lodges the rows of a source in the database, and names those that are refused or bad. With a
+/// fault the database is as it was, unless a disk that failed has shut the connection, and nothing
+/// is known. Where no row was lodged nothing is written.
 pub(crate) fn import_rows<S: Alter, R: RowSource>(
     alloc: Global,
     conn: &mut Connection<S>,
     setup: &Setup,
     known: &mut BTreeMap<Code, Statuses>,
     source: &mut R,
+    named: &mut Vec<NamedRow>,
 ) -> Result<ImportCount, ImportFault>
     requires autocommit { conn.old.in_transaction ≡ false }
     requires office { IsOfLawfulState setup.now (state S.Store conn.old) }
@@ -154,6 +161,9 @@ pub(crate) fn import_rows<S: Alter, R: RowSource>(
         (state S.Store conn.old) (state S.Store conn.new) }
     ensures done { DoesImport setup.now (delivery R.RowSource source.old source.new)
         (state S.Store conn.old) (state S.Store conn.new) result }
+    ensures named { DoesName setup.now (delivery R.RowSource source.old source.new)
+        (state S.Store conn.old) (state S.Store conn.new) result
+        named.old.items named.new.items }
     ensures known { KnowsImported setup.now (delivery R.RowSource source.old source.new)
         (state S.Store conn.old) (state S.Store conn.new) result (known_of known.new) }
     ensures fault { IfErr result (IsImportFault (delivery R.RowSource source.old source.new)) }
@@ -164,7 +174,7 @@ pub(crate) fn import_rows<S: Alter, R: RowSource>(
         (state S.Store conn.old) (state S.Store conn.new) result }
 {
     let mut tx = conn.transaction();
-    match take_open(alloc, &mut tx, setup, known, source) {
+    match take_open(alloc, &mut tx, setup, known, source, named) {
         Ok(count) => match tx.commit() {
             Ok(()) => Ok(count),
             Err(error) => {
@@ -177,6 +187,77 @@ pub(crate) fn import_rows<S: Alter, R: RowSource>(
             known.clear();
             Err(fault)
         }
+    }
+}
+
+/// Answers what `import_rows` would answer, with the rows that it would name, and lodges nothing.
+/// Whatever it answers, the database is as it was, unless a disk that failed has shut the
+/// connection, and then it answers a fault.
+pub(crate) fn try_rows<S: Alter, R: RowSource>(
+    alloc: Global,
+    conn: &mut Connection<S>,
+    setup: &Setup,
+    source: &mut R,
+    named: &mut Vec<NamedRow>,
+) -> Result<ImportCount, ImportFault>
+    requires autocommit { conn.old.in_transaction ≡ false }
+    requires office { IsOfLawfulState setup.now (state S.Store conn.old) }
+    ensures ends { EndsUnchanged (state S.Store conn.old) (state S.Store conn.new) }
+    ensures tried { DoesTry setup.now (delivery R.RowSource source.old source.new)
+        (state S.Store conn.old) (state S.Store conn.new) result }
+    ensures named { DoesName setup.now (delivery R.RowSource source.old source.new)
+        (state S.Store conn.old) (state S.Store conn.new) result
+        named.old.items named.new.items }
+    ensures fault { IfErr result (IsImportFault (delivery R.RowSource source.old source.new)) }
+    ensures shut { HasCleanDisk (state S.Store conn.new) →
+        (state S.Store conn.new).is_open ≡ false → IsErr result }
+    ensures unwritten { IsUnwritten (state S.Store conn.old) (state S.Store conn.new) }
+{
+    let count = take_undone(alloc, conn, setup, source, named)?;
+    see_not_shut(conn)?;
+    Ok(count)
+}
+
+/// Lodges the rows of a source in a transaction, and undoes what was written, whatever came of it.
+fn take_undone<S: Alter, R: RowSource>(
+    alloc: Global,
+    conn: &mut Connection<S>,
+    setup: &Setup,
+    source: &mut R,
+    named: &mut Vec<NamedRow>,
+) -> Result<ImportCount, ImportFault>
+    requires autocommit { conn.old.in_transaction ≡ false }
+    requires office { IsOfLawfulState setup.now (state S.Store conn.old) }
+    ensures ends { EndsUnchanged (state S.Store conn.old) (state S.Store conn.new) }
+    ensures tried { DoesTry setup.now (delivery R.RowSource source.old source.new)
+        (state S.Store conn.old) (state S.Store conn.new) result }
+    ensures named { DoesName setup.now (delivery R.RowSource source.old source.new)
+        (state S.Store conn.old) (state S.Store conn.new) result
+        named.old.items named.new.items }
+    ensures gave { OnOk result (GaveAll (delivery R.RowSource source.old source.new)) }
+    ensures fault { IfErr result (IsImportFault (delivery R.RowSource source.old source.new)) }
+{
+    // What is known is of no use here: nothing is lodged.
+    let mut known = BTreeMap::new(alloc);
+    let mut tx = conn.transaction();
+    let taken = take_open(alloc, &mut tx, setup, &mut known, source, named);
+    tx.rollback();
+    taken
+}
+
+/// Prepares a statement and does not run it: a connection that a rollback has shut refuses that.
+fn see_not_shut<S: Alter>(conn: &mut Connection<S>) -> Result<(), ImportFault>
+    requires { conn.old.in_transaction ≡ false }
+    ensures ends { EndsUnchanged (state S.Store conn.old) (state S.Store conn.new) }
+    ensures open { HasCleanDisk (state S.Store conn.new) →
+        OnOk result (IsTrue (state S.Store conn.new).is_open) }
+    ensures own { IfErr result IsOwnFault }
+{
+    // Called for what its contract says: in no transaction, what is there was committed.
+    let _settled = conn.is_autocommit();
+    match conn.prepare("SELECT 1") {
+        Ok(_statement) => Ok(()),
+        Err(error) => Err(import_fault_of(&error)),
     }
 }
 
@@ -204,15 +285,19 @@ fn take_open<S: Alter, R: RowSource>(
     setup: &Setup,
     known: &mut BTreeMap<Code, Statuses>,
     source: &mut R,
+    named: &mut Vec<NamedRow>,
 ) -> Result<ImportCount, ImportFault>
     ensures stays { StaysInState setup.now S.Store tx.old tx.new }
     ensures was_open { HasCleanDisk (state S.Store tx.new.conn.now) →
         OnOk result (IsTrue (state S.Store tx.old.conn.now).is_open) }
     ensures lodges { LodgesRows S.Store setup.now (delivery R.RowSource source.old source.new)
         known.old known.new tx.old tx.new result }
+    ensures named { NamesImported setup.now (delivery R.RowSource source.old source.new)
+        named.old.items named.new.items
+        (state S.Store tx.old.conn.now) (state S.Store tx.new.conn.now) result }
 {
     match see_open(tx) {
-        Ok(()) => take_rows(alloc, tx, setup, known, source),
+        Ok(()) => take_rows(alloc, tx, setup, known, source, named),
         Err(error) => Err(import_fault_of(&error)),
     }
 }

@@ -19,6 +19,7 @@ const MORE: u64 = 1;
 /// 9 is Certified.
 const LINES: &str = "lodge s1 p1 10,20 = lodged 1
 query s1 1 sum = moved 2
+trial = 2 1 0 0 0
 import = 2 1 0 0 0
 cut import = Read
 correct s1 2 p1 10,20 = moved 3

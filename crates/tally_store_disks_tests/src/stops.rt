@@ -1,12 +1,13 @@
-//! What a stop of a file leaves of an office that is made, opened, asked or imported into.
+//! What a stop of a file leaves of an office that is made, opened, asked or imported into, also as
+//! a trial.
 
 use crate::counts::{Case, is_whole, shows_of};
 use crate::scripts::LODGED;
 use std::alloc::Global;
 use std::test::*;
 use tally_disk_scripts::{
-    Deed, FORMER_TABLES, NO_TABLES, Rows, TABLES, contents_after, former_contents, no_contents,
-    wanted,
+    Deed, FORMER_TABLES, NO_TABLES, Rows, TABLES, are_same, contents_after, former_contents,
+    no_contents, wanted,
 };
 use tally_import::Sep;
 use tally_scripts::{CERTIFIED, MORE_STATIONS, RECOUNT, RETURNS, TWIN_TOWN, import_count};
@@ -105,6 +106,24 @@ fn an_office_is_taken_over_whole_or_not_at_all(rt: HostRuntime) -> Result<(), Fa
 fn all_rows_are_lodged_or_none(rt: HostRuntime) -> Result<(), Fail> {
     let case = importing(rt.alloc())?;
     assert!(rt; is_whole(rt.alloc(), &case, MORE)?);
+    Ok(())
+}
+
+#[test]
+fn a_trial_leaves_the_files_as_they_were(rt: HostRuntime) -> Result<(), Fail> {
+    let alloc = rt.alloc();
+    let text = format!(in alloc; "{TWIN_TOWN}{MORE_STATIONS}")?;
+    let lines = "lodge s1 p1 10,20 = lodged 1\ntrial = 2 1 0 0 0";
+    let made = contents_after(alloc, &no_contents(alloc), Deed::Create(text.as_str()))?;
+    let lodged = contents_after(alloc, &made, Deed::Answer("lodge s1 p1 10,20 = lodged 1"))?;
+    let tried = contents_after(alloc, &made, Deed::Answer(lines))?;
+    assert!(rt; are_same(&lodged, &tried));
+    let case = Case {
+        contents: made,
+        deed: Deed::Answer(lines),
+        shows: shows_of(alloc, text.as_str(), lines)?,
+    };
+    assert!(rt; is_whole(alloc, &case, MORE)?);
     Ok(())
 }
 

@@ -1,6 +1,6 @@
-//! Imports into an office in a database, which is opened again after each. Texts of other forms are
-//! tried over an office in memory (`tally_import_tests`), and what the tables then hold from
-//! outside.
+//! Imports into an office in a database, which is opened again after each, and the trial of each
+//! before it. Texts of other forms are tried over an office in memory (`tally_import_tests`), and
+//! what the tables then hold from outside.
 
 use crate::offices::{made, opened};
 use sqlite::Alter;
@@ -11,7 +11,8 @@ use tally_core::{ImportCount, ImportFault, Keeper};
 use tally_import::Sep;
 use tally_scripts::{
     ALL_LODGED, BAD_RETURNS, CUT_RETURNS, MORE_STATIONS, NONE_LODGED, Pieces, QUOTED_RETURNS,
-    RETURNS, TWIN_TOWN, check_answers, import_count, import_from, with_bad_rows,
+    RETURNS, TWIN_TOWN, check_answers, import_count, import_from, text_of_named, text_of_tried,
+    trial_from, with_bad_rows,
 };
 use tally_store::Store;
 
@@ -33,17 +34,24 @@ struct Case<'a> {
     lines: &'a str,
 }
 
-/// Fails where an import comes to something else than it should.
-fn check_import<K: Keeper>(alloc: Global, office: &mut K, case: &Case<'_>) -> Result<(), Fail> {
-    let text = Pieces {
+/// What gives the text of an import.
+fn reader<'a>(case: &Case<'a>) -> Pieces<'a> {
+    Pieces {
         text: case.text.as_bytes(),
         piece: case.piece,
         failure: case.failure,
-    };
-    if import_from(alloc, office, text, case.sep)? == case.want {
+    }
+}
+
+/// Fails where the trial of an import, or the import after it, comes to something else than it
+/// should.
+fn check_import<K: Keeper>(alloc: Global, office: &mut K, case: &Case<'_>) -> Result<(), Fail> {
+    let tried = trial_from(alloc, office, reader(case), case.sep)?;
+    let came = import_from(alloc, office, reader(case), case.sep)?;
+    if tried == case.want && came == case.want {
         return Ok(());
     }
-    Err(Fail::from(format!(in alloc; "not {:?}", case.want)?))
+    Err(Fail::from(format!(in alloc; "{tried:?} and {came:?}")?))
 }
 
 /// The same of these imports, one after the other, with the answers of the office that is opened
@@ -194,5 +202,26 @@ fn imports_each_into_a_new_office(rt: HostRuntime) -> Result<(), Fail> {
     for case in cases {
         check_imports_in_new(alloc, &[case])?;
     }
+    Ok(())
+}
+
+// A return, another of the same station, one without a number, one of 301 votes at a station of 300
+// electors, and the first again.
+const NAMED: &str = "station,slip,blank,spoiled,A,B\ns1,p1,0,0,10,20\ns1,p2,0,0,1,2\n\
+s2,p2,1,0,x,40\ns2,p2,0,0,200,101\ns1,p1,0,0,10,20\n";
+
+const NAMES: &str = "[NamedRow { row: 2, cause: Refused(\"s1\", Differs { rev: 1 }) }, \
+    NamedRow { row: 3, cause: Bad(BadNumber(List(0))) }, \
+    NamedRow { row: 4, cause: Refused(\"s2\", TooManyVotes) }]";
+
+#[test]
+fn a_trial_and_an_import_name_the_same_rows(rt: HostRuntime) -> Result<(), Fail> {
+    let alloc = rt.alloc();
+    let setup = format!(in alloc; "{TWIN_TOWN}{MORE_STATIONS}")?;
+    let mut office = made(alloc, setup.as_str())?;
+    let tried = text_of_tried(alloc, &mut office, NAMED.as_bytes())?;
+    assert!(rt; tried.as_str() == NAMES, "{tried}");
+    let named = text_of_named(alloc, &mut office, NAMED.as_bytes())?;
+    assert!(rt; named.as_str() == NAMES, "{named}");
     Ok(())
 }

@@ -13,7 +13,7 @@ use Rattle.tally_returns.specs.Counts.{VoteCounts}
 use Rattle.tally_returns.specs.GoneCandidate.{GoneCandidate}
 use Rattle.tally_returns.specs.PastSeats.{PastSeats}
 use Rattle.tally_returns.specs.View.{View}
-use Rattle.tally_rows.specs.Cells.{text_of, number_of, wide_number_of}
+use Rattle.tally_schema.specs.Values.{text_of, number_of, wide_number_of}
 use Rattle.tally_schema.specs.Cells.{flag}
 use Rattle.tally_tables.specs.Cells.{item_row, numbers_with_places, items_of, gone_row, past_row, record_rows}
 use Rattle.tally_tables.specs.Reading.{utf8_of, numbers_from, sums_of, flag_of, note_in, standing_of, gone_in_row, all_gone_of, past_for, past_from, record_of, records_of, past_of, read_all}

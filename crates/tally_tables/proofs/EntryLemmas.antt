@@ -16,7 +16,7 @@ use Rattle.tally_returns.specs.Counts.{VoteCounts}
 use Rattle.tally_returns.specs.Return.{StationReturn}
 use Rattle.tally_returns.specs.declared.returns.Status.{Status}
 use Rattle.tally_returns.specs.declared.returns.Status.TheVariants.{Received, Queried, Corrected, Closed}
-use Rattle.tally_rows.specs.Cells.{text_of, number_of}
+use Rattle.tally_schema.specs.Values.{text_of, number_of}
 use Rattle.tally_tables.specs.Cells.{status_number, item_row, numbers_with_places, items_of, spoiled_item, constituency_of, return_row, return_rows, count_rows}
 use Rattle.tally_tables.specs.Reading.{with_text, utf8_of, status_of, item_for, items_from, counts_by, counts_of, return_of, station_of_row, entry_of, next_entry, entries_in}
 use Rattle.tally_tables.proofs.ItemLemmas.{and_then_some, map_some, if_some, text_is, number_is, number_reads, with_text_is, with_text_there, IsExact, IsRead, item_for_is, item_again, number_rows, items_are, items_again}

@@ -16,9 +16,9 @@ use Rattle.tally_rules.specs.Constituency.{Constituency}
 use Rattle.tally_rules.specs.Setup.{constituency_with}
 use Rattle.tally_returns.specs.PastSeats.{PastSeats}
 use Rattle.tally_returns.specs.View.{View}
-use Rattle.tally_rows.specs.Cells.{text_of}
-use Rattle.tally_rows.specs.Rows.{text_cmp}
-use Rattle.tally_rows.proofs.RowsLemmas.{text_same}
+use Rattle.tally_schema.specs.Values.{text_of}
+use Rattle.tally_schema.specs.Rows.{text_cmp}
+use Rattle.tally_schema.proofs.RowsLemmas.{text_same}
 use Rattle.tally_tables.specs.Cells.{item_row, numbers_with_places, items_of, gone_row, past_row, record_rows}
 use Rattle.tally_tables.specs.Reading.{has_text}
 use Rattle.tally_tables.specs.Views.{Tables, in_each, is_empty, key_len, rows_of_key, rows_after, statuses_of, view_from_tables, con_at, view_with_code, next_view, views_from}

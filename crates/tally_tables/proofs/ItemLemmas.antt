@@ -8,7 +8,7 @@ use Rattle.std.proofs.lemmas.Slice.Eq.{bytes_eq-Decides}
 use Rattle.sqlite_value.specs.declared.value.Value.{Value}
 use Rattle.sqlite_value.specs.declared.value.Value.TheVariants.{Null, Int, Real, Text, Blob}
 use Rattle.sqlite_value.specs.Order.{Row, column}
-use Rattle.tally_rows.specs.Cells.{text_of, number_of, wide_number_of}
+use Rattle.tally_schema.specs.Values.{text_of, number_of, wide_number_of}
 use Rattle.tally_tables.specs.Cells.{item_row, numbers_with_places}
 use Rattle.tally_tables.specs.Reading.{has_text, with_text, item_for, items_from}
 

@@ -16,7 +16,7 @@ use Rattle.tally_returns.specs.Lawful.{IsLawful, is_note_or_empty}
 use Rattle.tally_returns.specs.Lodge.{StationLimits}
 use Rattle.tally_returns.specs.Return.{StationReturn}
 use Rattle.tally_returns.specs.State.{stations_of}
-use Rattle.tally_rows.specs.Cells.{number_of}
+use Rattle.tally_schema.specs.Values.{number_of}
 use Rattle.tally_tables.proofs.ItemLemmas.{map_some, number_reads, IsRead}
 use Rattle.tally_tables.proofs.EntryLemmas.{AreRead, IsPlaced}
 

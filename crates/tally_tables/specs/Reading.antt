@@ -8,7 +8,7 @@ use Rattle.std.specs.Option.{option_map_or}
 use Rattle.std.specs.Str.{is_utf8}
 use Rattle.sqlite_value.specs.Order.{Row, column}
 use Rattle.sqlite_value.specs.declared.value.Value.{Value}
-use Rattle.tally_rows.specs.Cells.{text_of, number_of, wide_number_of}
+use Rattle.tally_schema.specs.Values.{text_of, number_of, wide_number_of}
 use Rattle.tally_rules.specs.Code.{code_of}
 use Rattle.tally_rules.specs.Constituency.{Constituency}
 use Rattle.tally_rules.specs.Setup.{station_with}

@@ -2,7 +2,7 @@
 -- row occurs twice.
 use Rattle.std.specs.Prelude.{◌≡◌, ◌∷◌, ℕ, List, [], Some}
 use Rattle.sqlite_trees.specs.Tree.{Trees}
-use Rattle.tally_rows.specs.Rows.{AreRowsOf}
+use Rattle.tally_schema.specs.Rows.{AreRowsOf}
 use Rattle.tally_rules.specs.Constituency.{Constituency}
 use Rattle.tally_rules.specs.Setup.{constituency_with}
 use Rattle.tally_returns.specs.State.{State, con_state}

@@ -3,7 +3,7 @@ use Rattle.std.specs.Prelude.{◌==◌, ◌&&◌, if◌then◌else◌, ℕ, Bool
 use Rattle.std.specs.Prelude.{Option, Some, None, option_and_then, option_map}
 use Rattle.std.specs.List.{prefix_len}
 use Rattle.sqlite_value.specs.Order.{Row, column}
-use Rattle.tally_rows.specs.Cells.{text_of}
+use Rattle.tally_schema.specs.Values.{text_of}
 use Rattle.tally_rules.specs.Code.{code_of}
 use Rattle.tally_rules.specs.Constituency.{Constituency}
 use Rattle.tally_rules.specs.Setup.{constituency_with}

@@ -5,7 +5,7 @@ ghost use Rattle.tally_tables.specs.Reading.{has_text, note_in, utf8_of};
 
 use sqlite::Row;
 use std::str;
-use tally_rows::text_at;
+use tally_schema::text_at;
 
 /// A text in UTF-8.
 fn utf8_of(text: &[u8]) -> Option<&str>

@@ -10,7 +10,7 @@ use crate::columns::{has_text, note_in};
 use sqlite::Row;
 use std::alloc::{AllocError, Global};
 use tally_returns::Gone;
-use tally_rows::number_at;
+use tally_schema::number_at;
 
 /// What a row of `cons` has beside its code: the edition, whether the constituency is certified,
 /// and the note of its last reopening.

@@ -1,14 +1,14 @@
 //! Rows of a key, an item and a number, as the tables of counts, lots, seats and totals have them.
 
 ghost use Rattle.std.specs.Prelude.{◌≡◌, IfOk};
-ghost use Rattle.tally_rows.specs.Cells.{number_of};
+ghost use Rattle.tally_schema.specs.Values.{number_of};
 ghost use Rattle.tally_tables.specs.Reading.{AreRead, counts_of, item_for, numbers_from};
 
 use crate::columns::has_text;
 use sqlite::Row;
 use std::alloc::{AllocError, Global};
 use tally_returns::Counts;
-use tally_rows::{number_at, wide_number_at};
+use tally_schema::{number_at, wide_number_at};
 
 /// The item of the spoiled votes, after those of 60 lists.
 pub const SPOILED_ITEM: u32 = 61;

@@ -7,7 +7,7 @@ use crate::columns::has_text;
 use sqlite::Row;
 use std::alloc::{AllocError, Global};
 use tally_returns::Past;
-use tally_rows::{number_at, wide_number_at};
+use tally_schema::{number_at, wide_number_at};
 
 /// The seats of the list at this place that a certificate of this edition gave, where it is such a
 /// row.

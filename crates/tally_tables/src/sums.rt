@@ -1,7 +1,7 @@
 //! Rows of sums.
 
 ghost use Rattle.std.specs.Prelude.{◌≡◌, IfOk};
-ghost use Rattle.tally_rows.specs.Cells.{wide_number_of};
+ghost use Rattle.tally_schema.specs.Values.{wide_number_of};
 ghost use Rattle.tally_tables.specs.Reading.{AreRead, item_for, items_from, sums_of};
 
 use crate::columns::has_text;
@@ -9,7 +9,7 @@ use crate::items::SPOILED_ITEM;
 use sqlite::Row;
 use std::alloc::{AllocError, Global};
 use std::marker::Model;
-use tally_rows::wide_number_at;
+use tally_schema::wide_number_at;
 
 /// Sums of counts: the votes for each list, the blank votes and the spoiled ones.
 #[derive(Drop)]

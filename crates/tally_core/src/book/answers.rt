@@ -4,7 +4,7 @@ ghost use Rattle.std.specs.Prelude.{◌≡◌, ◌⊎◌, true, false, Some, Err
 ghost use Rattle.tally_keeper.specs.internal.Held.{IsAnsweredInMemory, IsHeld, CarriesOutLodge};
 ghost use Rattle.tally_keeper.specs.internal.Held.{IsMoved, is_query, lodge_answer_in};
 ghost use Rattle.tally_keeper.specs.internal.Held.{moves_return};
-ghost use Rattle.tally_ledger.specs.Kept.{state_in, with_no_lot};
+ghost use Rattle.tally_keeper.specs.Kept.{state_in, with_no_lot};
 ghost use Rattle.tally_returns.specs.Named.{station_named};
 ghost use Rattle.tally_steps.specs.Step.{answer, reply_seen};
 ghost use Rattle.tally_rules.specs.Setup.{constituency_with};
@@ -13,7 +13,7 @@ ghost use Rattle.tally_returns.specs.declared.refusal.Refusal.TheVariants.{Memor
 
 use super::constituencies::answer_on_con;
 use std::alloc::Global;
-use tally_ledger::Ledger;
+use tally_keeper::Ledger;
 use tally_machine::{
     Ask, Change, Counts, LodgeReply, Refusal, Reply, Return, decide_at, decide_lodge,
 };

@@ -7,7 +7,7 @@ ghost use Rattle.tally_returns.specs.Named.{con_named};
 ghost use Rattle.tally_returns.specs.declared.refusal.Refusal.TheVariants.{Memory};
 
 use std::alloc::Global;
-use tally_ledger::Ledger;
+use tally_keeper::Ledger;
 use tally_machine::{Ask, Change, Refusal, Reply, decide_con};
 use tally_rules::Code;
 

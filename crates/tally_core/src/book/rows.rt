@@ -1,35 +1,39 @@
 //! An import into a keeper in memory.
 
-ghost use Rattle.std.specs.Prelude.{◌≡◌, ◌≢◌, Some, true, IfErr, IfOk, OnOk};
+ghost use Rattle.std.specs.Prelude.{◌≡◌, ◌≢◌, ◌++◌, Some, true, IfErr, IfOk, OnOk};
 ghost use Rattle.tally_keeper.specs.Delivery.{delivery};
 ghost use Rattle.tally_keeper.specs.internal.Held.{after_row_in, lodge_answer_in, after_lodge_in};
 ghost use Rattle.tally_keeper.specs.internal.Held.{row_answer_in, returns_without};
 ghost use Rattle.tally_keeper.specs.Import.{IsCodedRow};
 ghost use Rattle.tally_keeper.specs.Keeper.{IsImportFault, IsImportOf};
+ghost use Rattle.tally_keeper.specs.NamedRows.{NamesRows, named_row};
 ghost use Rattle.tally_keeper.specs.declared.import.Row.{Row};
 ghost use Rattle.tally_keeper.specs.declared.source.ImportFault.TheVariants.{Store};
-ghost use Rattle.tally_ledger.specs.Kept.{state_in};
+ghost use Rattle.tally_keeper.specs.Kept.{state_in};
 ghost use Rattle.tally_rules.specs.Code.{is_code};
 
 use super::answers::decide_first;
 use std::alloc::{AllocError, Global};
 use tally_keeper::{
-    Ask, Counts, ImportCount, ImportFault, LodgeReply, ROW_LIMIT, Refusal, Return, Row, RowSource,
+    Ask, Counts, ImportCount, ImportFault, Ledger, LodgeReply, NamedRow, ROW_LIMIT, Refusal,
+    Return, Row, RowSource, name_bad, name_refused,
 };
-use tally_ledger::Ledger;
 use tally_rules::Code;
 
 /// Lodges the rows of a source, and adds the stations that were lodged to a list, so that a fault
-/// can be undone.
+/// or a trial can be undone.
 pub(super) fn take_source<R: RowSource>(
     alloc: Global,
     ledger: &mut Ledger,
     lodged: &mut Vec<Code>,
     source: &mut R,
+    named: &mut Vec<NamedRow>,
 ) -> Result<ImportCount, ImportFault>
     ensures imported { IfOk result (λ count.
         IsImportOf ledger.old.setup (Some (state_in ledger.old))
         (delivery R.RowSource source.old source.new) count (Some (state_in ledger.new))) }
+    ensures named { OnOk result (NamesRows ledger.old.setup (Some (state_in ledger.old))
+        (delivery R.RowSource source.old source.new) named.old.items named.new.items) }
     ensures fault { IfErr result (IsImportFault (delivery R.RowSource source.old source.new)) }
     ensures own { IfErr result (λ fault. fault ≢ Store) }
     ensures kept { ledger.new ≡ record ledger.old { returns = ledger.new.returns } }
@@ -41,44 +45,52 @@ pub(super) fn take_source<R: RowSource>(
         let Some(row) = source.next_row()? else {
             return Ok(count);
         };
-        let answer = take_row(alloc, ledger, lodged, row)?;
+        let answer = take_row(alloc, ledger, lodged, named, before + 1, row)?;
         count.add_row(before + 1, answer);
     }
     Err(ImportFault::TooLong)
 }
 
-/// Lodges a row. A row that is not a Lodge has no answer, as a bad row has none. It takes one layer
-/// off, which the prover needs.
+/// Lodges a row, and names it where it is bad or refused. A row that is not a Lodge has no answer,
+/// as a bad row has none. It takes one layer off, which the prover needs.
 fn take_row(
     alloc: Global,
     ledger: &mut Ledger,
     lodged: &mut Vec<Code>,
+    named: &mut Vec<NamedRow>,
+    number: u32,
     row: Row,
 ) -> Result<Option<Result<LodgeReply, Refusal>>, AllocError>
     ensures codes { IsCodedRow row }
     ensures answer { IfOk result (λ answer. row_answer_in ledger.old row ≡ answer) }
     ensures returns { OnOk result (ledger.new.returns ≡ after_row_in ledger.old row) }
+    ensures named { IfOk result (λ answer.
+        named.new.items ≡ named.old.items ++ named_row number row answer) }
     ensures kept { ledger.new ≡ record ledger.old { returns = ledger.new.returns } }
     ensures undone { returns_without lodged.new.items ledger.new.returns
         ≡ returns_without lodged.old.items ledger.old.returns }
 {
-    let Row::Lodge(ask) = row else {
-        return Ok(None);
-    };
-    take_ask(alloc, ledger, lodged, ask)
+    match row {
+        Row::Lodge(ask) => take_ask(alloc, ledger, lodged, named, number, ask),
+        Row::Bad(why) => name_bad(named, number, why),
+    }
 }
 
-/// Lodges what a Lodge brings. Another request has no answer. It takes one layer off, which the
-/// prover needs.
+/// Lodges what a Lodge brings, and names the row where that is refused. Another request has no
+/// answer. It takes one layer off, which the prover needs.
 fn take_ask(
     alloc: Global,
     ledger: &mut Ledger,
     lodged: &mut Vec<Code>,
+    named: &mut Vec<NamedRow>,
+    number: u32,
     ask: Ask,
 ) -> Result<Option<Result<LodgeReply, Refusal>>, AllocError>
     ensures codes { IsCodedRow (Row.Lodge ask) }
     ensures answer { IfOk result (λ answer. row_answer_in ledger.old (Row.Lodge ask) ≡ answer) }
     ensures returns { OnOk result (ledger.new.returns ≡ after_row_in ledger.old (Row.Lodge ask)) }
+    ensures named { IfOk result (λ answer.
+        named.new.items ≡ named.old.items ++ named_row number (Row.Lodge ask) answer) }
     ensures kept { ledger.new ≡ record ledger.old { returns = ledger.new.returns } }
     ensures undone { returns_without lodged.new.items ledger.new.returns
         ≡ returns_without lodged.old.items ledger.old.returns }
@@ -92,6 +104,7 @@ fn take_ask(
         return Ok(None);
     };
     let answer = take_return(alloc, ledger, lodged, station, slip, counts)?;
+    name_refused(named, number, station, &answer)?;
     Ok(Some(answer))
 }
 

@@ -2,13 +2,12 @@
 
 ghost use Rattle.std.specs.Prelude.{◌≡◌, ◌≢◌, map, IfErr, IfOk, Some};
 ghost use Rattle.tally_keeper.specs.Shown.{ShowsReturns};
-ghost use Rattle.tally_ledger.specs.Kept.{state_in};
+ghost use Rattle.tally_keeper.specs.Kept.{state_in};
 ghost use Rattle.tally_returns.specs.StationRows.{station_row};
 ghost use Rattle.tally_returns.specs.declared.refusal.Refusal.TheVariants.{Store};
 
 use std::alloc::{AllocError, Global};
-use tally_keeper::{Refusal, StationRow};
-use tally_ledger::Ledger;
+use tally_keeper::{Ledger, Refusal, StationRow};
 use tally_rules::{Code, Station};
 
 /// The stations of the constituency of a code, in the setup's order, each with a copy of its return

@@ -8,7 +8,7 @@ use Rattle.sqlite.specs.declared.error.Error.{Error}
 use Rattle.sqlite.specs.declared.transaction.Transaction.{Transaction}
 use Rattle.sqlite.specs.Held.{state}
 use Rattle.sqlite.specs.State.{State as Seen, HasCleanDisk, IsUnchanged}
-use Rattle.tally_rows.specs.Rows.{AreRowsOf, others}
+use Rattle.tally_schema.specs.Rows.{AreRowsOf, others}
 use Rattle.tally_frac.specs.Limits.{most_lists}
 use Rattle.tally_rules.specs.Constituency.{Constituency}
 use Rattle.tally_returns.specs.Return.{StationReturn, Returns}

@@ -6,8 +6,8 @@ use Rattle.std.specs.FinMap.{FinMap, get}
 use Rattle.sqlite_value.specs.Order.{Row, column}
 use Rattle.sqlite.specs.declared.error.Error.{Error}
 use Rattle.sqlite.specs.State.{State as Seen}
-use Rattle.tally_rows.specs.Cells.{number_of}
-use Rattle.tally_rows.specs.Rows.{AreRowsOf}
+use Rattle.tally_schema.specs.Values.{number_of}
+use Rattle.tally_schema.specs.Rows.{AreRowsOf}
 use Rattle.tally_rules.specs.Code.{code_cmp}
 use Rattle.tally_rules.specs.Constituency.{Constituency}
 use Rattle.tally_rules.specs.declared.constituency.Station.{Station}

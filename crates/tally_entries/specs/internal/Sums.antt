@@ -4,7 +4,7 @@ use Rattle.std.specs.Prelude.{IsPermutation, Result, OnOk}
 use Rattle.sqlite_value.specs.Order.{Row}
 use Rattle.sqlite.specs.declared.error.Error.{Error}
 use Rattle.sqlite.specs.State.{State as Seen, HasCleanDisk}
-use Rattle.tally_rows.specs.Rows.{has_key}
+use Rattle.tally_schema.specs.Rows.{has_key}
 use Rattle.tally_returns.specs.Counts.{VoteCounts}
 use Rattle.tally_statements.specs.declared.table.KeyedTable.{KeyedTable}
 use Rattle.tally_statements.specs.Office.{rows_in, HasRows, IsInside, is_item, item_cells}

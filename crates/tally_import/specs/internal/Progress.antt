@@ -11,6 +11,7 @@ use Rattle.tally_returns.specs.Return.{StationReturn, Returns}
 use Rattle.tally_returns.specs.Lodge.{Stations, lodge_answer}
 use Rattle.tally_keeper.specs.Import.{RowAnswer, answers, row_answer, returns_after_import}
 use Rattle.tally_keeper.specs.Import.{count_of, lodged_counts}
+use Rattle.tally_keeper.specs.NamedRows.{named_rows}
 use Rattle.tally_keeper.specs.declared.import.Row.{Row}
 use Rattle.tally_returns.specs.declared.refusal.Refusal.{Refusal}
 use Rattle.tally_returns.specs.declared.reply.LodgeReply.{LodgeReply}
@@ -69,3 +70,4 @@ pub record HasTaken (taken : Taken) (import : Import) : Type 0 where
   pub table : Holds import.returns (returns_after_import (stations taken) map.empty taken.rows)
   pub count : import.count ≡ count_of (taken_answers taken)
   pub totals : AreTotals taken.lists (lodged_counts taken.rows (taken_answers taken)) import.totals
+  pub named : import.named.items ≡ named_rows 1 taken.rows (taken_answers taken)

@@ -3,7 +3,7 @@ use Rattle.std.specs.Prelude.{◌≡◌, ◌<◌, ◌≤◌, ◌++◌, ◌⊎◌
 use Rattle.std.specs.Prelude.{Some, None, IfSome, option_map, Result, Ok, Err, String, string_bytes}
 use Rattle.std.specs.declared.alloc.Global.{Global}
 use Rattle.tally_keeper.specs.Source.{row_limit}
-use Rattle.tally_import.specs.Check.{Found, check_fault, rows_of_records}
+use Rattle.tally_import.specs.Check.{Checked, Found, check_fault, rows_of_records, text_of}
 use Rattle.tally_import.specs.internal.Progress.{HasTaken}
 use Rattle.tally_records.specs.Input.{AreAll}
 use Rattle.tally_records.specs.Given.{HasGiven, sep_of}
@@ -39,19 +39,24 @@ ImportsRecords lists AreRows (Err fault) =
     × (((fault ≡ TooLong) × (row_limit < length rows)) ⊎
     ((option_map check_fault stop ≡ Some fault) × (length rows ≤ row_limit))))
 
--- The check text that is found in a text, or the fault that comes first; out of memory may come at
--- any place.
-abbrev pub FindsCheckText : Sep → List ℕ → Option (List ℕ) →
+-- this is what is written of a text that was read as a whole
+abbrev pub IsWrittenOf : Bool → List ℕ → Result Checked CheckFault → Type 0
+IsWrittenOf lines written found = (c : Checked) × (found ≡ Ok c) × (written ≡ text_of lines c)
+
+-- What is written of a text, or the fault that comes first; out of memory may come at any place.
+abbrev pub FindsCheckText : Bool → Sep → List ℕ → Option (List ℕ) →
     Result (String Global) CheckFault → Type 0
-FindsCheckText sep text left (Ok found) = Found sep text left (λ f. f ≡ Ok (string_bytes found))
-FindsCheckText sep text left (Err fault) =
+FindsCheckText lines sep text left (Ok found) =
+    Found sep text left (IsWrittenOf lines (string_bytes found))
+FindsCheckText lines sep text left (Err fault) =
     (fault ≡ Memory) ⊎ Found sep text left (λ f. f ≡ Err fault)
 
 -- The same of the text of which these records were given so far.
-abbrev pub FindsAfter : List (List (List ℕ)) → Records → Option (List ℕ) → Option (List ℕ)
-    → Result (String Global) CheckFault → Type 0
-FindsAfter given r old_left left result = (text : Option (List ℕ))
-    → HasGiven text old_left given r → IfSome text (λ t. FindsCheckText (sep_of r) t left result)
+abbrev pub FindsAfter : Bool → List (List (List ℕ)) → Records → Option (List ℕ)
+    → Option (List ℕ) → Result (String Global) CheckFault → Type 0
+FindsAfter lines given r old_left left result = (text : Option (List ℕ))
+    → HasGiven text old_left given r
+    → IfSome text (λ t. FindsCheckText lines (sep_of r) t left result)
 
 -- A fault that comes before anything is written: Read only where a read failed, and never Write.
 abbrev pub IsOfReading : CheckFault → Bool → Type 0

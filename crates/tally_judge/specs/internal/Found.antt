@@ -5,12 +5,12 @@ use Rattle.std.specs.Prelude.{nat_eq}
 use Rattle.std.specs.Ordering.{nat_cmp}
 use Rattle.std.specs.Cmp.Lexicographic.{pointwise}
 use Rattle.sqlite_value.specs.Order.{Row}
-use Rattle.tally_ledger.specs.Kept.{Kept, view_in}
+use Rattle.tally_keeper.specs.Kept.{Kept, view_in}
 use Rattle.tally_steps.specs.Outcome.{IsLawfulView}
 use Rattle.tally_returns.specs.GoneCandidate.{GoneCandidate}
 use Rattle.tally_returns.specs.PastSeats.{PastSeats}
 use Rattle.tally_returns.specs.View.{View}
-use Rattle.tally_rows.specs.Rows.{text_cmp}
+use Rattle.tally_schema.specs.Rows.{text_cmp}
 use Rattle.tally_rules.specs.Constituency.{Constituency}
 use Rattle.tally_rules.specs.Setup.{constituency_with}
 use Rattle.tally_judge.specs.internal.Entries.{rises, rises_on}

@@ -1,7 +1,7 @@
 -- The numbers of constituencies, put into a tree one by one.
 use Rattle.std.specs.Prelude.{◌≡◌, ℕ, List, Option, None, Some, option_map}
 use Rattle.std.specs.FinMap.{get, insert}
-use Rattle.tally_ledger.specs.Kept.{Kept, view_in}
+use Rattle.tally_keeper.specs.Kept.{Kept, view_in}
 use Rattle.tally_rules.specs.Constituency.{Constituency}
 use Rattle.tally_rules.specs.Setup.{constituency_with}
 use Rattle.tally_tables.specs.Views.{statuses_of}

@@ -4,8 +4,8 @@ use Rattle.std.specs.Prelude.{IsSome, IfSome, Result, Err, refl}
 use Rattle.std.specs.Coded.{Coded, code_by, coded×}
 use Rattle.std.specs.FinMap.{get, remove}
 use Rattle.std.specs.Option.{ForSome}
-use Rattle.tally_ledger.specs.Kept.{AreEarlier, Kept, state_in, view_in, with_change}
-use Rattle.tally_ledger.specs.internal.KeptCode.{state_code}
+use Rattle.tally_keeper.specs.Kept.{AreEarlier, Kept, state_in, view_in, with_change}
+use Rattle.tally_keeper.specs.internal.KeptCode.{state_code}
 use Rattle.tally_rules.specs.Constituency.{Constituency}
 use Rattle.tally_rules.specs.Limits.{IsSetup}
 use Rattle.tally_rules.specs.Setup.{constituency_with}

@@ -18,14 +18,14 @@ use Rattle.tally_statements.specs.declared.table.KeyedTable.TheVariants.{Returns
 use Rattle.tally_statements.specs.declared.table.KeyedTable.TheVariants.{Lots, Seats, Gone, Totals}
 use Rattle.tally_statements.specs.declared.table.KeyedTable.TheVariants.{Past}
 use Rattle.sqlite_value.specs.Order.{Row, column}
-use Rattle.tally_rows.specs.Cells.{number_of, text_of}
+use Rattle.tally_schema.specs.Values.{number_of, text_of}
 use Rattle.tally_rules.specs.Fault.{IsFaultIn}
 use Rattle.tally_rules.specs.Reading.{setup_of_text}
 use Rattle.tally_rules.specs.declared.fault.SetupFault.TheVariants as setup_fault
 use Rattle.tally_keeper.specs.declared.fault.OpenFault.{OpenFault}
 use Rattle.tally_keeper.specs.declared.fault.OpenFault.TheVariants.{BadTables, Memory, NoTables}
 use Rattle.tally_keeper.specs.declared.fault.OpenFault.TheVariants.{Setup, Store}
-use Rattle.tally_rows.specs.Rows.{HaveDistinctRowids}
+use Rattle.tally_schema.specs.Rows.{HaveDistinctRowids}
 use Rattle.tally_schema.specs.Cells.{setup_row}
 use Rattle.tally_schema.specs.Made.{HasFirstTables, has_former_tables, has_table}
 use Rattle.tally_schema.specs.Tables.{former_schema, office_schema, setup_tree}

@@ -1,6 +1,6 @@
 -- What `show` and `import` come to over an office that is open. No contract knows the bytes of a
 -- file.
-use Rattle.std.specs.Prelude.{◌≡◌, ◌⊎◌, ℕ, true, is_some, List, Option, Some, None}
+use Rattle.std.specs.Prelude.{◌≡◌, ◌⊎◌, ℕ, Bool, true, is_some, List, Option, Some, None}
 use Rattle.tally_rules.specs.Constituency.{Constituency}
 use Rattle.tally_rules.specs.Setup.{constituency_with}
 use Rattle.tally_returns.specs.State.{State}
@@ -38,11 +38,11 @@ IsShowTrouble setup old (shown.Report which) (Some code) t new =
 IsShowTrouble setup old (shown.Stations which) None t new = ⊥
 IsShowTrouble setup old (shown.Report which) None t new = ⊥
 
--- Rows of a file were imported into the constituency of this code, and these are the six lines of
--- their count.
-abbrev pub IsFileImported : List ℕ → Sep → List Constituency → Option State → List ℕ
+-- Rows of a file were imported into the constituency of this code, and this is the text of that
+-- import, with lines of rows or without.
+abbrev pub IsFileImported : List ℕ → Sep → Bool → List Constituency → Option State → List ℕ
     → Option State → Type 0
-IsFileImported code sep = IsTextImported code sep None
+IsFileImported code sep lines = IsTextImported code sep lines None
 
 -- Why they were not. There is such a constituency, and the file cannot be opened, or it is out of
 -- memory: nothing was done. Or as of a text.

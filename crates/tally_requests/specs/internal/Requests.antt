@@ -16,8 +16,10 @@ use Rattle.tally_steps.specs.LawfulState.{IsLawfulState}
 use Rattle.tally_steps.specs.Runs.{is_act}
 use Rattle.tally_steps.specs.Step.{IsAnswered}
 use Rattle.tally_keeper.specs.Keeper.{IsImportFault, IsImportOf}
+use Rattle.tally_keeper.specs.NamedRows.{NamesRows}
 use Rattle.tally_keeper.specs.Source.{Delivery, GaveAll}
 use Rattle.tally_keeper.specs.declared.import.ImportCount.{ImportCount}
+use Rattle.tally_keeper.specs.declared.import.NamedRow.{NamedRow}
 use Rattle.tally_keeper.specs.declared.source.ImportFault.{ImportFault}
 use Rattle.tally_statements.specs.internal.Inside.{InDatabase, IsOpenInside}
 use Rattle.tally_statements.specs.Office.{IsInside}
@@ -100,6 +102,15 @@ ImportsRows setup d before after old new result =
     → IfOk result (λ count. (text : List ℕ) (s : State) → IsLawfulState setup s
     → AreTables setup text s old.now.trees
     → IsImportedKnown setup text s d before after count new)
+
+-- The rows that are named of it, where it has a count, are those of every lawful state whose tables
+-- were there.
+abbrev pub NamesImported : List Constituency → Delivery → List NamedRow → List NamedRow → Seen
+    → Seen → Result ImportCount ImportFault → Type 0
+NamesImported setup d before after old new result =
+    HasCleanDisk new → IsInside old
+    → OnOk result ((text : List ℕ) (s : State) → IsLawfulState setup s
+    → AreTables setup text s old.now.trees → NamesRows setup (Some s) d before after)
 
 -- An import that lodges nothing writes nothing on a connection that is open.
 abbrev pub WritesOnlyImported : Seen → Seen → Result ImportCount ImportFault → Type 0

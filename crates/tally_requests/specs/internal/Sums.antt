@@ -1,8 +1,8 @@
 -- Sums of closed votes with the counts of a return added or taken out.
 use Rattle.std.specs.Prelude.{◌≡◌, ℕ, Bool, List, length}
 use Rattle.tally_returns.specs.Counts.{VoteCounts}
-use Rattle.tally_ledger.specs.MovedSum.{CanMove, moved_sum}
-use Rattle.tally_ledger.specs.internal.Sums.{CanMoveEach, moved_sums}
+use Rattle.tally_keeper.specs.MovedSum.{CanMove, moved_sum}
+use Rattle.tally_keeper.specs.internal.Sums.{CanMoveEach, moved_sums}
 
 -- A number for each list can be added or taken out, where they are for the same lists.
 pub record FitEach (sums by : List ℕ) (add : Bool) : Type 0 where

@@ -6,18 +6,12 @@ use Rattle.std.specs.List.{slice_get}
 use Rattle.std.specs.Option.{option_and_then}
 use Rattle.std.specs.Str.{bytes_eq}
 use Rattle.tally_rules.specs.Code.{code_cmp}
-use Rattle.tally_rules.specs.Codes.{AreDistinct}
+use Rattle.tally_rules.specs.Codes.{AreDistinct, index_of}
 use Rattle.tally_rules.specs.Constituency.{Constituency}
 use Rattle.tally_rules.specs.Limits.{IsSetup}
 use Rattle.tally_rules.specs.Setup.{all_stations, constituency_codes, all_station_codes}
 use Rattle.tally_rules.specs.declared.constituency.Station.{Station}
 use Rattle.tally_rules.specs.declared.setup.StationPlace.{StationPlace}
-
--- the first place of the code among these, from 0
-abbrev pub index_of : List ℕ → List (List ℕ) → Option ℕ
-index_of code [] = None
-index_of code (first ∷ others) =
-    if bytes_eq code first then Some 0 else option_map suc (index_of code others)
 
 -- No two of the codes are the same, and the map has the place of each.
 pub record IsIndex (codes : List (List ℕ)) (places : BTreeMap (List ℕ) ℕ) : Type 0 where

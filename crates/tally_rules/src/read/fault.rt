@@ -1,19 +1,22 @@
 //! Faults, as they are passed on within the reading.
 
-ghost use Rattle.std.specs.Prelude.{◌≡◌};
-ghost use Rattle.tally_rules.specs.internal.Found.{key_name, IsFoundIn};
-ghost use Rattle.tally_rules.specs.Fault.{IsFaultIn};
+ghost use Rattle.std.specs.Prelude.{◌≡◌, ◌≢◌, Ok, Err, None, Option, Some, IfOk, IfErr};
+ghost use Rattle.tally_rules.specs.Fault.{IsPlacedFaultIn};
 ghost use Rattle.tally_rules.specs.Reading.{Reading};
+ghost use Rattle.tally_rules.specs.internal.Found.{key_name, IsFoundAt};
 ghost use Rattle.tally_rules.specs.declared.read.fault.KeyFault.TheVariants.{Memory};
+ghost use Rattle.tally_rules.specs.declared.place.Place.{Place};
+ghost use Rattle.tally_rules.specs.declared.place.Place.TheVariants.{Entry};
+ghost use Rattle.tally_rules.specs.declared.fault.SetupFault.TheVariants.{NotToml};
 
 use crate::code::Code;
 use crate::fault::SetupFault;
+use crate::place::{Place, Way};
 use std::alloc::{AllocError, AllocFailed};
 
-/// The keys of a setup, and its text.
+/// The keys of a setup.
 #[derive(Clone, Copy)]
 pub(super) enum Key {
-    Text,
     Profile,
     Code,
     Method,
@@ -36,7 +39,6 @@ impl Key {
         ensures { result.now ≡ key_name self }
     {
         match self {
-            Key::Text => "text",
             Key::Profile => "profile",
             Key::Code => "code",
             Key::Method => "method",
@@ -55,11 +57,10 @@ impl Key {
     }
 }
 
-/// A fault, as `SetupFault` but with the key itself in place of its name: the `?` of a fault that
-/// holds a `&'static str` has no proof yet.
+/// A fault of a key or of an entry, as `SetupFault` but with the key itself in place of its name:
+/// the `?` of a fault that holds a `&'static str` has no proof yet.
 #[derive(Clone, Copy)]
 pub(super) enum KeyFault {
-    NotToml,
     Missing(Key),
     BadValue(Key),
     OverLimit(Key),
@@ -71,10 +72,11 @@ pub(super) enum KeyFault {
 impl KeyFault {
     /// The fault with the names of keys.
     pub fn named(self) -> SetupFault
-        ensures { (reading : Reading) → IsFoundIn reading self → IsFaultIn reading result }
+        ensures fault { (reading : Reading) → (place : Option Place) → self ≢ Memory
+            → IsFoundAt reading place self → IsPlacedFaultIn reading (result, place) }
+        ensures text { result ≢ NotToml }
     {
         match self {
-            KeyFault::NotToml => SetupFault::NotToml,
             KeyFault::Missing(key) => SetupFault::Missing(key.name()),
             KeyFault::BadValue(key) => SetupFault::BadValue(key.name()),
             KeyFault::OverLimit(key) => SetupFault::OverLimit(key.name()),
@@ -85,18 +87,62 @@ impl KeyFault {
     }
 }
 
+/// A fault with its place.
+#[derive(Drop)]
+pub(super) struct PlacedFault {
+    pub fault: KeyFault,
+    pub place: Option<Place>,
+}
+
+/// What is read in an entry, which has the fault, if there is one.
+pub(super) fn in_entry<T: Drop>(way: &Way, read: Result<T, KeyFault>) -> Result<T, PlacedFault>
+    ensures value { IfOk result (λ value. read ≡ Ok value) }
+    ensures fault { IfErr result (λ found. read ≡ Err found.fault) }
+    ensures place { IfErr result (λ found. found.place ≡ Some (Entry way.now None)) }
+{
+    match read {
+        Ok(value) => Ok(value),
+        Err(fault) => Err(PlacedFault {
+            fault,
+            place: Some(Place::Entry(way.copy(), None)),
+        }),
+    }
+}
+
+impl From<KeyFault> for PlacedFault {
+    ghost from_gives = { λ fault found. found ≡ record { fault = fault; place = None } };
+
+    fn from(fault: KeyFault) -> PlacedFault {
+        PlacedFault { fault, place: None }
+    }
+}
+
+impl From<AllocError> for PlacedFault {
+    ghost from_gives = { λ _ found. found ≡ record { fault = Memory; place = None } };
+
+    fn from(_refused: AllocError) -> PlacedFault {
+        PlacedFault {
+            fault: KeyFault::Memory,
+            place: None,
+        }
+    }
+}
+
+impl<T: Drop> From<AllocFailed<T>> for PlacedFault {
+    ghost from_gives = { λ _ found. found ≡ record { fault = Memory; place = None } };
+
+    fn from(_refused: AllocFailed<T>) -> PlacedFault {
+        PlacedFault {
+            fault: KeyFault::Memory,
+            place: None,
+        }
+    }
+}
+
 impl From<AllocError> for KeyFault {
     ghost from_gives = { λ _ fault. fault ≡ Memory };
 
     fn from(_refused: AllocError) -> KeyFault {
-        KeyFault::Memory
-    }
-}
-
-impl<T: Drop> From<AllocFailed<T>> for KeyFault {
-    ghost from_gives = { λ _ fault. fault ≡ Memory };
-
-    fn from(_refused: AllocFailed<T>) -> KeyFault {
         KeyFault::Memory
     }
 }

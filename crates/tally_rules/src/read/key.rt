@@ -1,6 +1,6 @@
 //! The keys of an entry.
 
-ghost use Rattle.std.specs.Prelude.{◌≡◌, ◌≤◌, ◌++◌, ◌∷◌, [], true, Ok, IfOk, IfErr, OnOk};
+ghost use Rattle.std.specs.Prelude.{◌≡◌, ◌≢◌, ◌≤◌, ◌++◌, ◌∷◌, [], true, Ok, IfOk, IfErr, OnOk};
 ghost use Rattle.std.specs.Prelude.{string_bytes};
 ghost use Rattle.toml.specs.View.{view};
 ghost use Rattle.tally_rules.specs.Code.{is_code};
@@ -11,6 +11,7 @@ ghost use Rattle.tally_rules.specs.Reading.{read_method};
 ghost use Rattle.tally_rules.specs.Reading.{name_from, read_name, new_code, read_number, number_in};
 ghost use Rattle.tally_rules.specs.Reading.{read_text, read_value};
 ghost use Rattle.tally_rules.specs.Text.{IsName};
+ghost use Rattle.tally_rules.specs.declared.read.fault.KeyFault.TheVariants.{Memory};
 
 use crate::code::Code;
 use crate::codes::Codes;
@@ -89,6 +90,7 @@ pub(super) fn new_code(entry: &Value, taken: &mut Codes) -> Result<Code, KeyFaul
     ensures taken { IfOk result (λ code. taken.new ≡ taken.old ++ code ∷ []) }
     ensures distinct { OnOk result (AreDistinct taken.new) }
     ensures fault { IfErr result (IsFoundIn (new_code taken.old (view entry.now))) }
+    ensures kept { IfErr result (λ fault. fault ≢ Memory → taken.new ≡ taken.old) }
 {
     let code = read_code(entry, Key::Code)?;
     if taken.insert(code)? {

@@ -1,6 +1,6 @@
 -- What a request or an import leaves of a connection. No public contract speaks of this.
-use Rattle.std.specs.Prelude.{◌≡◌, ◌⊎◌, false, List, ℕ, IsOk, IsTrue, None, OnOk, Some, Result, Ok}
-use Rattle.std.specs.Prelude.{Err, Vec}
+use Rattle.std.specs.Prelude.{◌≡◌, ◌⊎◌, false, List, ℕ, IfOk, IsOk, IsTrue, None, OnOk, Option}
+use Rattle.std.specs.Prelude.{Some, Result, Ok, Err, Vec}
 use Rattle.std.specs.declared.alloc.Global.{Global}
 use Rattle.std.specs.FinMap.{get}
 use Rattle.sqlite.specs.State.{State as Seen, HasCleanDisk, IsRolledBack, KeepsCounts, Shows}
@@ -20,9 +20,11 @@ use Rattle.tally_returns.specs.declared.refusal.Refusal.TheVariants.{Memory, Sto
 use Rattle.tally_returns.specs.declared.reply.Reply.{Reply}
 use Rattle.tally_returns.specs.declared.station_row.StationRow.{StationRow}
 use Rattle.tally_keeper.specs.Keeper.{IsImportOf}
+use Rattle.tally_keeper.specs.NamedRows.{NamesRows}
 use Rattle.tally_keeper.specs.Shown.{IsOwnRefusal, ShowsReturns, con_with}
 use Rattle.tally_keeper.specs.Source.{Delivery}
 use Rattle.tally_keeper.specs.declared.import.ImportCount.{ImportCount}
+use Rattle.tally_keeper.specs.declared.import.NamedRow.{NamedRow}
 use Rattle.tally_keeper.specs.declared.source.ImportFault.{ImportFault}
 use Rattle.tally_requests.specs.internal.Known.{AreKnown, Known}
 use Rattle.tally_opening.specs.Office.{HasState}
@@ -106,6 +108,21 @@ abbrev pub DoesImport : List Constituency → Delivery → Seen → Seen →
 DoesImport setup d old new r =
     HasCleanDisk new → IsTrue new.is_open → (text : List ℕ) (s : State) → IsLawfulState setup s →
     HasState setup text s old → IsImportDone setup text s d r new
+
+-- The rows that were named of an import or a trial with a count are those of each such state.
+abbrev pub DoesName : List Constituency → Delivery → Seen → Seen → Result ImportCount ImportFault
+    → List NamedRow → List NamedRow → Type 0
+DoesName setup d old new r before after =
+    HasCleanDisk new → (text : List ℕ) (s : State) → IsLawfulState setup s
+    → HasState setup text s old → OnOk r (NamesRows setup (Some s) d before after)
+
+-- The count of a trial is that of an import of all rows that the source gave, in each such state.
+abbrev pub DoesTry : List Constituency → Delivery → Seen → Seen → Result ImportCount ImportFault
+    → Type 0
+DoesTry setup d old new r =
+    HasCleanDisk new → (text : List ℕ) (s : State) → IsLawfulState setup s
+    → HasState setup text s old
+    → IfOk r (λ count. (after : Option State) × IsImportOf setup (Some s) d count after)
 
 -- ---- what is known
 

@@ -26,6 +26,6 @@ pub returns-clause-all_read : goal.returns-clause-all_read
 returns-clause-all_read g c sure =
     let k = g.K.Keeper in
     let d : Delivery = record { start = rows_at c.new-rows.result; finish = rows_at c.import_from-outcome.new.rows } in
-    end-then (k.constituencies c.args.keeper.now) (k.content c.args.keeper.now) (k.content c.import_from-outcome.new.keeper) d string_bytes
+    end-then c.args.lines c.args.lists.now (k.constituencies c.args.keeper.now) (k.content c.args.keeper.now) (k.content c.import_from-outcome.new.keeper) d string_bytes
     (NotesNothing c.args.watch.now c.note.new.watch) c.import_from-outcome.result (c.import_from-outcome.ensures.imported sure)
     (λ ended. c.note.ensures.kept (c.into_watch.ensures.all_read ended))

@@ -5,8 +5,20 @@ use Rattle.tally_rules.specs.Setup.{constituency_with}
 use Rattle.tally_keeper.specs.Shown.{ShowsReturns}
 use Rattle.tally_overview.specs.Shown.{stations_report}
 use Rattle.tally_commands.specs.Show.{AreStationsShown}
-use Rattle.tally_commands.proofs.ShowLemmas.{con-known}
+use Rattle.tally_commands.proofs.ShowLemmas.{con-known, known-found}
 use Rattle.tally_commands.proofs.show.show_stations.Goals as goal
+
+pub returns-in-Err-clause-unknown : goal.returns-in-Err-clause-unknown
+returns-in-Err-clause-unknown g c none =
+    let k = g.K.Keeper in
+    let known = con-known c.code_named.result c.args.con.now c.in-Some.code c.setup.result.now (k.constituencies c.args.keeper.now) c.code_named.ensures c.setup.ensures.setup c.in-Some.is in
+    absurd (known-found none known.1)
+
+pub returns-in-Ok-clause-unknown : goal.returns-in-Ok-clause-unknown
+returns-in-Ok-clause-unknown g c none =
+    let k = g.K.Keeper in
+    let known = con-known c.code_named.result c.args.con.now c.in-Some.code c.setup.result.now (k.constituencies c.args.keeper.now) c.code_named.ensures c.setup.ensures.setup c.in-Some.is in
+    absurd (known-found none known.1)
 
 pub returns-in-Ok-clause-shown : goal.returns-in-Ok-clause-shown
 returns-in-Ok-clause-shown g c sure =

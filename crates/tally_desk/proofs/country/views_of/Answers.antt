@@ -20,6 +20,9 @@ returns-in-Err-clause-shows g c sure =
     let shows = at-first setup (k.constituencies c.loop-code.keeper) old (k.content c.loop-code.keeper) new code c.show_con.result was.stays.setup (was.kept (c.show_con.ensures.stays.trusted sure)) (c.show_con.ensures.shows sure) in
     all-refused setup old new i code c.in-Err.refusal c.requires.limits at (subst (λ r. AnswersShowCon setup old code r new) c.in-Err.is shows)
 
+pub returns-in-Err-clause-store : goal.returns-in-Err-clause-store
+returns-in-Err-clause-store g c is = c.loop-code.invariant.stays.database ((rw c.in-Err.is at c.show_con.ensures.store) is)
+
 pub loop-code-preserved : goal.loop-code-preserved
 loop-code-preserved g c =
     let k = g.K.Keeper in

@@ -2,7 +2,7 @@ use Rattle.std.proofs.Common.{map, arith}
 use Rattle.std.proofs.lemmas.Result.{IfOk-weaker}
 use Rattle.sqlite.specs.State.{HasCleanDisk}
 use Rattle.sqlite.specs.Held.{state}
-use Rattle.tally_rows.specs.Rows.{others}
+use Rattle.tally_schema.specs.Rows.{others}
 use Rattle.tally_statements.specs.declared.table.KeyedTable.TheVariants.{Lots}
 use Rattle.tally_statements.specs.Office.{rows_in}
 use Rattle.tally_tables.specs.Cells.{item_row, numbers_with_places}

@@ -1,6 +1,6 @@
 use Rattle.std.proofs.lemmas.Result.{IfOk-weaker}
 use Rattle.sqlite.specs.Held.{state}
-use Rattle.tally_rows.specs.Rows.{has_key, others}
+use Rattle.tally_schema.specs.Rows.{has_key, others}
 use Rattle.tally_statements.specs.declared.table.KeyedTable.TheVariants.{Totals}
 use Rattle.tally_statements.specs.Office.{rows_in}
 use Rattle.tally_entries.specs.internal.Entries.{stored_in}

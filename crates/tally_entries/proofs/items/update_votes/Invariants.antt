@@ -2,7 +2,7 @@ use Rattle.std.proofs.Common.{◌≡◌, ◌+◌, ◌++◌, List, [], map, filte
 use Rattle.sqlite_value.specs.Order.{Row}
 use Rattle.sqlite.specs.State.{HasCleanDisk}
 use Rattle.sqlite.specs.Held.{state}
-use Rattle.tally_rows.specs.Rows.{has_key}
+use Rattle.tally_schema.specs.Rows.{has_key}
 use Rattle.tally_returns.specs.Counts.{VoteCounts}
 use Rattle.tally_statements.specs.declared.table.KeyedTable.TheVariants.{Counts}
 use Rattle.tally_statements.specs.Office.{IsInside, rows_in}

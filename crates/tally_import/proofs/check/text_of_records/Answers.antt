@@ -40,5 +40,5 @@ returns-clause-finds g c text given =
     let header = fields_of c.next.new.into in
     let goes : c.in_ok-end.field-0 ≡ None = search rules in
     let named : Some c.in-Some-2.lists.items ≡ header_lists header = ap (option_map (λ l. l.items)) (sym c.in-Some-2.is) ∙ c.in_ok-lists.ensures in
-    subst (λ s. IfSome text (λ t. FindsCheckText s t left c.text_under_header.result)) c.next.ensures.sep
+    subst (λ s. IfSome text (λ t. FindsCheckText c.args.lines s t left c.text_under_header.result)) c.next.ensures.sep
     (c.text_under_header.ensures.finds header (ap Some c.as_slice.ensures.value ∙ named) text (c.in_ok-end.ensures.record goes text [] given))

@@ -14,7 +14,7 @@ returns-in-Ok-clause-finds g c header named text given =
     let rows = imported.0 in
     let shown = IfOk-then c.import_text.result c.import_text.ensures.text (λ s shows.
     shows (record { lists = length lists; rows = rows_of_records (length lists) rows }) imported.2) in
-    Found-text (sep_of c.args.records.now) text left header lists rows c.import_text.result named
+    Found-text c.args.lines (sep_of c.args.records.now) text left header lists rows c.import_text.result named
     (imported.1 text (header ∷ []) given) imported.3 shown c.import_text.ensures.fault
 
 pub returns-in-Err-clause-finds : goal.returns-in-Err-clause-finds

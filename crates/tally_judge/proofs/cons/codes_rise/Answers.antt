@@ -1,5 +1,5 @@
 use Rattle.std.proofs.Common.{sym, ◌∙◌}
-use Rattle.tally_rows.specs.Rows.{text_cmp}
+use Rattle.tally_schema.specs.Rows.{text_cmp}
 use Rattle.tally_judge.specs.internal.Entries.{key_of}
 use Rattle.tally_judge.proofs.OrderLemmas.{rises_end}
 use Rattle.tally_judge.proofs.cons.codes_rise.Goals as goal

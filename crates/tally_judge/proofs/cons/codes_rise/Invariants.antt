@@ -1,6 +1,6 @@
 use Rattle.std.proofs.Common.{◌≡◌, ◌-◌, drop}
 use Rattle.tally_judge.specs.internal.Entries.{rises_on, key_of}
-use Rattle.tally_rows.specs.Rows.{text_cmp}
+use Rattle.tally_schema.specs.Rows.{text_cmp}
 use Rattle.tally_judge.proofs.cons.codes_rise.Given as goal
 
 abbrev pub invariant-loop-i : goal.invariant-loop-i

@@ -1,5 +1,5 @@
 use Rattle.std.proofs.Common.{sym, ◌∙◌, arith}
-use Rattle.tally_rows.specs.Rows.{text_cmp}
+use Rattle.tally_schema.specs.Rows.{text_cmp}
 use Rattle.tally_judge.specs.internal.Found.{gone_places}
 use Rattle.tally_judge.proofs.OrderLemmas.{before_is, rises_end, rises_step}
 use Rattle.tally_judge.proofs.cons.gone_rise.Goals as goal

@@ -1,7 +1,7 @@
 use Rattle.std.proofs.Common.{◌≡◌, ◌-◌, drop}
 use Rattle.tally_judge.specs.internal.Entries.{rises_on}
 use Rattle.tally_judge.specs.internal.Found.{gone_places}
-use Rattle.tally_rows.specs.Rows.{text_cmp}
+use Rattle.tally_schema.specs.Rows.{text_cmp}
 use Rattle.tally_judge.proofs.cons.gone_rise.Given as goal
 
 abbrev pub invariant-loop-i : goal.invariant-loop-i

@@ -1,5 +1,5 @@
 use Rattle.std.proofs.Common.{◌≡◌, drop}
-use Rattle.tally_ledger.specs.Kept.{view_in}
+use Rattle.tally_keeper.specs.Kept.{view_in}
 use Rattle.tally_tables.specs.Views.{tables_in, views_from}
 use Rattle.tally_tables.proofs.FoundLemmas.{Reading}
 use Rattle.tally_judge.proofs.found.views_from.Given as goal

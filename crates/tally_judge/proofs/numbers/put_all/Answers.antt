@@ -3,7 +3,7 @@ use Rattle.std.specs.Prelude.{All}
 use Rattle.tally_rules.specs.Constituency.{Constituency}
 use Rattle.tally_rules.specs.Limits.{IsSetup}
 use Rattle.tally_rules.specs.Setup.{constituency_with}
-use Rattle.tally_ledger.proofs.SetupLemmas.{Has, con-only, has-at}
+use Rattle.tally_keeper.proofs.SetupLemmas.{Has, con-only, has-at}
 use Rattle.tally_judge.specs.Numbers.{numbers_of}
 use Rattle.tally_judge.specs.internal.Tree.{IsNumbered}
 use Rattle.tally_judge.proofs.AllLemmas.{all_end, all_more}

@@ -1,7 +1,7 @@
 use Rattle.std.proofs.Common.{◌≡◌, ◌∙◌, ap, length, subst, sym}
 use Rattle.std.proofs.lemmas.Iterator.Consumers.{YieldsList-end, YieldsList-turn}
 use Rattle.std.proofs.lemmas.Iterator.Adapters.{YieldsList-from_vec}
-use Rattle.tally_ledger.specs.Kept.{Kept}
+use Rattle.tally_keeper.specs.Kept.{Kept}
 use Rattle.tally_judge.specs.internal.Entries.{IsLawfulEntry}
 use Rattle.tally_judge.proofs.LedgerLemmas.{kept_end, kept_next}
 use Rattle.tally_judge.proofs.office.ledger_of.Goals as goal

@@ -1,6 +1,6 @@
 use Rattle.std.proofs.Common.{◌≡◌, length, take}
 use Rattle.std.specs.FinMap.{from_entries}
-use Rattle.tally_ledger.specs.Kept.{opening_kept}
+use Rattle.tally_keeper.specs.Kept.{opening_kept}
 use Rattle.tally_judge.proofs.office.ledger_of.Given as goal
 
 abbrev pub invariant-loop-entry : goal.invariant-loop-entry

@@ -5,11 +5,11 @@ use Rattle.tally_program.proofs.WrittenLemmas.{counted, ended, ended-named, unwr
 use Rattle.tally_program.proofs.commands.import.Goals as goal
 
 pub returns-in-Err-clause-written : goal.returns-in-Err-clause-written
-returns-in-Err-clause-written g c = unwritten g.W.Write.contents IsCountText counted c.args.output.now c.in-Err.trouble
+returns-in-Err-clause-written g c = unwritten g.W.Write.contents (IsCountText c.args.lines) (counted c.args.lines) c.args.output.now c.in-Err.trouble
 
 pub returns-clause-written : goal.returns-clause-written
 returns-clause-written g c =
-    ended g.W.Write.contents IsCountText counted string_bytes c.args.output.now c.close_and_print.new.output c.import_file-outcome.result c.close_and_print.result
+    ended g.W.Write.contents (IsCountText c.args.lines) (counted c.args.lines) string_bytes c.args.output.now c.close_and_print.new.output c.import_file-outcome.result c.close_and_print.result
     c.import_file-outcome.ensures.text c.close_and_print.ensures.text c.close_and_print.ensures.trouble
 
 pub returns-clause-named : goal.returns-clause-named

@@ -6,6 +6,9 @@ use Rattle.tally_program.proofs.commands.make.Goals as goal
 pub returns-in-Err-clause-written : goal.returns-in-Err-clause-written
 returns-in-Err-clause-written g c = unwritten g.W.Write.contents IsMadeText made c.args.output.now c.in-Err.trouble
 
+pub returns-in-Err-judge_setup-clause-written : goal.returns-in-Err-judge_setup-clause-written
+returns-in-Err-judge_setup-clause-written g c = unwritten g.W.Write.contents IsMadeText made c.args.output.now c.in-Err-judge_setup.trouble
+
 pub returns-in-Err-line_room-clause-written : goal.returns-in-Err-line_room-clause-written
 returns-in-Err-line_room-clause-written g c = unwritten g.W.Write.contents IsMadeText made c.args.output.now c.in-Err-line_room.trouble
 

@@ -10,7 +10,7 @@ use Rattle.tally_tables.specs.TablesOfState.{AreTables}
 use Rattle.tally_rules.specs.Constituency.{Constituency}
 use Rattle.tally_rules.specs.Setup.{constituency_with}
 use Rattle.tally_entries.proofs.FindLemmas.{inside_still}
-use Rattle.tally_ledger.proofs.SetupLemmas.{Has, con-only, has-at}
+use Rattle.tally_keeper.proofs.SetupLemmas.{Has, con-only, has-at}
 use Rattle.tally_statements.specs.internal.Inside.{IsOpenInside}
 use Rattle.tally_statements.specs.Office.{IsInside}
 use Rattle.tally_requests.specs.internal.Known.{AreKnown, known_of}

@@ -1,5 +1,5 @@
 use Rattle.std.proofs.Common.{◌∙◌, sym}
-use Rattle.tally_ledger.proofs.TreeLemmas.{get-tree}
+use Rattle.tally_keeper.proofs.TreeLemmas.{get-tree}
 use Rattle.tally_requests.proofs.known.known_at.Goals as goal
 
 pub returns : goal.returns

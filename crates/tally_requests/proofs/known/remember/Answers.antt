@@ -1,4 +1,4 @@
-use Rattle.tally_ledger.proofs.TreeLemmas.{tree-insert}
+use Rattle.tally_keeper.proofs.TreeLemmas.{tree-insert}
 use Rattle.tally_requests.proofs.known.remember.Goals as goal
 
 pub returns : goal.returns

@@ -3,6 +3,7 @@ use Rattle.tally_keeper.specs.declared.import.Row.TheVariants as row
 use Rattle.tally_requests.specs.internal.Known.{known_of}
 use Rattle.tally_requests.specs.internal.Counting.{known_after_row}
 use Rattle.tally_requests.proofs.LodgeLemmas.{lodged-taken}
+use Rattle.tally_requests.proofs.RowLemmas.{unanswered}
 use Rattle.tally_requests.proofs.UnwrittenLemmas.{row-acts}
 use Rattle.tally_requests.proofs.rows.take_ask.Goals as goal
 
@@ -17,3 +18,6 @@ returns-clause-known g c =
 
 pub returns-clause-unwritten : goal.returns-clause-unwritten
 returns-clause-unwritten g c clean at none = c.in_ok-answer.ensures.unwritten clean at (row-acts c.in_ok-answer.answer none)
+
+pub returns-in_default-clause-named : goal.returns-in_default-clause-named
+returns-in_default-clause-named g c = unanswered c.args.number c.args.named.now.items c.args.ask

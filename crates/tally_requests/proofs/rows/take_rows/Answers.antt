@@ -10,7 +10,7 @@ use Rattle.tally_statements.specs.Office.{IsInside}
 use Rattle.tally_requests.specs.internal.Inside.{IsLawfulInside}
 use Rattle.tally_requests.specs.internal.Known.{known_of}
 use Rattle.tally_requests.proofs.KnownLemmas.{forgets-row, forgets-then}
-use Rattle.tally_requests.proofs.RowLemmas.{came-end, came-fault, came-next, came-own, came-start, counted-next, rows-end, rows-next, rows-start}
+use Rattle.tally_requests.proofs.RowLemmas.{came-end, came-fault, came-next, came-own, came-start, counted-next, rows-end, rows-named, rows-next, rows-start}
 use Rattle.tally_entries.proofs.FindLemmas.{inside_still}
 use Rattle.tally_requests.proofs.UnwrittenLemmas.{none-lodged}
 use Rattle.tally_statements.proofs.StaysLemmas.{stays-same, stays-then}
@@ -24,7 +24,7 @@ loop-before-init g c =
       stays = stays-same (IsLawfulInside c.args.setup.now) g.S.Store c.args.tx.now;
       came = came-start all;
       counted = ([], c.new-count.ensures, refl);
-      taken = λ clean inside text s lawful tables. rows-start c.args.setup.now text s all c.new-count.result (known_of c.args.known.now) old c.new-count.ensures lawful (record { inside = inside; tables = tables });
+      taken = λ clean inside text s lawful tables. rows-start c.args.setup.now text s all c.new-count.result (known_of c.args.known.now) c.args.named.now.items old c.new-count.ensures lawful (record { inside = inside; tables = tables });
       forgets = λ code had. had;
       unwritten = λ clean at none. unchanged old at.1;
     }
@@ -57,8 +57,9 @@ loop-before-preserved g c =
       taken = λ clean inside text s lawful tables.
           let early : HasCleanDisk mid = omega (arith, c.take_row.ensures.stays.survives.clean) in
           let so_far = was.taken early inside text s lawful tables in
-          rows-next setup text s all came comes c.loop-before.count c.add_row.new.self c.loop-before.before row c.in_ok-answer.answer (known_of c.args.known.now) (known_of c.loop-before.known) (known_of c.take_row.new.known) mid new c.cons-cons.ensures.limits so_far c.take_row.ensures.codes given
-          (c.in_ok-answer.ensures.taken clean so_far.in_state.inside text (record s { returns = so_far.returns }) so_far.lawful so_far.in_state.tables) c.in_ok-answer.ensures.known c.add_row.ensures;
+          rows-next setup text s all came comes c.loop-before.count c.add_row.new.self c.loop-before.before row c.in_ok-answer.answer (known_of c.args.known.now) (known_of c.loop-before.known) (known_of c.take_row.new.known)
+          c.args.named.now.items c.loop-before.named.items c.take_row.new.named.items mid new c.cons-cons.ensures.limits so_far c.take_row.ensures.codes given
+          (c.in_ok-answer.ensures.taken clean so_far.in_state.inside text (record s { returns = so_far.returns }) so_far.lawful so_far.in_state.tables) c.in_ok-answer.ensures.known c.add_row.ensures c.in_ok-answer.ensures.named;
       forgets =
           let known = known_of c.loop-before.known in
           let after = known_of c.take_row.new.known in
@@ -78,7 +79,7 @@ returns-in_default-clause-lodges g c =
     let given = subst (λ r. GivesAt (left c.loop-before.source) (Ok r) (left c.next_row.new.self)) c.in_default.is (ensured.gives, ensured.gave, ensured.ends) in
     record {
       imported = λ clean inside text s lawful tables.
-          rows-end c.args.setup.now text s (left c.args.source.now) (left c.loop-before.source) (left c.next_row.new.self) c.loop-before.count c.loop-before.before (known_of c.args.known.now) (known_of c.loop-before.known) _
+          rows-end c.args.setup.now text s (left c.args.source.now) (left c.loop-before.source) (left c.next_row.new.self) c.loop-before.count c.loop-before.before (known_of c.args.known.now) (known_of c.loop-before.known) c.args.named.now.items c.loop-before.named.items _
           (was.taken clean inside text s lawful tables) (omega (arith, c.loop-before-test.true)) given;
       gave = came-end (left c.args.source.now) (left c.loop-before.source) (left c.next_row.new.self) c.loop-before.before was.came (omega (arith, c.loop-before-test.true)) given;
       fault = tt;
@@ -114,3 +115,12 @@ returns-in_err-answer-clause-lodges g c =
       fault = came-own (left c.args.source.now) came comes c.loop-before.before c.in-Some.row c.in_err-answer.field-0.0 c.loop-before.invariant.came given c.in_err-answer.ensures.own;
       forgets = tt;
     })
+
+pub returns-in_default-clause-named : goal.returns-in_default-clause-named
+returns-in_default-clause-named g c clean inside text s lawful tables =
+    let left = source_at g.R.RowSource in
+    let ensured = c.in_ok-row.ensures in
+    let was = c.loop-before.invariant in
+    let given = subst (λ r. GivesAt (left c.loop-before.source) (Ok r) (left c.next_row.new.self)) c.in_default.is (ensured.gives, ensured.gave, ensured.ends) in
+    rows-named c.args.setup.now text s (left c.args.source.now) (left c.loop-before.source) (left c.next_row.new.self) c.loop-before.count c.loop-before.before (known_of c.args.known.now) (known_of c.loop-before.known)
+    c.args.named.now.items c.loop-before.named.items _ (was.taken clean inside text s lawful tables) (omega (arith, c.loop-before-test.true)) given

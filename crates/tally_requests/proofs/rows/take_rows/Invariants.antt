@@ -12,7 +12,8 @@ use Rattle.tally_requests.specs.internal.Known.{ForgetsNone, known_of}
 use Rattle.tally_requests.proofs.RowLemmas.{Came, Counted, RowsSoFar}
 use Rattle.tally_requests.proofs.rows.take_rows.Given as goal
 
--- the rows that came, of any tables; and of those of a lawful state what was made of the rows
+-- the rows that came, of any tables; and of those of a lawful state what was made of the rows, and
+-- which of them were named
 abbrev pub invariant-loop-before : goal.invariant-loop-before
 invariant-loop-before g l =
     let left = source_at g.R.RowSource in
@@ -23,7 +24,7 @@ invariant-loop-before g l =
       came : Came (left l.fn.source) (left l.source) l.before;
       counted : Counted l.count l.before;
       taken : HasCleanDisk now → IsInside old → (text : List ℕ) (s : State) → IsLawfulState l.setup s → AreTables l.setup text s old.now.trees
-          → RowsSoFar l.setup text s (left l.fn.source) (left l.source) l.count l.before (known_of l.fn.known) (known_of l.known) now;
+          → RowsSoFar l.setup text s (left l.fn.source) (left l.source) l.count l.before (known_of l.fn.known) (known_of l.known) l.fn.named.items l.named.items now;
       forgets : ForgetsNone (known_of l.fn.known) (known_of l.known);
       unwritten : HasCleanDisk now → IsOpenInside old → l.count.lodged ≡ 0 → IsUnchanged old now;
     }

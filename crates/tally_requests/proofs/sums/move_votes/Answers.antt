@@ -2,8 +2,8 @@ use Rattle.std.proofs.Common.{◌≡◌, ◌+◌, ◌<◌, ◌≤◌, ◌⊎◌,
 use Rattle.std.specs.Prelude.{Option, SomeIff, slice_set}
 use Rattle.std.proofs.Math.Nat.{eq-or-lt_of_le}
 use Rattle.std.proofs.lemmas.List.{get_or-set_other, get_or-set_same, length-set}
-use Rattle.tally_ledger.specs.MovedSum.{CanMove, moved_sum}
-use Rattle.tally_ledger.proofs.SumLemmas.{mapped-is}
+use Rattle.tally_keeper.specs.MovedSum.{CanMove, moved_sum}
+use Rattle.tally_keeper.proofs.SumLemmas.{mapped-is}
 use Rattle.tally_requests.specs.internal.Sums.{FitEach}
 use Rattle.tally_requests.proofs.sums.move_votes.Goals as goal
 use Rattle.tally_requests.proofs.sums.move_votes.Invariants.{Moved}

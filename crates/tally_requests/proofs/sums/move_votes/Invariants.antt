@@ -1,5 +1,5 @@
 use Rattle.std.proofs.Common.{◌≡◌, ◌<◌, ◌≤◌, ℕ, List, Bool, length, slice_index}
-use Rattle.tally_ledger.specs.MovedSum.{CanMove, moved_sum}
+use Rattle.tally_keeper.specs.MovedSum.{CanMove, moved_sum}
 use Rattle.tally_requests.proofs.sums.move_votes.Given as goal
 
 -- the sums before this place are moved, each of which could be, and the others are as they were

@@ -1,55 +1,44 @@
-use Rattle.std.proofs.Common.{◌≡◌, ◌++◌, ◌∷◌, [], Ok, ℕ, ap, ◌∙◌, sym, List, Result}
+use Rattle.std.proofs.Common.{◌≡◌, ◌++◌, ◌∷◌, [], Ok, ap, ◌∙◌, sym, List}
 use Rattle.std.proofs.lemmas.List.{map-append}
 use Rattle.std.proofs.lemmas.List.Elements.{All-push}
 use Rattle.std.proofs.lemmas.Result.{err_from_is_err_and}
-use Rattle.toml.specs.Data.{Data}
 use Rattle.toml.specs.View.{view}
 use Rattle.tally_rules.specs.Constituency.{Constituency, station_codes}
 use Rattle.tally_rules.specs.Limits.{IsConstituency}
-use Rattle.tally_rules.specs.Fault.{Fault}
+use Rattle.tally_rules.specs.Place.{nowhere}
 use Rattle.tally_rules.specs.Reading.{read_constituencies, constituency_entry}
 use Rattle.tally_rules.specs.Setup.{constituency_codes, all_station_codes}
-use Rattle.tally_rules.specs.declared.profile.Profile.{Profile}
-use Rattle.tally_rules.proofs.ReadLemmas.{read-more, array-fault, array-end, IsFoundIn-same}
+use Rattle.tally_rules.proofs.ReadLemmas.{read-more, array-fault, array-end, IsFoundAt-same}
 use Rattle.tally_rules.proofs.SetupLemmas.{all_station_codes-push}
 use Rattle.tally_rules.proofs.read.read_constituencies.Goals as goal
 
-abbrev read : List (List ℕ × Profile) → List Constituency → Data → Result Constituency Fault
-read profiles before = constituency_entry profiles (constituency_codes before) (all_station_codes before)
-
-pub returns-in_err-constituency_entry-clause-fault : goal.returns-in_err-constituency_entry-clause-fault
+pub returns-in_err-con-clause-fault : goal.returns-in_err-con-clause-fault
 unfolding read_constituencies
-returns-in_err-constituency_entry-clause-fault c =
-    let profiles = c.args.profiles.now in
-    let p = err_from_is_err_and c.from_residual-in_err-constituency_entry.result c.from_residual-in_err-constituency_entry.ensures.1 in
-    let before =
-    ap (λ taken. constituency_entry profiles taken (all_station_codes c.loop-con.cons.items) (view c.con-item.result)) (sym c.loop-con.invariant.1)
-    ∙ ap (λ taken. constituency_entry profiles c.loop-con.codes taken (view c.con-item.result)) (sym c.loop-con.invariant.2) in
-    let found = IsFoundIn-same _ _ _ before c.in_err-constituency_entry.ensures.fault in
-    rw (p.1, p.2) (array-fault (read profiles) _ _ _ _ _ _ c.in_ok-entries.ensures.array c.loop-con.invariant.0 c.loop-con-test.true c.con-item.is found)
+returns-in_err-con-clause-fault c =
+    let p = err_from_is_err_and c.from_residual-in_err-con.result c.from_residual-in_err-con.ensures.1 in
+    let before = ap (λ cons. constituency_entry c.args.profiles.now cons (view c.con-item.result)) (sym c.deref.ensures.value) in
+    let found = IsFoundAt-same _ _ _ _ before c.in_err-con.ensures.fault in
+    rw (p.1, p.2) (array-fault (constituency_entry c.args.profiles.now) _ _ _ _ _ _ _ (ap nowhere c.in_ok-entries.ensures.array) c.loop-con.invariant.0 c.loop-con-test.true c.con-item.is found)
 
 pub loop-con-preserved : goal.loop-con-preserved
 loop-con-preserved c =
     let profiles = c.args.profiles.now in
-    let con = c.in_ok-constituency_entry.field-0 in
-    let one : read profiles c.loop-con.cons.items (view c.con-item.result) ≡ Ok con =
-    ap (λ taken. constituency_entry profiles taken (all_station_codes c.loop-con.cons.items) (view c.con-item.result)) (sym c.loop-con.invariant.1)
-    ∙ ap (λ taken. constituency_entry profiles c.loop-con.codes taken (view c.con-item.result)) (sym c.loop-con.invariant.2)
-    ∙ c.in_ok-constituency_entry.ensures.constituency in
+    let con = c.in_ok-con.con in
+    let one : constituency_entry profiles c.loop-con.cons.items (view c.con-item.result) ≡ Ok con = ap (λ cons. constituency_entry profiles cons (view c.con-item.result)) (sym c.deref.ensures.value) ∙ c.in_ok-con.ensures.constituency in
     let codes : c.constituency_entry.new.taken ≡ constituency_codes (c.loop-con.cons.items ++ con ∷ []) =
-    c.in_ok-constituency_entry.ensures.taken ∙ ap (λ taken. taken ++ con.code ∷ []) c.loop-con.invariant.1 ∙ sym (map-append (λ (v : Constituency). v.code) c.loop-con.cons.items (con ∷ [])) in
+    c.in_ok-con.ensures.taken ∙ ap (λ taken. taken ++ con.code ∷ []) c.loop-con.invariant.1 ∙ sym (map-append (λ (v : Constituency). v.code) c.loop-con.cons.items (con ∷ [])) in
     let stations : c.constituency_entry.new.stations ≡ all_station_codes (c.loop-con.cons.items ++ con ∷ []) =
-    c.in_ok-constituency_entry.ensures.stations ∙ ap (λ taken. taken ++ station_codes con.stations) c.loop-con.invariant.2 ∙ sym (all_station_codes-push c.loop-con.cons.items con) in
+    c.in_ok-con.ensures.stations ∙ ap (λ taken. taken ++ station_codes con.stations) c.loop-con.invariant.2 ∙ sym (all_station_codes-push c.loop-con.cons.items con) in
     rw c.in_ok-push.ensures.items (
-      read-more (read profiles) _ _ _ _ _ c.loop-con.invariant.0 c.loop-con-test.true c.con-item.is one,
+      read-more (constituency_entry profiles) _ _ _ _ _ c.loop-con.invariant.0 c.loop-con-test.true c.con-item.is one,
       codes,
       stations,
-      c.in_ok-constituency_entry.ensures.distinct,
-      c.in_ok-constituency_entry.ensures.distinct_stations,
-      All-push IsConstituency _ _ c.loop-con.invariant.5 c.in_ok-constituency_entry.ensures.limits,
+      c.in_ok-con.ensures.distinct,
+      c.in_ok-con.ensures.distinct_stations,
+      All-push IsConstituency _ _ c.loop-con.invariant.5 c.in_ok-con.ensures.limits,
     )
 
 pub returns-clause-setup : goal.returns-clause-setup
 unfolding read_constituencies
 returns-clause-setup c =
-    array-end (read c.args.profiles.now) _ _ _ _ c.in_ok-entries.ensures.array c.loop-con.invariant.0 c.loop-con-test.false ∙ ap Ok (sym c.in_ok-new.ensures)
+    array-end (constituency_entry c.args.profiles.now) _ _ _ _ (ap nowhere c.in_ok-entries.ensures.array) c.loop-con.invariant.0 c.loop-con-test.false ∙ ap Ok (sym c.in_ok-new.ensures)

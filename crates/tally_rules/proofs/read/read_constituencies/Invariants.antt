@@ -8,7 +8,7 @@ use Rattle.tally_rules.proofs.read.read_constituencies.Given as goal
 
 abbrev pub invariant-loop-con : goal.invariant-loop-con
 invariant-loop-con l =
-    IsReadTo (λ before. constituency_entry l.profiles (constituency_codes before) (all_station_codes before)) l.entries l.cons.items l.con-index
+    IsReadTo (constituency_entry l.profiles) l.entries l.cons.items l.con-index
     × (l.codes ≡ constituency_codes l.cons.items)
     × (l.stations ≡ all_station_codes l.cons.items)
     × AreDistinct l.codes

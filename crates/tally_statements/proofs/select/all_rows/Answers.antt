@@ -1,7 +1,7 @@
 use Rattle.std.proofs.Common.{[]}
 use Rattle.std.proofs.lemmas.Result.{IfOk-weaker}
 use Rattle.sqlite.specs.Held.{state}
-use Rattle.tally_rows.proofs.ReadLemmas.{read_keeps, read_changes_nothing, read_was_open, answered_was_open}
+use Rattle.tally_schema.proofs.ReadLemmas.{read_keeps, read_changes_nothing, read_was_open, answered_was_open}
 use Rattle.tally_schema.specs.Tables.{office_schema}
 use Rattle.tally_statements.specs.internal.Texts.{all_rows_text}
 use Rattle.tally_statements.proofs.WholeLemmas.{shows_table, all_rows_mean}

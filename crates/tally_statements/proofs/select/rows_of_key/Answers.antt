@@ -2,7 +2,7 @@ use Rattle.std.proofs.Common.{[], ◌∷◌}
 use Rattle.std.proofs.lemmas.Result.{IfOk-weaker}
 use Rattle.sqlite_value.specs.declared.value.Value.TheVariants.{Text}
 use Rattle.sqlite.specs.Held.{state}
-use Rattle.tally_rows.proofs.ReadLemmas.{read_keeps, read_changes_nothing, read_was_open, answered_was_open}
+use Rattle.tally_schema.proofs.ReadLemmas.{read_keeps, read_changes_nothing, read_was_open, answered_was_open}
 use Rattle.tally_schema.specs.Tables.{office_schema}
 use Rattle.tally_statements.specs.internal.Texts.{rows_of_text}
 use Rattle.tally_statements.proofs.SelectLemmas.{finds, rows_of_means}

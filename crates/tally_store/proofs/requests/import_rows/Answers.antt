@@ -31,6 +31,20 @@ returns-in-Ok-commit-clause-done g c clean now text s lawful has =
     let shown = (c.in-Ok-commit.ensures.ok clean_end).1 in
     subst (λ (h : _). IsAllDone setup text s came c.in-Ok.count (state g.S.Store h)) same (all_committed setup text s came c.in-Ok.count last new all shown)
 
+pub returns-in-Ok-commit-clause-named : goal.returns-in-Ok-commit-clause-named
+returns-in-Ok-commit-clause-named g c clean text s lawful has =
+    let setup = c.args.setup.now in
+    let bare = state g.S.Store c.transaction-tx.result.conn.now in
+    let last = state g.S.Store c.take_open.new.tx.conn.now in
+    let new = state g.S.Store c.commit.new.self.0 in
+    let begun = c.transaction-tx.ensures.begun in
+    let same : c.commit.new.self.0 ≡ c.conn-1.given.0 = search rules in
+    let clean_end : HasCleanDisk new = subst (λ (h : _). HasCleanDisk (state g.S.Store h)) (sym same) clean in
+    let early : HasCleanDisk last = omega (arith, c.commit.ensures.survives.clean) in
+    let here : IsInside bare = rw begun (record { schema = has.schema; sound = has.sound; distinct = has.distinct; inside = refl }) in
+    let held : AreTables setup text s bare.now.trees = rw begun has.tables in
+    c.in-Ok.ensures.named early here text s lawful held
+
 pub returns-in-Ok-commit-clause-known : goal.returns-in-Ok-commit-clause-known
 returns-in-Ok-commit-clause-known g c clean =
     let setup = c.args.setup.now in

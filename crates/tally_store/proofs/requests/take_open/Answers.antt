@@ -1,5 +1,5 @@
 use Rattle.std.proofs.Common.{arith, sym, subst}
-use Rattle.std.proofs.lemmas.Result.{IfOk-weaker}
+use Rattle.std.proofs.lemmas.Result.{IfOk-weaker, on_ok_weaker}
 use Rattle.sqlite.proofs.Callers.{unchanged_then}
 use Rattle.sqlite.specs.Effect.{Database}
 use Rattle.sqlite.specs.State.{HasCleanDisk, IsUnchanged}
@@ -59,3 +59,13 @@ returns-in-Err-clause-lodges g c = record {
   fault = own-first (source_at g.R.RowSource c.args.source.now) c.import_fault_of.result c.import_fault_of.ensures.own;
   forgets = tt;
 }
+
+pub returns-in-Ok-clause-named : goal.returns-in-Ok-clause-named
+returns-in-Ok-clause-named g c clean inside =
+    let setup = c.args.setup.now in
+    let old = state g.S.Store c.args.tx.now.conn.now in
+    let mid = state g.S.Store c.see_open.new.tx.conn.now in
+    let early : HasCleanDisk mid = omega (arith, clean, c.take_rows.ensures.stays.survives.clean) in
+    let same : IsUnchanged old mid = c.in-Ok.ensures.reads.same early inside in
+    on_ok_weaker c.take_rows.result (λ names text s lawful tables. names text s lawful (subst (λ (d : Database). AreTables setup text s d.trees) (sym same.0.now_is) tables))
+    (c.take_rows.ensures.named clean (inside_still old mid same inside))

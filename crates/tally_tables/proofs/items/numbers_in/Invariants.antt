@@ -1,5 +1,5 @@
 use Rattle.std.proofs.Common.{◌≡◌, ◌+◌, drop}
-use Rattle.tally_rows.specs.Cells.{number_of}
+use Rattle.tally_schema.specs.Values.{number_of}
 use Rattle.tally_tables.specs.Reading.{item_for, numbers_from}
 use Rattle.tally_tables.proofs.ReadAllLemmas.{Reading}
 use Rattle.tally_tables.proofs.items.numbers_in.Given as goal

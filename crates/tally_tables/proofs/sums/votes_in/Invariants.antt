@@ -1,5 +1,5 @@
 use Rattle.std.proofs.Common.{◌≡◌, ◌+◌, drop}
-use Rattle.tally_rows.specs.Cells.{wide_number_of}
+use Rattle.tally_schema.specs.Values.{wide_number_of}
 use Rattle.tally_tables.specs.Reading.{item_for, items_from}
 use Rattle.tally_tables.proofs.ReadAllLemmas.{Reading}
 use Rattle.tally_tables.proofs.sums.votes_in.Given as goal

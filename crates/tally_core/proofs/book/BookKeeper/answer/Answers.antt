@@ -1,7 +1,7 @@
 use Rattle.std.proofs.Common.{IfOk, subst}
 use Rattle.tally_steps.specs.Kinds.{IsReplyTo}
 use Rattle.tally_steps.specs.Step.{IsAnswered}
-use Rattle.tally_ledger.specs.Kept.{state_in}
+use Rattle.tally_keeper.specs.Kept.{state_in}
 use Rattle.tally_keeper.specs.Held.{Held}
 use Rattle.tally_keeper.proofs.StoreLemmas.{memory-answered, memory-kind, memory-own}
 use Rattle.tally_core.proofs.book.BookKeeper.answer.Goals as goal

@@ -6,7 +6,7 @@ use Rattle.std.specs.Option.{option_copied}
 use Rattle.tally_keeper.specs.internal.Held.{IsMoved, is_query}
 use Rattle.tally_returns.specs.Return.{StationReturn}
 use Rattle.tally_returns.specs.declared.reply.Reply.TheVariants.{Moved}
-use Rattle.tally_ledger.specs.Kept.{with_no_lot}
+use Rattle.tally_keeper.specs.Kept.{with_no_lot}
 use Rattle.tally_keeper.proofs.StepLemmas.{IsLookedUp, looked-up, looked_up-lawful, moved-on, moved-refused, moves-put, station-known, station-own, view-none, with_put}
 use Rattle.tally_core.proofs.book.answers.move_on.Goals as goal
 

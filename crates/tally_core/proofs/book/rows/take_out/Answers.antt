@@ -1,7 +1,7 @@
 use Rattle.std.proofs.Common.{◌≡◌, ◌∷◌, ◌∙◌, ◌+◌, drop, sym, ap}
 use Rattle.std.specs.FinMap.{remove}
 use Rattle.std.proofs.lemmas.List.{drop_more}
-use Rattle.tally_ledger.specs.Kept.{Kept}
+use Rattle.tally_keeper.specs.Kept.{Kept}
 use Rattle.tally_keeper.specs.internal.Held.{returns_without}
 use Rattle.tally_keeper.proofs.TakenLemmas.{kept-next}
 use Rattle.tally_core.proofs.book.rows.take_out.Goals as goal

@@ -1,6 +1,6 @@
 use Rattle.std.proofs.Common.{◌≡◌, ◌∙◌, ◌++◌, ◌∷◌, [], Ok, None, sym, ap, subst}
 use Rattle.std.specs.FinMap.{get, insert}
-use Rattle.tally_ledger.specs.Kept.{Kept}
+use Rattle.tally_keeper.specs.Kept.{Kept}
 use Rattle.tally_returns.specs.Lawful.{IsLawful}
 use Rattle.tally_returns.specs.State.{stations_of}
 use Rattle.tally_returns.specs.declared.reply.LodgeReply.TheVariants.{Lodged}

@@ -4,8 +4,17 @@ use Rattle.tally_returns.specs.State.{stations_of}
 use Rattle.tally_keeper.specs.Delivery.{source_at}
 use Rattle.tally_keeper.specs.internal.Held.{returns_without}
 use Rattle.tally_keeper.specs.declared.source.ImportFault.TheVariants.{Memory}
-use Rattle.tally_keeper.proofs.TakenLemmas.{GivesAt, SoFar-below, SoFar-fault, SoFar-own, SoFar-taken, kept-next}
+use Rattle.tally_keeper.proofs.TakenLemmas.{GivesAt, NamedSoFar-start, NamedSoFar-taken, SoFar-below, SoFar-fault, SoFar-own, kept-next}
 use Rattle.tally_core.proofs.book.rows.take_source.Goals as goal
+
+pub loop-before-init : goal.loop-before-init
+loop-before-init g c =
+    let old = c.args.ledger.now in
+    record {
+      so_far = NamedSoFar-start (stations_of old.setup) old.returns (source_at g.R.RowSource c.args.source.now) c.new-count.result c.args.named.now.items c.new-count.ensures;
+      kept = refl;
+      undone = refl;
+    }
 
 pub add_row-requires : goal.add_row-requires
 add_row-requires g c =
@@ -13,7 +22,7 @@ add_row-requires g c =
     let old = c.args.ledger.now in
     record {
       below = SoFar-below (stations_of old.setup) old.returns c.loop-before.ledger.returns (left c.args.source.now) (left c.loop-before.source) c.loop-before.count c.loop-before.before
-          c.loop-before.invariant.so_far;
+          c.loop-before.invariant.so_far.so_far;
     }
 
 pub loop-before-preserved : goal.loop-before-preserved
@@ -31,8 +40,9 @@ loop-before-preserved g c =
     let undone : returns_without c.take_row.new.lodged.items new.returns ≡ returns_without c.loop-before.lodged.items mid.returns = c.in_ok-answer.ensures.undone in
     record {
       so_far =
-          SoFar-taken old mid new.returns (left c.args.source.now) came comes c.loop-before.count c.add_row.new.self c.loop-before.before row c.in_ok-answer.answer
-          was.so_far was.kept c.take_row.ensures.codes given c.in_ok-answer.ensures.answer c.in_ok-answer.ensures.returns c.add_row.ensures;
+          NamedSoFar-taken old mid new.returns (left c.args.source.now) came comes c.loop-before.count c.add_row.new.self c.loop-before.before
+          c.args.named.now.items c.loop-before.named.items c.take_row.new.named.items row c.in_ok-answer.answer
+          was.so_far was.kept c.take_row.ensures.codes given c.in_ok-answer.ensures.answer c.in_ok-answer.ensures.returns c.add_row.ensures c.in_ok-answer.ensures.named;
       kept = kept-next old mid new was.kept c.in_ok-answer.ensures.kept;
       undone = undone ∙ was.undone;
     }
@@ -45,7 +55,7 @@ returns-in_err-row-clause-fault g c =
     let p = err_from_is_err_and c.from_residual.result c.from_residual.ensures.1 in
     rw (p.1, p.2) (
     SoFar-fault (stations_of old.setup) old.returns c.loop-before.ledger.returns (left c.args.source.now) (left c.loop-before.source) (left c.next_row.new.self) c.loop-before.count c.loop-before.before
-    c.in_err-row.field-0.0 c.loop-before.invariant.so_far (ensured.gives, ensured.gave, ensured.ends))
+    c.in_err-row.field-0.0 c.loop-before.invariant.so_far.so_far (ensured.gives, ensured.gave, ensured.ends))
 
 pub returns-in_err-answer-clause-fault : goal.returns-in_err-answer-clause-fault
 returns-in_err-answer-clause-fault g c =
@@ -58,4 +68,4 @@ returns-in_err-answer-clause-fault g c =
     let p = err_from_is_err_and c.from_residual-in_err-answer.result c.from_residual-in_err-answer.ensures.1 in
     rw (p.1, p.2) (
     SoFar-own (stations_of old.setup) old.returns c.loop-before.ledger.returns (left c.args.source.now) came comes c.loop-before.count c.loop-before.before
-    c.in-Some.row Memory c.loop-before.invariant.so_far given (inl refl))
+    c.in-Some.row Memory c.loop-before.invariant.so_far.so_far given (inl refl))

@@ -9,4 +9,5 @@ returns c = record {
   table = Holds-empty c.new.result c.new.ensures.empty;
   count = c.new-2.ensures;
   totals = c.in_ok-no_totals.ensures;
+  named = search rules;
 }

@@ -1,24 +1,14 @@
-use Rattle.std.proofs.Common.{◌≡◌, ◌≤◌, ◌+◌, ◌++◌, ◌∷◌, [], ◌∙◌, sym, ap, subst, refl, length, arith}
+use Rattle.std.proofs.Common.{◌≡◌, ◌≤◌, ◌+◌, ◌++◌, ◌∷◌, [], None, ◌∙◌, sym, ap, subst, refl, length, arith}
 use Rattle.std.specs.FinMap.{empty}
 use Rattle.std.proofs.lemmas.List.{append-nil}
 use Rattle.tally_keeper.specs.Import.{row_answer, after_row, returns_after_import, count_of, lodged_counts}
+use Rattle.tally_keeper.specs.NamedRows.{named_row}
 use Rattle.tally_keeper.specs.declared.import.Row.TheVariants.{Lodge, Bad}
 use Rattle.tally_import.specs.Check.{every_code}
 use Rattle.tally_import.specs.internal.Progress.{HasTaken, Holds, taken_answers, stations}
 use Rattle.tally_import.specs.internal.Totals.{AreTotals}
 use Rattle.tally_import.proofs.ProgressLemmas.{HasTaken-push, lodged-few, length-answered}
 use Rattle.tally_import.proofs.import.Import.take.Goals as goal
-
-pub count_row-requires-clause-before : goal.count_row-requires-clause-before
-count_row-requires-clause-before c =
-    let taken = c.requires.so_far.0 in
-    (taken_answers taken, c.requires.so_far.1.count, c.requires.so_far.2 ∙ ap (λ n. n + 1) (sym (length-answered taken)))
-
-pub returns-in_default : goal.returns-in_default
-returns-in_default c taken h next =
-    let new = record c.args.self.now { count = c.count_row.new.count } in
-    subst (λ r. HasTaken (record taken { rows = taken.rows ++ r ∷ [] }) new) (sym c.in_default.is)
-    (HasTaken-push taken c.args.self.now new Bad h refl h.table (c.count_row.ensures (taken_answers taken) h.count (next ∙ ap (λ n. n + 1) (sym (length-answered taken)))) (rw append-nil h.totals))
 
 pub lodge_row-requires : goal.lodge_row-requires
 lodge_row-requires c =
@@ -35,25 +25,42 @@ lodge_row-requires c =
       );
     }
 
-pub count_row-requires-2-clause-before : goal.count_row-requires-2-clause-before
-count_row-requires-2-clause-before c =
+pub count_row-requires-clause-before : goal.count_row-requires-clause-before
+count_row-requires-clause-before c =
     let taken = c.requires.so_far.0 in
-    (taken_answers taken, c.in_ok-answer.ensures.count ∙ c.requires.so_far.1.count, c.requires.so_far.2 ∙ ap (λ n. n + 1) (sym (length-answered taken)))
+    (taken_answers taken, c.in_ok-answer-in-Lodge.ensures.count ∙ c.requires.so_far.1.count, c.requires.so_far.2 ∙ ap (λ n. n + 1) (sym (length-answered taken)))
 
-pub returns : goal.returns
-returns c taken h next =
-    let lodged = c.in_ok-answer.ensures in
+pub returns-in_ok-answer-in-Lodge : goal.returns-in_ok-answer-in-Lodge
+returns-in_ok-answer-in-Lodge c taken h next =
+    let lodged = c.in_ok-answer-in-Lodge.ensures in
     let s = returns_after_import (stations taken) empty taken.rows in
     let ask = c.in-Lodge.ask in
     let same : every_code c.args.self.now.lists ≡ stations taken = ap every_code h.lists in
-    let answer = subst (λ st. row_answer st s (Lodge ask) ≡ c.in_ok-answer.answer) same (lodged.answer s h.table) in
+    let answer = subst (λ st. row_answer st s (Lodge ask) ≡ c.in_ok-answer-in-Lodge.answer) same (lodged.answer s h.table) in
     let held = subst (λ st. Holds c.lodge_row.new.self.returns (after_row st s (Lodge ask))) same (lodged.table s h.table) in
     let before = lodged_counts taken.rows (taken_answers taken) in
-    let totals = subst (λ n. AreTotals n (before ++ lodged_counts (Lodge ask ∷ []) (c.in_ok-answer.answer ∷ [])) c.lodge_row.new.self.totals) h.lists
+    let totals = subst (λ n. AreTotals n (before ++ lodged_counts (Lodge ask ∷ []) (c.in_ok-answer-in-Lodge.answer ∷ [])) c.lodge_row.new.self.totals) h.lists
     (lodged.totals before (subst (λ n. AreTotals n before c.args.self.now.totals) (sym h.lists) h.totals)) in
-    let new = record c.lodge_row.new.self { count = c.count_row-2.new.count } in
-    let counted = c.count_row-2.ensures (taken_answers taken) (lodged.count ∙ h.count) (next ∙ ap (λ n. n + 1) (sym (length-answered taken))) in
+    let new = record c.lodge_row.new.self { count = c.count_row.new.count } in
+    let counted = c.count_row.ensures (taken_answers taken) (lodged.count ∙ h.count) (next ∙ ap (λ n. n + 1) (sym (length-answered taken))) in
+    let old = c.args.self.now.named.items in
     subst (λ r. HasTaken (record taken { rows = taken.rows ++ r ∷ [] }) new) (sym c.in-Lodge.is)
     (HasTaken-push taken c.args.self.now new (Lodge ask) h lodged.lists held
     (counted ∙ ap (λ a. count_of (taken_answers taken ++ a ∷ [])) (sym answer))
-    (subst (λ a. AreTotals taken.lists (before ++ lodged_counts (Lodge ask ∷ []) (a ∷ [])) c.lodge_row.new.self.totals) (sym answer) totals))
+    (subst (λ a. AreTotals taken.lists (before ++ lodged_counts (Lodge ask ∷ []) (a ∷ [])) c.lodge_row.new.self.totals) (sym answer) totals)
+    (lodged.named ∙ ap (λ n. old ++ named_row n (Lodge ask) c.in_ok-answer-in-Lodge.answer) next ∙ ap (λ a. old ++ named_row (length taken.rows + 1) (Lodge ask) a) (sym answer)))
+
+pub count_row-requires-in-Bad-clause-before : goal.count_row-requires-in-Bad-clause-before
+count_row-requires-in-Bad-clause-before c =
+    let taken = c.requires.so_far.0 in
+    (taken_answers taken, c.requires.so_far.1.count, c.requires.so_far.2 ∙ ap (λ n. n + 1) (sym (length-answered taken)))
+
+pub returns-in_ok-name_bad-in-Bad : goal.returns-in_ok-name_bad-in-Bad
+returns-in_ok-name_bad-in-Bad c taken h next =
+    let why = c.in-Bad.why in
+    let new = record c.args.self.now { count = c.count_row-in-Bad.new.count; named = c.name_bad.new.named } in
+    subst (λ r. HasTaken (record taken { rows = taken.rows ++ r ∷ [] }) new) (sym c.in-Bad.is)
+    (HasTaken-push taken c.args.self.now new (Bad why) h refl h.table
+    (c.count_row-in-Bad.ensures (taken_answers taken) h.count (next ∙ ap (λ n. n + 1) (sym (length-answered taken))))
+    (rw append-nil h.totals)
+    (c.in_ok-name_bad-in-Bad.ensures.named ∙ ap (λ n. c.args.self.now.named.items ++ named_row n (Bad why) None) next))

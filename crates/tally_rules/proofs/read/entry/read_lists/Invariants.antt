@@ -8,7 +8,7 @@ use Rattle.tally_rules.proofs.read.entry.read_lists.Given as goal
 
 abbrev pub invariant-loop-list : goal.invariant-loop-list
 invariant-loop-list l =
-    IsReadTo (λ before. list_entry (list_codes before)) l.entries l.lists.items l.list-index
+    IsReadTo (λ before. list_entry l.con (list_codes before)) l.entries l.lists.items l.list-index
     × (l.codes ≡ list_codes l.lists.items)
     × AreDistinct l.codes
     × All IsListEntry l.lists.items

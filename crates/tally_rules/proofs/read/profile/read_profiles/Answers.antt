@@ -4,14 +4,15 @@ use Rattle.std.proofs.lemmas.List.Elements.{All-push}
 use Rattle.std.proofs.lemmas.Result.{err_from_is_err_and}
 use Rattle.toml.specs.Data.{Data}
 use Rattle.toml.specs.View.{view}
-use Rattle.tally_rules.specs.Fault.{Fault}
+use Rattle.tally_rules.specs.Fault.{Placed}
 use Rattle.tally_rules.specs.Limits.{IsProfile}
+use Rattle.tally_rules.specs.Place.{nowhere}
 use Rattle.tally_rules.specs.Reading.{read_profiles, profile_entry, profile_codes}
 use Rattle.tally_rules.specs.declared.profile.Profile.{Profile}
-use Rattle.tally_rules.proofs.ReadLemmas.{read-more, array-fault, array-end, IsFoundIn-same}
+use Rattle.tally_rules.proofs.ReadLemmas.{read-more, array-fault, array-end, IsFoundAt-same}
 use Rattle.tally_rules.proofs.read.profile.read_profiles.Goals as goal
 
-abbrev read : List (List ℕ × Profile) → Data → Result (List ℕ × Profile) Fault
+abbrev read : List (List ℕ × Profile) → Data → Result (List ℕ × Profile) Placed
 read before = profile_entry (profile_codes before)
 
 pub returns-in_err-profile_entry-clause-fault : goal.returns-in_err-profile_entry-clause-fault
@@ -19,8 +20,8 @@ unfolding read_profiles
 returns-in_err-profile_entry-clause-fault c =
     let p = err_from_is_err_and c.from_residual-in_err-profile_entry.result c.from_residual-in_err-profile_entry.ensures.1 in
     let before = ap (λ taken. profile_entry taken (view c.profile-item.result)) (sym c.loop-profile.invariant.1) in
-    let found = IsFoundIn-same _ _ _ before c.in_err-profile_entry.ensures.fault in
-    rw (p.1, p.2) (array-fault read _ _ _ _ _ _ c.in_ok-entries.ensures.array c.loop-profile.invariant.0 c.loop-profile-test.true c.profile-item.is found)
+    let found = IsFoundAt-same _ _ _ _ before c.in_err-profile_entry.ensures.fault in
+    rw (p.1, p.2) (array-fault read _ _ _ _ _ _ _ (ap nowhere c.in_ok-entries.ensures.array) c.loop-profile.invariant.0 c.loop-profile-test.true c.profile-item.is found)
 
 pub loop-profile-preserved : goal.loop-profile-preserved
 loop-profile-preserved c =
@@ -36,4 +37,4 @@ loop-profile-preserved c =
 
 pub returns-clause-profiles : goal.returns-clause-profiles
 unfolding read_profiles
-returns-clause-profiles c = array-end read _ _ _ _ c.in_ok-entries.ensures.array c.loop-profile.invariant.0 c.loop-profile-test.false
+returns-clause-profiles c = array-end read _ _ _ _ (ap nowhere c.in_ok-entries.ensures.array) c.loop-profile.invariant.0 c.loop-profile-test.false

@@ -11,7 +11,7 @@ returns-in_err-index_of-clause-found c =
     ∙ sym (
     ap (constituency_with c.args.code) (sym c.self.view_is)
     ∙ constituency_with-place _ _ _ _ c.self.invariant c.args.code
-    ∙ ap (option_and_then (slice_get c.self.inside.cons.items)) (sym c.in_err-index_of.ensures)
+    ∙ ap (option_and_then (slice_get c.self.inside.cons.items)) (sym c.in_err-index_of.ensures.place)
     )
 
 pub returns-clause-found : goal.returns-clause-found
@@ -19,7 +19,7 @@ returns-clause-found c =
     sym (
     ap (constituency_with c.args.code) (sym c.self.view_is)
     ∙ constituency_with-place _ _ _ _ c.self.invariant c.args.code
-    ∙ ap (option_and_then (slice_get c.self.inside.cons.items)) (sym c.in_ok-index_of.ensures)
+    ∙ ap (option_and_then (slice_get c.self.inside.cons.items)) (sym c.in_ok-index_of.ensures.place)
     ∙ ap (λ cons. slice_get cons c.in_ok-index_of.field-0) (sym c.deref.ensures.value)
     ∙ slice_get-lookup _ _ _ c.get.ensures.lookup
     )

@@ -1,11 +1,13 @@
-use Rattle.std.proofs.Common.{arith, subst}
+use Rattle.std.proofs.Common.{OnOk, arith, subst}
 use Rattle.sqlite.specs.Held.{state}
 use Rattle.tally_keeper.specs.Delivery.{delivery}
 use Rattle.tally_keeper.specs.Keeper.{Imports}
+use Rattle.tally_keeper.specs.NamedRows.{NamesRows}
 use Rattle.tally_requests.specs.internal.Known.{known_of}
 use Rattle.tally_store.specs.Content.{content_of}
 use Rattle.tally_store.specs.Store.{KeepsText, Stored}
 use Rattle.tally_store.proofs.RequestLemmas.{Took, imports_after, keeps_text_imported, served_import, shows_tables, stored_import}
+use Rattle.tally_store.proofs.TrialLemmas.{named_after}
 use Rattle.tally_store.proofs.keeper.StoreKeeper.lodge_from.Goals as goal
 
 pub import_rows-requires-clause-known : goal.import_rows-requires-clause-known
@@ -33,6 +35,19 @@ returns-clause-imported g c clean =
     let took : Took setup old new came r = record { ended = ensured.ends.ended; clean = λ clean. omega (arith, clean, ensured.ends.crash.clean); done = ensured.done; fault = ensured.fault; shut = ensured.shut; was_open = ensured.ends.was_open } in
     subst (λ (h : Stored _). Imports h.setup (content_of h.setup (state g.S.Store h.conn)) came r (content_of setup new)) c.self.view_is
     (imports_after setup old new came r c.a_constituency_has_a_view.ensures.lawful c.self.invariant.stored took clean)
+
+pub returns-clause-named : goal.returns-clause-named
+returns-clause-named g c clean =
+    let setup = c.self.inside.setup in
+    let old = state g.S.Store c.self.inside.conn in
+    let new = state g.S.Store c.import_rows.new.conn in
+    let came = delivery g.R.RowSource c.args.rows.now c.import_rows.new.source in
+    let before = c.args.named.now.items in
+    let after = c.import_rows.new.named.items in
+    let ensured = c.import_rows.ensures in
+    let r = c.import_rows.result in
+    subst (λ (h : Stored _). OnOk r (NamesRows h.setup (content_of h.setup (state g.S.Store h.conn)) came before after)) c.self.view_is
+    (named_after setup old new came r before after c.a_constituency_has_a_view.ensures.lawful c.self.invariant.stored (λ clean. omega (arith, clean, ensured.ends.crash.clean)) ensured.ends.was_open ensured.shut ensured.named clean)
 
 pub returns-clause-tables : goal.returns-clause-tables
 returns-clause-tables g c clean =

@@ -1,9 +1,0 @@
-pub mod ChangeLemmas
-pub mod GoneLemmas
-pub mod OpeningLemmas
-pub mod MapLemmas
-pub mod PastLemmas
-pub mod SetupLemmas
-pub mod SumLemmas
-pub mod TallyLemmas
-pub mod TreeLemmas

@@ -1,4 +1,0 @@
-pub mod internal
-pub mod MapOf
-pub mod Kept
-pub mod MovedSum
