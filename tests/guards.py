@@ -1162,6 +1162,65 @@ def test_what_the_services_start():
                 same((copying.stdout.read().splitlines()[-1], copying.wait(timeout=PATIENCE)), ("c1 agrees", 0))
 
 
+# In place of systemctl: what it was called with, and whether the record was in its place; the
+# office alone is really stopped and started, and listens after a while.
+SYSTEMCTL = """#!/bin/sh
+echo "$(ls log):$*" >> said
+case " $* " in
+*" stop "*) kill "$OFFICE" ;;
+*" start office "*) (sleep 2; exec "$PROGRAM" serve --db lib/office.db --port "$PORT" --count 1000000) > /dev/null 2>&1 & echo $! > started ;;
+esac
+"""
+
+
+def test_another_machine_in_the_place_of_a_lost_one():
+    """README.md's steps for it, over an office that step 3 has made: nothing is written into while it runs, what the copy lacks is sent
+    once the office listens, and the names and passwords are those that step 5 has kept."""
+    page = (DEPLOY / "README.md").read_text(encoding="utf-8")
+    [keep] = re.findall("^    (.* tar -C / -c.*)$", page, re.M)
+    steps = re.findall("^    (.*)$", page.split("\n**When the machine is lost**")[1].split("\n## ")[0], re.M)
+    kept = {"etc/office/setup.toml": "a setup", "etc/nginx/office/staff.htpasswd": "a password"}
+    for folder in ("bin", "lib", "log", *(f"{machine}/{Path(file).parent}" for file in kept for machine in ("old", "new"))):
+        Path(folder).mkdir(parents=True)
+    for file, text in kept.items():
+        Path("old", file).write_text(text, encoding="utf-8")
+    subprocess.run(["sh", "-c", keep.replace("tar -C /", "tar -C old")], check=True, timeout=PATIENCE)
+    same(stat.S_IMODE(os.stat("office-etc.tar.gz").st_mode), 0o600)
+
+    bodies = {name: json.dumps({**LODGED, "slip": name}) for name in ("s1", "s2")}
+    with serving(with_stations(2)) as lost:
+        for name in bodies:
+            same(deploy.plain(lost.port, "POST", f"/station/{name}/lodge", bodies[name]).status, 200)
+            if name == "s1":
+                same(backup("office.db", ".")[::2], (0, ""))
+    [copy] = Path().glob("office-*.db")
+    copy.rename("office-20261126T221400Z.db")
+    record = chained(a_command(bodies["s2"], "/station/s2/lodge"), {"to": 1, "status": 200, "answer": '{"ok":"lodged","rev":1}'})
+    Path("commands.log").write_bytes(record)
+
+    Path("bin/systemctl").write_text(SYSTEMCTL, encoding="utf-8")
+    Path("bin/systemctl").chmod(0o755)
+    with serving(with_stations(2), "lib/office.db") as fresh:
+        places = {"8080": fresh.port, "-o office -g office ": "", "-o office-recorder -g office-recorder ": "", "tar -C /": "tar -C new",
+                  "/usr/local/lib/office/": f"{DEPLOY}/", "/var/lib/office": "lib", "/var/log/office": "log"}
+        its = {"PATH": f"{Path.cwd()}/bin:{os.environ['PATH']}", "OFFICE": str(fresh.process.pid), "PROGRAM": str(deploy.PROGRAM), "PORT": str(fresh.port)}
+        try:
+            ended = subprocess.run(["sh", "-e", "-c", placed("\n".join(steps), places)], env={**os.environ, **its}, timeout=PATIENCE,
+                                   stdout=subprocess.PIPE, stderr=subprocess.STDOUT, text=True)
+            assert (ended.returncode, "sent 1, to look at 0;" in ended.stdout) == (0, True), ended.stdout
+        finally:
+            if Path("started").exists():
+                os.kill(int(Path("started").read_text()), signal.SIGTERM)
+    for db in ("office.db", "lib/office.db"):
+        ran(deploy.PROGRAM, "show", "--db", db, "--report", "progress")  # takes the log into the file
+    same(deploy.rows("lib/office.db"), deploy.rows("office.db"))
+    same({file: Path("new", file).read_text(encoding="utf-8") for file in kept}, kept)
+    same(Path("log/commands.log").read_bytes(), record)
+    first, *then = [line.split() for line in Path("said").read_text(encoding="utf-8").splitlines()]
+    same((first[0], [words[0] for words in then]), (":stop", [":start", "commands.log:start"]))
+    same(set(first[1:]), {unit for words in then for unit in words[1:]} | {"office-backup"})
+
+
 # In place of ssh: what it was called with, and the other end on this machine.
 SSH = """#!/bin/sh
 echo "$@" > asked
