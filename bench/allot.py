@@ -143,7 +143,7 @@ def main():
     parser.add_argument("--rounds", type=int, default=60, help="the rounds of a run")
     args = parser.parse_args()
     with tempfile.TemporaryDirectory() as folder:
-        office = build_office(Path(folder), "allot_office", ["//crates/tally_allot", "//crates/tally_rules"])
+        office = build_office(Path(folder), "allot_office", ["//crates/tally_allot", "//crates/tally_setup"])
         plain = build_plain(Path(folder), "allot_plain")
         print(f"{os.cpu_count()} processors, {processor()}, {args.runs} runs of {args.rounds} rounds")
         print(f"{LISTS} lists, {SEATS} seats; microseconds of processor time a call\n")

@@ -33,7 +33,7 @@ from check import LISTS, codes
 from databases import Con, ask_in_memory, certify, closes_of, import_message, import_returns, make, reopen, setup_of
 from serve import PROGRAMS
 from serving import Server, free_port, get, office, post
-from store import CONSTITUENCIES, COUNTRY_LISTS, cons_of
+from store import CONSTITUENCIES, COUNTRY_LISTS, IN_A_MESSAGE, cons_of
 
 STATIONS = 5_000
 FEW_STATIONS = 20
@@ -53,9 +53,6 @@ GOALS = [
     ("GET tally", "in memory", 8),
     *((kind, "none on record", 1.15) for kind in ("GET con", "GET tally", "query, correct, close", "certify, reopen")),
 ]
-
-# The returns of one import over HTTP, some 700 KB of 60 lists.
-IN_A_MESSAGE = 2_000
 
 # The milliseconds that the progress of the country may take.
 PROGRESS_GOAL = 10

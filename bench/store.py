@@ -14,9 +14,13 @@ whole process, and for the system on its behalf; what counts is the ratio of the
 Where `valgrind` is installed, the instructions of an import of fewer returns and of an opening after it
 are counted too, of the office and of the kit's `sqlite` alone: they do not depend on other work.
 
-Then `office serve` is asked over HTTP, by one client that opens a connection for each request, on the
-file and on a copy in memory (/dev/shm). Where `strace` is installed, a third run counts how long the
-server waited for the disk (fdatasync, fsync).
+Then `office serve` is asked for the returns and for the stations of the constituency, beside the kit's
+`sqlite` alone, which reads the same rows by the same statements: what counts is the time without the
+opening.
+
+Last it is asked single requests, by one client that opens a connection for each, on the file and on a
+copy in memory (/dev/shm). Where `strace` is installed, a third run counts how long the server waited for
+the disk (fdatasync, fsync).
 
 With `--country` a country of 52 constituencies, 60,000 stations and 20 lists is measured once, and a
 tenth of it; with numbers after it, countries of so many stations in place of these.
@@ -32,6 +36,7 @@ import os
 import re
 import shutil
 import sqlite3
+import statistics
 import sys
 import tempfile
 from contextlib import closing
@@ -68,13 +73,20 @@ REQUESTS = 200
 IMPORT_GOAL = 1.3
 OPENING_GOAL = 2
 
+# How many times as long the returns may take over HTTP, and how many MiB they may need.
+RETURNS_GOAL = 1.3
+RETURNS_MEMORY = 40
+
+# The returns of one import over HTTP, some 700 KB of 60 lists.
+IN_A_MESSAGE = 2_000
+
 # A country: its constituencies, its lists, and the stations of a tenth of it and of the whole.
 CONSTITUENCIES = 52
 COUNTRY_LISTS = 20
 COUNTRY_STATIONS = [6_000, 60_000]
 
 # What is measured of a constituency.
-PARTS = ["import", "opening", "instructions", "growth", "requests"]
+PARTS = ["import", "opening", "instructions", "growth", "returns", "requests"]
 
 # How many returns are imported where instructions are counted.
 COUNTED_RETURNS = 400
@@ -203,6 +215,54 @@ def grow(folder, program, con, rounds):
 def opening_of(db, program, rounds):
     """What an opening takes."""
     return in_turn(rounds, {"": open_command(program, db)}, refused=[""])[""]
+
+
+def published(folder, program, alone, con, rounds):
+    """Prints what the returns and the stations take over HTTP: the ratio of the returns to the kit's `sqlite` alone."""
+    db, text = folder / "received.db", folder / "published.csv"
+    text.write_text(con.text_of(con.returns()))
+    taken, peak = {"sqlite alone": [], "returns": [], "stations": []}, 0
+    for _ in range(rounds):
+        ran = run_timed([alone, "show", db, text])
+        peak = max(peak, ran.peak or 0)
+        readings = [tuple(map(int, line.split())) for line in ran.output.splitlines()]
+        if {found for found, _ in readings} != {con.rows()}:
+            sys.exit(f"sqlite alone reads other rows than {con.rows()}: {readings}")
+        taken["sqlite alone"] += [spent / 1e6 for _, spent in readings]
+        with office(program, db, 2 * len(readings)) as server:
+            for _ in readings:
+                for what in ("returns", "stations"):
+                    asked = server.ask_all([get(f"/con/{con.code}/{what}")])
+                    taken[what].append(asked.spent / 1e3)
+                    if what == "returns" and asked.answers[0].partition(b"\r\n\r\n")[2] != text.read_bytes():
+                        sys.exit("the returns are not those that were imported")
+    medians = {name: statistics.median(times) for name, times in taken.items()}
+    print(f"\n{'a reading of the rows':24}      ms   least   ratio   of the least")
+    for name, times in taken.items():
+        of_least = min(times) / min(taken["sqlite alone"])
+        print(f"  {name:22} {medians[name]:7.0f} {min(times):7.0f} {medians[name] / medians['sqlite alone']:7.2f} {of_least:14.2f}")
+    before, after = memory_of_returns(folder, program, con)
+    print(f"  MiB: sqlite alone with its opening {peak:.0f}; an office opened without returns, all taken in {before:.0f}, shown {after:.0f}")
+    return medians["returns"] / medians["sqlite alone"], after - before
+
+
+def memory_of_returns(folder, program, con):
+    """The MiB that an office has which was opened before the returns came, so that no memory of its opening is free, and its
+    peak while it shows them."""
+    db, every = folder / "taken.db", con.returns()
+    shutil.copy(folder / "new.db", db)
+    imports = [import_message(con, every[at : at + IN_A_MESSAGE]) for at in range(0, len(every), IN_A_MESSAGE)]
+    with office(program, db, len(imports) + 1) as server:
+        server.ask_all(imports)
+        before = forget_peak(server)
+        server.ask_all([get(f"/con/{con.code}/returns")])
+        return before, peak_so_far(server)
+
+
+def forget_peak(server):
+    """Has a server's peak memory begin again at what it has now: that in MiB."""
+    Path(f"/proc/{server.process.pid}/clear_refs").write_text("5")
+    return peak_so_far(server)
 
 
 def kinds_of(con):
@@ -411,7 +471,7 @@ def main():
         con = Con(codes("station", STATIONS))
         make(program, folder, "new.db", [con])
         print(f"{LISTS} lists, {STATIONS:,} stations, a return of each: {con.rows():,} rows", flush=True)
-        imported = opened = 0
+        imported = opened = shown = more = 0
         if "import" in args.part:
             imported = imports(folder, program, alone, con, args.rounds)
         shutil.copy(folder / "new.db", folder / "received.db")
@@ -422,10 +482,14 @@ def main():
             instructions(folder, program, alone, con)
         if "growth" in args.part:
             grow(folder, program, con, args.rounds)
+        if "returns" in args.part:
+            shown, more = published(folder, program, alone, con, args.rounds)
         if "requests" in args.part:
             requests(folder, program, con)
     if imported > IMPORT_GOAL or opened > OPENING_GOAL:
         sys.exit(f"\nan import takes more than {IMPORT_GOAL} times as long as sqlite alone, or an opening more than {OPENING_GOAL} times")
+    if shown > RETURNS_GOAL or more > RETURNS_MEMORY:
+        sys.exit(f"\nthe returns take more than {RETURNS_GOAL} times as long as sqlite alone, or {RETURNS_MEMORY} MiB")
 
 
 if __name__ == "__main__":

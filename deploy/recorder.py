@@ -50,7 +50,11 @@ WAIT, PATIENCE = 60, 300
 TRIES = 5
 # A station gives few commands: so many at once, and then one each so many seconds.
 STATION_COMMANDS, STATION_SECONDS = 20, 15
-# A history has the last lines, so many, and of one that is longer not what was sent.
+# One of the staff sends so many bytes at once, and then so many a second, each command as if it had
+# so many more.
+STAFF_BYTES, STAFF_RATE, COMMAND_BYTES = 64 << 20, 20_000, 1000
+# A history has the last lines, so many of what was done and as many of what was not, and of one
+# that is longer not what was sent.
 LINES, LONGEST = 200, 65_536
 # The roles that see what a slip says. Who enters it a second time is not to see the first entry.
 SEE_FIGURES = ("clerk", "board")
@@ -120,9 +124,9 @@ class Record:
 
     def history(self, station):
         """The last commands that are about a station, each with its answer, and whether these are all."""
-        places, commands = self.index.of(station), {}
+        (places, whole), commands = self.index.of(station), {}
         with open(self.file, "rb") as lines:
-            for place in places[-LINES:]:
+            for place in places:
                 lines.seek(place)
                 line = lines.readline(LONGEST)
                 # An import may be long, and is cut before its body.
@@ -131,7 +135,7 @@ class Record:
                     commands.get(entry["to"], {}).update({key: entry[key] for key in ("status", "answer") if key in entry})
                 else:
                     commands[entry["n"]] = command_of(entry)
-        return {"station": station, "whole": len(places) <= LINES, "commands": list(commands.values())}
+        return {"station": station, "whole": whole, "commands": list(commands.values())}
 
     def head(self):
         with self.lock:
@@ -142,7 +146,8 @@ class Index:
     """Where the lines of the record are that are about each station."""
 
     def __init__(self):
-        # Of what was answered or refused, and of commands without an answer by their numbers.
+        # Of what was done to a station and of what was not, so that no repetition pushes out an
+        # act; and of commands without an answer by their numbers.
         self.places, self.waiting, self.lock = {}, {}, threading.Lock()
 
     def take(self, line, place):
@@ -155,7 +160,7 @@ class Index:
             stations = stations_of(entry)
             with self.lock:
                 if "status" in entry:
-                    self.add(stations, place)
+                    self.add(stations, False, place)
                 else:
                     self.waiting[entry["n"]] = place, stations, entry["path"]
         except (ValueError, KeyError, TypeError, AttributeError, RecursionError, csv.Error):
@@ -167,17 +172,23 @@ class Index:
             command, stations, path = self.waiting.pop(entry["to"])
             # A file of which nothing was lodged is about no station.
             if path.startswith("/station/") or entry["status"] in UNKNOWN or json.loads(entry["answer"])["lodged"]:
-                self.add(stations, command, place)
+                self.add(stations, is_done(entry), command, place)
 
-    def add(self, stations, *places):
+    def add(self, stations, done, *places):
         for station in stations:
-            self.places.setdefault(station, array("Q")).extend(places)
+            self.places.setdefault((station, done), array("Q")).extend(places)
 
     def of(self, station):
-        """The places of its lines, in their order."""
+        """The places of its last lines, in their order, and whether these are all."""
         with self.lock:
             waiting = [place for place, stations, _ in self.waiting.values() if station in stations]
-            return sorted([*self.places.get(station, ()), *waiting])
+            sorts = [self.places.get((station, done), ()) for done in (True, False)] + [waiting]
+            return sorted(place for sort in sorts for place in sort[-LINES:]), all(len(sort) <= LINES for sort in sorts)
+
+
+def is_done(entry):
+    """Whether an answer says that something was done, or leaves it open."""
+    return entry["status"] in UNKNOWN or entry["status"] == 200 and '"ok":"same"' not in entry.get("answer", "")
 
 
 def stations_of(entry):
@@ -216,17 +227,20 @@ def text_or_bytes(name, data):
 
 
 class Limit:
-    """How many commands a station may still give."""
+    """What a name may still give. The proxy has seen its password: nobody else uses it up."""
 
     def __init__(self):
         self.spent, self.lock = {}, threading.Lock()
 
-    def is_over(self, name):
+    def is_over(self, name, role, length):
+        seconds, most = STATION_SECONDS, STATION_COMMANDS * STATION_SECONDS
+        if role != "station":
+            seconds, most = (length + COMMAND_BYTES) / STAFF_RATE, STAFF_BYTES / STAFF_RATE
         now = time.monotonic()
         with self.lock:
             # The moment at which all that was given counts no more.
-            moment = max(self.spent.get(name, 0), now) + STATION_SECONDS
-            if moment > now + STATION_COMMANDS * STATION_SECONDS:
+            moment = max(self.spent.get(name, 0), now) + seconds
+            if moment > now + most:
                 return True
             self.spent[name] = moment
             return False
@@ -339,7 +353,7 @@ class Recorder:
         if method == "GET":
             return self.desk.ask(method, path, b"")[1]
         name, role = fields["office-name"], fields["office-role"]
-        if role == "station" and self.limit.is_over(name):
+        if self.limit.is_over(name, role, len(body)):
             return TOO_MANY
         if path.split("/")[3] == "trial":
             return self.desk.ask(method, path, body)[1] if fields["office-allowed"] == "1" else FORBIDDEN

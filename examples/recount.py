@@ -132,7 +132,7 @@ def count_database(file):
     return 1 if any(found.values()) else 0
 
 
-command = argparse.ArgumentParser(description=__doc__.splitlines()[0])
+command = argparse.ArgumentParser(description=__doc__, formatter_class=argparse.RawDescriptionHelpFormatter)
 command.add_argument("file", type=Path, nargs="?", help="a database")
 for option in ("--setup", "--returns", "--lots"):
     command.add_argument(option, type=Path)

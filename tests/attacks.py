@@ -8,6 +8,7 @@ words these tests use, everything runs in a temporary folder and is ended at the
 skipped. The last line is `N passed, M failed, K skipped`. It needs Python 3.11 or later.
 """
 
+import concurrent.futures
 import contextlib
 import hashlib
 import json
@@ -508,6 +509,48 @@ def test_other_letters_of_a_target():
 
 
 @needs("nginx", "openssl")
+def test_constituencies_that_the_setup_lacks():
+    """However many a stranger thinks of, the desk is not asked for them. Who has a name gets the office's own answer."""
+    Path("setup.toml").write_text(with_stations(2), encoding="utf-8")
+    with answering_desk({**TWIN, "/con/C1": "{}"}) as (port, asked), proxy(port) as front:
+        unknown = [f"/con/{code}{table}" for code in ("c2", "s1", "-", "default", "hostnames", "c", "c11") for table in ("", "/tally", "/stations", "/returns")]
+        same([front.ask("GET", target).status for target in unknown], [404] * len(unknown))
+        same(asked, [])
+        known = ["/con/c1", "/con/C1", "/con/c1/tally", "/con/c1/stations", "/station/s1", "/station/s3", "/progress", "/country"]
+        for target in known:
+            front.ask("GET", target)
+        same(asked, known)
+        same((front.ask("GET", "/now/con/c2", name="clara").body, front.ask("POST", "/con/c2/certify", {"edition": 1}, "berta").body), (b"{}", b"{}"))
+        same(asked[len(known):], ["/con/c2", "/con/c2/certify"])
+    # A code would be a line of the proxy's configuration.
+    for code in ("c1 0;} map $uri $x {default", "c1;", "", "c:1", "x" * 17, "é"):
+        Path("wrong.toml").write_text(with_stations(1).replace('"c1"', f'"{code}"'), encoding="utf-8")
+        assert "is no code" in ran(DEPLOY / "setup-json", "wrong.toml", ".", status=1), code
+    assert not Path("setup.json").exists()
+
+
+@needs("nginx", "openssl")
+def test_tables_of_stations_from_many_addresses():
+    """Strangers who each keep to their own limit get 300 at once and 300 a second together, and the desk is there for the clerks."""
+    with recording_desk(b"{}\n") as (port, _), proxy(port) as front:
+        def took(target, net):
+            began = time.monotonic()
+            with concurrent.futures.ThreadPoolExecutor(4) as strangers:
+                same(list(strangers.map(lambda n: pipelined(front, f"GET {target}", 300, f"127.0.{net}.{n}"), range(1, 5))), [{b"200": 300}] * 4)
+            return time.monotonic() - began
+
+        # 1,200 of them.
+        assert took("/station/s1", 21) > 2.8
+        nets = iter((22, 23, 24))
+
+        def not_limited():
+            seconds = took("/con/c1/tally", next(nets))
+            assert seconds < 2.5, seconds
+
+        tries(not_limited)
+
+
+@needs("nginx", "openssl")
 def test_a_desk_that_starts_again():
     """It has served its count, or was killed: who asks meanwhile waits, and nobody is refused."""
     with office_and_proxy(with_stations(4000)) as (desk, front):
@@ -808,6 +851,17 @@ def test_three_offices():
         fresh, record = served("again"), (front.folder / "log/commands.log").read_bytes()
         done = subprocess.run([DEPLOY / "replay", *(f"http://127.0.0.1:{desk.port}" for desk in fresh)], input=record, capture_output=True, text=False, timeout=PATIENCE)
         assert done.returncode == 0 and done.stdout.startswith(b"sent 63, to look at 0; lines 126,"), done
+        # One that is away, or does not answer, holds up nobody who asks for all of them.
+        first, _, third = (plain(desk.port, "GET", "/progress").body.decode() for desk in desks)
+        for away in (lambda: desks[1].process.send_signal(signal.SIGSTOP), desks[1].end):
+            away()
+            for target, name in (("/now/progress", "clara"), ("/progress", None)):
+                # (an answer is kept for a second)
+                until(lambda: front.ask("GET", target, name=name).body.decode() == f"{first}an office does not answer\n{third}")
+                began = time.monotonic()
+                same(front.ask("GET", target, name=name).status, 200)
+                assert time.monotonic() - began < 9, target
+            desks[1].process.send_signal(signal.SIGCONT) if desks[1].process else None
         for desk in desks + fresh:
             desk.end()
         for office in (1, 2, 3):

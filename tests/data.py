@@ -813,12 +813,16 @@ def test_what_the_readme_says_of_the_data():
             assert done.returncode == status, (line, done)
             return done.stdout
 
-        results, columns, seats, again, compared = others
+        results, columns, seats, country, short, certified, asked, again, compared = others
         same((typed(results), Path("results.csv").read_bytes()), ("", (front.folder / "pages/results.csv").read_bytes()))
         said = typed(columns).splitlines()
         same([line.split(": ")[0] for line in said], Path("results.csv").read_text(encoding="utf-8").split("\n")[0].split(","))
         assert "blank: Blank votes of closed returns. They are valid." in said, said
         same(json.loads(typed(seats)), {"ROBLE": 4, "ENCINA": 3, "HAYA": 2, "SAUCE": 0, "OLIVO": 0})
+        assert typed(country).startswith("COUNTRY\nconstituencies 1 certified 1\n"), typed(country)
+        assert "\nSAUCE               0          10\n" in typed(short), typed(short)
+        same(json.loads(typed(certified)), {"con": "montehondo", "certified": True, "edition": 2})
+        same(typed(asked), json.loads((front.folder / "pages/manifest.json").read_bytes())["time"] + "\n")
         same([typed(again), typed(again), typed(compared)], ["200\n", "304\n", "results.csv: OK\n"])
         same(Path("results.csv").read_bytes(), (front.folder / "pages/results.csv").read_bytes())
         Path("results.csv").write_text("altered", encoding="utf-8")

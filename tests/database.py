@@ -444,6 +444,7 @@ bad_tables: DROP TABLE past; UPDATE setup SET version = 3
 store: CREATE TABLE other (n INTEGER NOT NULL) STRICT
 store: CREATE INDEX by_con ON returns (con)
 store: DROP TABLE gone; CREATE TABLE gone (con TEXT NOT NULL) STRICT
+store: CREATE TRIGGER aside AFTER DELETE ON past BEGIN SELECT 1; END
 bad_tables: UPDATE setup SET version = 1
 bad_tables: UPDATE setup SET version = 3
 bad_tables: UPDATE setup SET id = 0
@@ -482,6 +483,19 @@ bad_tables: INSERT INTO totals VALUES ('c1', 3, 0)
 bad_tables: INSERT INTO seats VALUES ('c1', 3, 0)
 bad_tables: INSERT INTO counts VALUES ('s1', 3, 0)
 bad_tables: UPDATE returns SET rev = 10000
+opened: UPDATE returns SET rev = 9999
+bad_tables: UPDATE returns SET rev = 4294967298
+bad_tables: UPDATE counts SET n = 4294967396 WHERE item = 1
+bad_tables: UPDATE counts SET item = 4294967297 WHERE item = 1
+bad_tables: UPDATE lots SET list = 4294967297 WHERE list = 1
+bad_tables: UPDATE lots SET place = 4294967297 WHERE place = 1
+bad_tables: UPDATE seats SET n = 4294967297 WHERE list = 1
+opened: UPDATE cons SET edition = 9999
+bad_tables: UPDATE cons SET edition = 10000
+bad_tables: UPDATE cons SET edition = 4294967299
+opened: DELETE FROM seats; UPDATE cons SET certified = 0; DELETE FROM lots; UPDATE totals SET n = 0; DELETE FROM returns; DELETE FROM counts
+bad_tables: DELETE FROM seats; UPDATE cons SET certified = 0; DELETE FROM lots; UPDATE totals SET n = 0; DELETE FROM returns
+bad_tables: DELETE FROM seats; UPDATE cons SET certified = 0; DELETE FROM lots; UPDATE totals SET n = 0; DELETE FROM counts
 bad_tables: UPDATE returns SET station = 'zz'
 bad_tables: UPDATE lots SET list = 2
 bad_tables: UPDATE cons SET note = 'a' || char(10)

@@ -176,7 +176,7 @@ class Proxy:
 
     def publish_setup(self, file):
         """Writes setup.json, by the script that an office uses."""
-        same(ran(DEPLOY / "setup-json", file, self.folder / "share"), "")
+        self.put("codes.conf", ran(DEPLOY / "setup-json", file, self.folder / "share"))
 
     def put(self, name, text, places=None):
         """Writes a file of the configuration."""

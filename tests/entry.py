@@ -48,6 +48,21 @@ def shown(desk, code):
 
 
 @contextlib.contextmanager
+def office_with_pages(setup):
+    """The office, the proxy, and the press pages, among them the page's file of the setup."""
+    with office_and_proxy(setup) as (desk, front):
+        press(desk.port, "--setup", "setup.toml", folder=str(front.folder / "pages"))
+        yield desk, front
+
+
+@contextlib.contextmanager
+def claras_page(setup):
+    """The same, and the clerks' page in Clara's browser."""
+    with office_with_pages(setup) as (desk, front), clerks_browser(front, "clara") as it:
+        yield desk, front, it
+
+
+@contextlib.contextmanager
 def office_with_a_second(setup):
     """The office, the proxy with sara, who enters slips a second time, and the page's file of the setup."""
     with serving(setup) as desk:
@@ -305,34 +320,32 @@ def test_the_stations_that_are_not_closed():
 def test_many_stations_that_are_not_closed():
     """A group of many is folded up until somebody opens it, and is then as it was left; a link that is opened in another window is
     the page with that station; where the office does not answer nothing is listed."""
-    with office_and_proxy(with_stations(52)) as (desk, front):
-        press(desk.port, "--setup", "setup.toml", folder=str(front.folder / "pages"))
-        with clerks_browser(front, "clara") as it:
-            many = [f"s{n}" for n in range(1, 53)]
-            it.click("#find")
-            said(it, "Stations that are not closed: 52. They are listed below.")
-            same(it.run(OPEN), [["Without a return: 52", many, False]])
-            press_keys(it, TAB, TAB)
-            same(focused(it)[0], "station")
-            it.click("#open-stations summary")
-            it.click("#open-stations a")
-            said(it, "This is what the office has now.")
-            enter(it, "lodge", SLIP)
-            said(it, "Lodged, revision 1.")
-            same(it.run(OPEN), [["Without a return: 51", many[1:], True], ["Received, to be closed: 1", ["s1"], True]])
-            it.click("#open-stations summary")
-            it.click("#find")
-            said(it, "Stations that are not closed: 52.")
-            same([one[2] for one in it.run(OPEN)], [False, True])
-            it.open(it.run("return document.querySelector('#open-stations details:last-child a').href"))
-            it.of_session("POST", "/refresh", {})
-            said(it, "This is what the office has now.")
-            same((it.run("return document.getElementById('station').value"), forms(it)), ("s1", ["close", "query", "import"]))
-            desk.end()
-            front.end_recorder()
-            it.click("#find")
-            said(it, "The office does not answer now.")
-            same((it.run(OPEN), it.text("#alert").startswith("The office does not answer now.")), ([], True))
+    with claras_page(with_stations(52)) as (desk, front, it):
+        many = [f"s{n}" for n in range(1, 53)]
+        it.click("#find")
+        said(it, "Stations that are not closed: 52. They are listed below.")
+        same(it.run(OPEN), [["Without a return: 52", many, False]])
+        press_keys(it, TAB, TAB)
+        same(focused(it)[0], "station")
+        it.click("#open-stations summary")
+        it.click("#open-stations a")
+        said(it, "This is what the office has now.")
+        enter(it, "lodge", SLIP)
+        said(it, "Lodged, revision 1.")
+        same(it.run(OPEN), [["Without a return: 51", many[1:], True], ["Received, to be closed: 1", ["s1"], True]])
+        it.click("#open-stations summary")
+        it.click("#find")
+        said(it, "Stations that are not closed: 52.")
+        same([one[2] for one in it.run(OPEN)], [False, True])
+        it.open(it.run("return document.querySelector('#open-stations details:last-child a').href"))
+        it.of_session("POST", "/refresh", {})
+        said(it, "This is what the office has now.")
+        same((it.run("return document.getElementById('station').value"), forms(it)), ("s1", ["close", "query", "import"]))
+        desk.end()
+        front.end_recorder()
+        it.click("#find")
+        said(it, "The office does not answer now.")
+        same((it.run(OPEN), it.text("#alert").startswith("The office does not answer now.")), ([], True))
 
 
 @needs("nginx", "openssl")
@@ -370,35 +383,33 @@ def test_which_stations_wait_and_not_what_their_slips_say():
 @needs("chromium", "nginx", "openssl")
 def test_the_total_of_the_slip():
     """A slip whose figures have not the total that was typed is not sent: the page says so aloud, and goes to the first figure."""
-    with office_and_proxy(BOTH) as (desk, front):
-        press(desk.port, "--setup", "setup.toml", folder=str(front.folder / "pages"))
-        with clerks_browser(front, "clara") as it:
-            choose_station(it, "s1")
-            tops = it.run("const box = (e) => e.getBoundingClientRect(); return [...document.querySelectorAll('#lodge .counts input')]"
-                          ".map((e) => [e.name, box(e).left, box(e).top])")
-            same([name for name, *_ in tops], ["votes", "votes", "blank", "spoiled", "total"])
-            same((len({left for _, left, _ in tops}), sorted(tops, key=lambda one: one[2])), (1, tops))
-            for wrong, words in (({"votes": [120, 17]}, "the figures add up to 140, and the total that was typed is 194."),
-                                 ({"total": 149}, "the figures add up to 194, and the total that was typed is 149.")):
-                enter(it, "lodge", SLIP | {"total": 194} | wrong)
-                said(it, words)
-                same((it.text("#alert").startswith("Nothing was sent: "), focused(it)), (True, ["votes", "A Alpha"]))
-                same(it.run("return document.querySelector('#lodge input[name=total]').ariaInvalid"), "true")
-                same(plain(desk.port, "GET", "/station/s1").status, 404)
-            # A field without a figure, or with another thing, is gone to by the browser itself.
-            for place, typed in ((2, ""), (3, "1.0"), (1, "12O")):
-                type_slip(it, "lodge", SLIP)
-                it.run("document.querySelector(`#lodge .counts > :nth-child(${arguments[0]}) input`).value = arguments[1]", place, typed)
-                it.click("#lodge button")
-                same(it.run("return [...document.querySelectorAll('#lodge .counts input')].indexOf(document.activeElement)"), place - 1)
-                same(plain(desk.port, "GET", "/station/s1").status, 404)
-            enter(it, "lodge", SLIP)
-            said(it, "Lodged, revision 1.")
-            same(it.run("return document.querySelector('#lodge input[name=total]').ariaInvalid"), "false")
-            # A receipt of a first entry has no figures: it may go with the slip.
-            same(set(receipt(it)), {"Station", "Constituency", "Done", "Slip", "By", "At", "The office’s answer"})
-            same(shown(desk, "s1")["votes"], [120, 71])
-            shows_well(it, "entry")
+    with claras_page(BOTH) as (desk, front, it):
+        choose_station(it, "s1")
+        tops = it.run("const box = (e) => e.getBoundingClientRect(); return [...document.querySelectorAll('#lodge .counts input')]"
+                      ".map((e) => [e.name, box(e).left, box(e).top])")
+        same([name for name, *_ in tops], ["votes", "votes", "blank", "spoiled", "total"])
+        same((len({left for _, left, _ in tops}), sorted(tops, key=lambda one: one[2])), (1, tops))
+        for wrong, words in (({"votes": [120, 17]}, "the figures add up to 140, and the total that was typed is 194."),
+                             ({"total": 149}, "the figures add up to 194, and the total that was typed is 149.")):
+            enter(it, "lodge", SLIP | {"total": 194} | wrong)
+            said(it, words)
+            same((it.text("#alert").startswith("Nothing was sent: "), focused(it)), (True, ["votes", "A Alpha"]))
+            same(it.run("return document.querySelector('#lodge input[name=total]').ariaInvalid"), "true")
+            same(plain(desk.port, "GET", "/station/s1").status, 404)
+        # A field without a figure, or with another thing, is gone to by the browser itself.
+        for place, typed in ((2, ""), (3, "1.0"), (1, "12O")):
+            type_slip(it, "lodge", SLIP)
+            it.run("document.querySelector(`#lodge .counts > :nth-child(${arguments[0]}) input`).value = arguments[1]", place, typed)
+            it.click("#lodge button")
+            same(it.run("return [...document.querySelectorAll('#lodge .counts input')].indexOf(document.activeElement)"), place - 1)
+            same(plain(desk.port, "GET", "/station/s1").status, 404)
+        enter(it, "lodge", SLIP)
+        said(it, "Lodged, revision 1.")
+        same(it.run("return document.querySelector('#lodge input[name=total]').ariaInvalid"), "false")
+        # A receipt of a first entry has no figures: it may go with the slip.
+        same(set(receipt(it)), {"Station", "Constituency", "Done", "Slip", "By", "At", "The office’s answer"})
+        same(shown(desk, "s1")["votes"], [120, 71])
+        shows_well(it, "entry")
 
 
 @needs("chromium", "nginx", "openssl")
@@ -463,8 +474,7 @@ def test_what_is_unusual_in_a_slip():
     """It is shown beside its figure, and is sent once somebody says of each that the paper says so."""
     setup = (PROFILE + constituency("c1", "Twin Town", 3, "d0") + LISTS + party_list("C", "Gamma", "Gil")
              + "".join(station(f"s{n}", 1000) for n in range(1, 10)))
-    with office_and_proxy(setup) as (desk, front):
-        press(desk.port, "--setup", "setup.toml", folder=str(front.folder / "pages"))
+    with office_with_pages(setup) as (desk, front):
         post(desk, "/station/s1/lodge", {"slip": "p1", "votes": [300, 200, 20], "blank": 0, "spoiled": 0})
         post(desk, "/station/s1/close", {"rev": 1})
         with clerks_browser(front, "clara") as it:
@@ -567,8 +577,7 @@ def test_a_file_is_tried_before_it_is_imported():
 @needs("chromium", "nginx", "openssl")
 def test_what_was_typed_and_not_sent():
     """Another station, another constituency and another page ask before it goes; asking the office again keeps it."""
-    with office_and_proxy(BOTH) as (desk, front):
-        press(desk.port, "--setup", "setup.toml", folder=str(front.folder / "pages"))
+    with office_with_pages(BOTH) as (desk, front):
         leaves = "return dispatchEvent(new Event('beforeunload', { cancelable: true }))"
         slip = "return document.querySelector('#lodge input[name=slip]').value"
         with clerks_browser(front, "clara") as it:
@@ -620,8 +629,7 @@ def offline(it, now):
 def test_a_lost_connection():
     """What was typed stays until it is recorded: a clerk and a station send it again; where the answer alone was lost, what is recorded
     is shown, and the page does not ask whether to leave it unsent."""
-    with office_and_proxy(with_stations(4)) as (desk, front):
-        press(desk.port, "--setup", "setup.toml", folder=str(front.folder / "pages"))
+    with office_with_pages(with_stations(4)) as (desk, front):
         front.name("stations", "s1")
         typed = "return [...document.querySelectorAll('#lodge input:not([type=checkbox])')].map((e) => e.value)"
         for name, code, again in (("s1", "s1", "retry"), ("clara", "s2", "again")):
@@ -664,32 +672,30 @@ def test_a_lost_connection():
 @needs("chromium", "nginx", "openssl")
 def test_two_windows_of_a_clerk():
     """What the other window did meanwhile is said, and what is typed in this one stays; no command acts on what it does not show."""
-    with office_and_proxy(BOTH) as (desk, front):
-        press(desk.port, "--setup", "setup.toml", folder=str(front.folder / "pages"))
-        with clerks_browser(front, "clara") as it:
-            choose_station(it, "s1")
-            one, page = it.of_session("GET", "/window"), it.run("return location.href")
-            two = it.of_session("POST", "/window/new", {"type": "tab"})["handle"]
-            it.of_session("POST", "/window", {"handle": two})
-            it.command("Network.enable")
-            it.command("Network.setExtraHTTPHeaders", headers={"Authorization": front.authorization("clara")})
-            it.open(page)
-            said(it, "This is what the office has now.")
-            choose_station(it, "s1")
-            enter(it, "lodge", SLIP | {"votes": [120, 17]})
-            said(it, "Lodged, revision 1.")
-            it.of_session("POST", "/window", {"handle": one})
-            enter(it, "lodge", SLIP)
-            said(it, "Another return of this station is recorded, in revision 1. Compare both with the slip; if the recorded one is wrong, query and correct it.")
-            same(dict(it.run(ROWS))["B Beta"], "17")
-            it.of_session("POST", "/window", {"handle": two})
-            it.type("#query input[name=note]", "71 for B")
-            it.click("#query button")
-            said(it, "Done: revision 2.")
-            it.of_session("POST", "/window", {"handle": one})
-            it.click("#close button")
-            same(it.accept(), "Close the return of s1, revision 1?")
-            said(it, "Somebody was here before you: it is now at 2.")
+    with claras_page(BOTH) as (desk, front, it):
+        choose_station(it, "s1")
+        one, page = it.of_session("GET", "/window"), it.run("return location.href")
+        two = it.of_session("POST", "/window/new", {"type": "tab"})["handle"]
+        it.of_session("POST", "/window", {"handle": two})
+        it.command("Network.enable")
+        it.command("Network.setExtraHTTPHeaders", headers={"Authorization": front.authorization("clara")})
+        it.open(page)
+        said(it, "This is what the office has now.")
+        choose_station(it, "s1")
+        enter(it, "lodge", SLIP | {"votes": [120, 17]})
+        said(it, "Lodged, revision 1.")
+        it.of_session("POST", "/window", {"handle": one})
+        enter(it, "lodge", SLIP)
+        said(it, "Another return of this station is recorded, in revision 1. Compare both with the slip; if the recorded one is wrong, query and correct it.")
+        same(dict(it.run(ROWS))["B Beta"], "17")
+        it.of_session("POST", "/window", {"handle": two})
+        it.type("#query input[name=note]", "71 for B")
+        it.click("#query button")
+        said(it, "Done: revision 2.")
+        it.of_session("POST", "/window", {"handle": one})
+        it.click("#close button")
+        same(it.accept(), "Close the return of s1, revision 1?")
+        said(it, "Somebody was here before you: it is now at 2.")
         same((shown(desk, "s1")["status"], shown(desk, "s1")["votes"]), ("queried", [120, 17]))
 
 
@@ -712,8 +718,7 @@ def acts(it, button, question, words, wanted):
 
 @needs("chromium", "nginx", "openssl")
 def test_what_is_asked_once_and_its_receipt():
-    with office_and_proxy(BOTH) as (desk, front):
-        press(desk.port, "--setup", "setup.toml", folder=str(front.folder / "pages"))
+    with office_with_pages(BOTH) as (desk, front):
         town = {"Constituency": "Twin Town (c1)"}
         post(desk, "/station/s1/lodge", SLIP)
         with clerks_browser(front, "clara") as it:
@@ -746,8 +751,7 @@ def test_what_is_asked_once_and_its_receipt():
 @needs("chromium", "nginx", "openssl")
 def test_the_clerks_page_for_a_screen_reader():
     """As the browser tells it: each form and each field has a name, refusals are an alert, and nothing but what acts is a tab stop."""
-    with office_and_proxy(BOTH) as (desk, front):
-        press(desk.port, "--setup", "setup.toml", folder=str(front.folder / "pages"))
+    with office_with_pages(BOTH) as (desk, front):
         post(desk, "/station/s1/lodge", SLIP)
         post(desk, "/station/s1/query", {"rev": 1, "note": "smudged"})
         with clerks_browser(front, "clara") as it:
@@ -844,7 +848,8 @@ def test_a_history_reads_the_lines_of_its_station():
              a_command("{}", "/station/s8/lodge"), a_command('"' * 16_384, "/station/s8/lodge"), answered(21), answered(20)]
     for n in range(24, 324, 2):
         lines += [a_command("{}", "/station/s2/query"), answered(n)]
-    Path("commands.log").write_bytes(chained(*lines))
+    text = chained(*lines)
+    Path("commands.log").write_bytes(text)
     record = recorder.Record("commands.log", 0)
 
     def found(code):
@@ -857,8 +862,14 @@ def test_a_history_reads_the_lines_of_its_station():
     same([[key for key in one if key not in ("n", "time", "name", "role", "act", "status")] for one in record.history("s7")["commands"]],
          [["answer"], ["answer"], []])
     same([one["body"] for one in record.history("s8")["commands"]], ["{}", '"' * 16_384])
+    # What is lodged over and over, or refused, pushes no act out.
+    Path("commands.log").write_bytes(chained(
+        a_command("{}", "/station/s1/lodge"), answered(1, '{"ok":"lodged","rev":1}'), a_command("{}", "/station/s1/query"), answered(3, '{"ok":"moved","rev":2}'),
+        *(line for n in range(5, 605, 3) for line in (
+            a_command("{}", "/station/s1/lodge"), answered(n, '{"ok":"same","rev":2}'), a_command("{}", "/station/s1/lodge") | {"status": 403}))))
+    again = recorder.Record("commands.log", 0).history("s1")
+    same((again["whole"], [one["n"] for one in again["commands"]][:2], len(again["commands"])), (False, [1, 3], 2 + 133))
     # The lines of s2 say that they are of s1, and those of files that they are of other stations.
-    text = Path("commands.log").read_bytes()
     Path("commands.log").write_bytes(text.replace(b"/station/s2", b"/station/s1").replace(b"s7;", b"s9;"))
     same({code: found(code) for code in wanted}, wanted)
 
@@ -919,8 +930,7 @@ def test_the_name_of_nobody():
 @needs("chromium", "nginx", "openssl")
 def test_logging_out():
     """Chromium, which was given a name and a password once, sends them until the button is pressed, and then nobody's name."""
-    with office_and_proxy(BOTH) as (desk, front):
-        press(desk.port, "--setup", "setup.toml", folder=str(front.folder / "pages"))
+    with office_with_pages(BOTH) as (desk, front):
         with browser.browser(Path.cwd(), f"--host-resolver-rules=MAP {NAME} 127.0.0.1") as it:
             site = f"https://{NAME}:{front.port}"
             status = "const done = arguments[arguments.length - 1]; fetch('/now/progress').then((a) => done(a.status), String)"

@@ -38,7 +38,7 @@ from attacks import LODGED
 from deploy import DEPLOY, NAME, a_command, answer_of, answering_desk, backup, chained, desk_with, needs, pipelined, proxy, ran, recording_desk, replayed, same
 from deploy import serving, until, whole_message, with_stations
 from office import SETUP
-from running import PATIENCE, tries
+from running import PATIENCE, Skipped, tries
 
 
 def loaded(name):
@@ -399,13 +399,42 @@ def test_how_long_an_answer_lasts():
         for name in ("index.html", "results.csv", "index.json", "con-C_1.html", "map.png", "other.txt"):
             (front.folder / "pages" / name).write_text("x", encoding="utf-8")
         lasts = {"/progress": "max-age=1", "/station/s1": "max-age=1", "/con/c1": "max-age=1", "/con/c1/tally": "max-age=1", "/": "max-age=5",
-                 "/index.html": "max-age=5", "/results.csv": "max-age=5", "/index.json": "max-age=5", "/con-C_1.html": "max-age=5",
+                 "/country": "max-age=1", "/index.html": "max-age=5", "/results.csv": "max-age=5", "/index.json": "max-age=5", "/con-C_1.html": "max-age=5",
                  "/map.png": "max-age=5", "/other.txt": "no-store", "/nonesuch": "no-store"}
         for target, wanted in lasts.items():
             for method in ("GET", "HEAD"):
                 same((method, target, front.ask(method, target).head.get_all("Cache-Control")), (method, target, [wanted]))
         for target in ("/now/station/s1", "/now/con/c1", "/now/progress", "/clerk.html"):
             same((target, front.ask("GET", target, name="clara").head.get_all("Cache-Control")), (target, ["no-store"]))
+
+
+@needs("nginx", "openssl", "sed")
+def test_a_machine_with_ipv6():
+    """README.md's line has each server listen on both; who comes over IPv6 is served, and recorded with the address."""
+    page, file = (DEPLOY / "README.md").read_text(encoding="utf-8"), Path("nginx.conf")
+    [line] = re.findall("`(sed -i '[^`]*' )/etc/nginx/nginx.conf`", page)
+    listens = lambda text: re.findall("^ *listen (.*);$", text, re.M)
+    shutil.copy(DEPLOY / "nginx.conf", file)
+    before = listens(file.read_text(encoding="utf-8"))
+    subprocess.run(["sh", "-c", f"{line} nginx.conf"], check=True, timeout=PATIENCE)
+    same(listens(file.read_text(encoding="utf-8")), [both for one in before for both in (one, f"[::]:{one}")])
+    try:
+        socket.create_server(("::1", 0), family=socket.AF_INET6).close()
+    except OSError:
+        raise Skipped("this machine has no IPv6")
+    with recording_desk() as (port, _):
+        front = deploy.Proxy(port)
+        front.configure()
+        file = front.folder / "nginx.conf"
+        file.write_text(re.sub(r"listen 127\.0\.0\.1:(.*);", r"\g<0> listen [::1]:\1;", file.read_text(encoding="utf-8")), encoding="utf-8")
+        try:
+            front.start()
+            with front.tls.wrap_socket(socket.create_connection(("::1", front.port), timeout=PATIENCE), server_hostname=NAME) as it:
+                it.sendall(f"POST /con/c1/certify HTTP/1.1\r\nHost: {NAME}\r\nAuthorization: {front.authorization('berta')}\r\nContent-Length: 0\r\n\r\n".encode())
+                assert it.recv(65536).startswith(b"HTTP/1.1 200 ")
+            same(front.record(1)[0]["address"], "::1")
+        finally:
+            front.end()
 
 
 # What a browser may say of the page that asks, and what a table, a read past the cache and a
@@ -563,14 +592,46 @@ def test_what_a_station_may_give():
     clock = [1000.0]
     recorder.time = type("Time", (), {"monotonic": staticmethod(lambda: clock[0])})
     limit = recorder.Limit()
-    same([limit.is_over("s1") for _ in range(25)], [False] * 20 + [True] * 5)
-    same(limit.is_over("s2"), False)
+    is_over = lambda name: limit.is_over(name, "station", 16_384)
+    same([is_over("s1") for _ in range(25)], [False] * 20 + [True] * 5)
+    same(is_over("s2"), False)
     for seconds, wanted in ((14, [True]), (1, [False, True]), (30, [False, False, True]), (3600, [False] * 20 + [True])):
         clock[0] += seconds
-        same((seconds, [limit.is_over("s1") for _ in wanted]), (seconds, wanted))
+        same((seconds, [is_over("s1") for _ in wanted]), (seconds, wanted))
     with recording_desk() as (port, _), recorder_alone(port):
         same([command("/station/s1/lodge", name=name, role=role) for name, role in 25 * [("s1", "station")] + 25 * [("clara", "clerk")]],
              [200] * 20 + [429] * 5 + [200] * 25)
+
+
+def test_what_one_of_the_staff_may_send():
+    """Whoever has a clerk's password fills no disk, and does not keep the office with trials, which are not recorded: 64 MB at once, and then
+    72 MB an hour, which is a file of 1 MB each minute. Every name has its own."""
+    recorder = loaded("recorder.py")
+    clock = [1000.0]
+    recorder.time = type("Time", (), {"monotonic": staticmethod(lambda: clock[0])})
+    limit = recorder.Limit()
+    sent = lambda name, length: next(n for n in range(100_000) if limit.is_over(name, "clerk", length))
+    same((sent("clara", 1_048_576), sent("bruno", 1_048_576), sent("berta", 0)), (63, 63, 67_108))
+    for seconds, wanted in ((3, 0), (1, 1), (53, 1), (3600, 63)):
+        clock[0] += seconds
+        same((seconds, sent("clara", 1_048_576)), (seconds, wanted))
+    for _ in range(600):
+        clock[0] += 60
+        same(limit.is_over("bruno", "clerk", 1_048_576), False)
+    # What counts is what was sent, whatever it was.
+    recorder.STAFF_BYTES, asked = 10 << 20, []
+    recorder.sys = type("Sys", (), {"stdout": open("copy", "wb")})
+    desk = type("Desk", (), {"lock": threading.Lock(), "ask": lambda _, *message: asked.append(message) or (200, recorder.answer(200, b"OK", b"{}"))})()
+    one = recorder.Recorder(recorder.Record("commands.log", 0), desk, 1, recorder.Limit())
+
+    def given(act, name="clara"):
+        fields = {"office-name": name, "office-role": "clerk", "office-address": "192.0.2.1", "office-allowed": "1"}
+        return int(one.answered("POST", f"/con/c1/{act}", fields, b"\1" * 1_000_000)[9:12])
+
+    same([given(act) for act in 3 * ["trial"] + 9 * ["import"] + ["trial"]], [200] * 10 + [429] * 3)
+    same((given("import", "bruno"), len(asked)), (200, 11))
+    # In base64.
+    same(Path("commands.log").stat().st_size // 1_333_336, 8)
 
 
 def test_what_the_recorder_writes():
@@ -1029,14 +1090,15 @@ def test_a_setup_that_cannot_be_split():
 
 
 def test_how_the_proxy_reaches_each_office():
-    """As it does one: the recorder waits for it while it starts again."""
+    """As it does one: the recorder waits for it while it starts again, but not for its part of the progress of all."""
     def upstreams(text):
         return re.findall(r"upstream .*?^}", text, re.M | re.S)
 
     Path("setup.toml").write_text(SETUP, encoding="utf-8")
     ran(DEPLOY / "split", "setup.toml", "1", "parts")
     same(upstreams(Path("parts/offices.conf").read_text(encoding="utf-8")),
-         [text.replace("8080", "8081") for text in upstreams((DEPLOY / "nginx/offices.conf").read_text(encoding="utf-8"))])
+         [text.replace("8080", "8081") for text in upstreams((DEPLOY / "nginx/offices.conf").read_text(encoding="utf-8"))]
+         + ["upstream progress1 {\n    server 127.0.0.1:8081 max_fails=0;\n}"])
 
 
 # ---- the services
@@ -1179,9 +1241,9 @@ def test_another_machine_in_the_place_of_a_lost_one():
     page = (DEPLOY / "README.md").read_text(encoding="utf-8")
     [keep] = re.findall("^    (.* tar -C / -c.*)$", page, re.M)
     steps = re.findall("^    (.*)$", page.split("\n**When the machine is lost**")[1].split("\n## ")[0], re.M)
-    kept = {"etc/office/setup.toml": "a setup", "etc/nginx/office/staff.htpasswd": "a password"}
+    kept = {"etc/office/setup.toml": "a setup", "etc/nginx/office/staff.htpasswd": "a password", "etc/nginx/nginx.conf": "a proxy"}
     for folder in ("bin", "lib", "log", *(f"{machine}/{Path(file).parent}" for file in kept for machine in ("old", "new"))):
-        Path(folder).mkdir(parents=True)
+        Path(folder).mkdir(parents=True, exist_ok=True)
     for file, text in kept.items():
         Path("old", file).write_text(text, encoding="utf-8")
     subprocess.run(["sh", "-c", keep.replace("tar -C /", "tar -C old")], check=True, timeout=PATIENCE)

@@ -311,7 +311,7 @@ def each_change_of_what_it_is_made_of_builds_again(copy):
     crates = copy.root / "crates"
     changes = {
         "an edit of a crate below": lambda: append(crates / "tally_frac/src/share.rt"),
-        "an edit of a definition": lambda: append(crates / "tally_rules/specs/Code.antt"),
+        "an edit of a definition": lambda: append(crates / "tally_setup/specs/Code.antt"),
         "an edit of a proof": lambda: append(crates / "tally_frac/proofs/Lib.antt"),
         "an edit of the program": lambda: append(crates / "tally_office/src/main.rt"),
         "a new file": lambda: (crates / "tally_frac/src/new.rt").write_text("// new\n"),
@@ -631,7 +631,7 @@ def a_machine_that_is_slower_than_the_record_takes_longer(copy):
 
 
 def minutes_left_shrink_as_a_build_goes_on(copy):
-    copy.record({**RECORDED, "tally_rules": 1800, "tally_report": 1200, "tally_door": 1})
+    copy.record({**RECORDED, "tally_setup": 1800, "tally_report": 1200, "tally_door": 1})
     crates = "".join(f"echo '== {name}'\n" for name in NAMES if name not in ("tally_frac", "tally_office", "tally_door"))
     door = "echo '== tally_door'\necho 'logic=proved functions=7 sum=0'\n"
     copy.plan(TIMED.format(3).replace("printf", crates + door + "printf"))
@@ -643,7 +643,7 @@ def minutes_left_shrink_as_a_build_goes_on(copy):
 
 def what_an_earlier_build_left_is_taken_over(copy):
     copy.record(RECORDED)
-    kept = ["tally_frac", "tally_rules", "tally_door", "tally_schema"]
+    kept = ["tally_frac", "tally_setup", "tally_door", "tally_schema"]
     for crate in kept:
         copy.keep(crate)
     taken = f"of {CRATES} crates were proved before and are taken over"
@@ -658,7 +658,7 @@ def what_an_earlier_build_left_is_taken_over(copy):
     append(copy.root / "crates.txt", "# a comment\n")
     assert "taken over" not in copy.run("check")[2]
     # Above a crate that is not proved nothing is taken over.
-    copy.plan("for crate in frac rules law; do echo \"== tally_$crate\"; [ $crate != frac ] || echo logic=not-proved; done; exit 1")
+    copy.plan("for crate in frac setup law; do echo \"== tally_$crate\"; [ $crate != frac ] || echo logic=not-proved; done; exit 1")
     assert "taken over" not in copy.run("check")[2]
     # All but the program is kept, so no sources are read.
     for crate in NAMES:

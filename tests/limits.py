@@ -363,14 +363,16 @@ def looks_at_no_certificate(db, con, edited):
     """A constituency with 4,999 certificates on record is looked at as one that has none, and one of a setup of 8 MiB as one of a small
     setup: what is not shown is not read."""
     program.new(db="small.db")
-    looks = ("", "/tally")
+    looks = {"": 200} | {f"/{report}": 200 if report in ("tally", "stations", "returns") else 409 for report in CON_REPORTS if report != "past"}
     with serving("small.db", len(looks) * TIMES) as desk:
-        small = [spent(desk, *get(f"/con/c1{look}")) for look in looks]
-    with serving(db, 2 * len(looks) * TIMES) as desk:
-        for look, least in zip(looks, small):
-            none = spent(desk, *get(f"/con/{con.code}{look}"))
+        small = [spent(desk, *get(f"/con/c1{look}"), status=status) for look, status in looks.items()]
+    with serving(db, 2 * (len(looks) + 1) * TIMES) as desk:
+        for (look, status), least in zip(looks.items(), small):
+            none, beside = (spent(desk, *get(f"/con/{it.code}{look}"), status=status) for it in (con, edited))
             costs_no_more(f"{look or 'the view'} in a large office", none, least)
-            costs_no_more(f"{look or 'the view'} beside certificates", spent(desk, *get(f"/con/{edited.code}{look}")), none)
+            costs_no_more(f"{look or 'the view'} beside certificates", beside, none)
+        none, beside = (spent(desk, *closed_too_late(it), status=409) for it in (con, edited))
+        costs_no_more("Close beside certificates", beside, none)
 
 
 def requests_up_to_the_last(con, station, edited):
@@ -415,13 +417,13 @@ def test_the_last_revision_and_the_last_edition():
 TIMES = 5
 
 
-def spent(desk, *request, times=TIMES):
-    """The fewest nanoseconds of the processor that an answer takes, of so many which are 200: other work on the machine adds to some."""
+def spent(desk, *request, times=TIMES, status=200):
+    """The fewest nanoseconds of the processor that an answer takes, of so many of this status: other work on the machine adds to some."""
     # (the clock of a process, as Linux numbers it: clock_getcpuclockid)
     clock, took = ~desk.process.pid << 3 | 2, []
     for _ in range(times):
         before = time.clock_gettime_ns(clock)
-        same((request[:2], desk.ask(*request)[0]), (request[:2], 200))
+        same((request[:2], desk.ask(*request)[0]), (request[:2], status))
         took.append(time.clock_gettime_ns(clock) - before)
     return min(took)
 
@@ -431,18 +433,48 @@ def costs_no_more(what, most, least):
     assert most <= 10 * least, f"{what}: {most} ns, and {least} where there is little"
 
 
+def closed_too_late(con):
+    """A Close of a revision that is past, or is not there yet: it is refused."""
+    station = min(con.electors)
+    return post(f"/station/{station}/close", rev=con.returns[station]["rev"] % 2 + 1)
+
+
+def lodged_again(con):
+    station = min(con.electors)
+    return post(f"/station/{station}/lodge", **{key: con.returns[station][key] for key in ("slip", "votes", "blank", "spoiled")})
+
+
+# What is asked of a constituency that is not closed, or of a station of it, and its status.
+ASKED = {
+    "the view": (lambda con: get(f"/con/{con.code}"), 200), "the tally": (lambda con: get(f"/con/{con.code}/tally"), 200),
+    "Certify": (lambda con: post(f"/con/{con.code}/certify", edition=con.edition), 409), "Close": (closed_too_late, 409), "Lodge": (lodged_again, 200),
+}
+
+
+def forgotten(desk, con):
+    """An import that has a fault: nothing is known after it of how many returns there are."""
+    same(desk.ask("POST", f"/con/{con.code}/import", "x")[::2], (400, '{"word":"bad_header"}'))
+
+
 def looks_at_no_station(db, plain):
     """What is asked of the country takes no more of the processor than the same of a constituency of four stations: the returns of a
-    constituency are counted as the office opens, and once more after an import with a fault. Each of 5,000 would be some microseconds."""
+    constituency are counted as the office opens, and once more after an import with a fault. Each of 5,000 would be some microseconds.
+    The progress of all takes no more than a view of each."""
     large, *small = (con_of(plain, n) for n in (COUNTRY, SIXTY, SIXTY + 1, SIXTY + 2))
-    reports = ("", "/tally")
-    with serving(db, len(reports) * (len(small) + 1) * TIMES + 2) as desk:
-        for report in reports:
-            least = min(spent(desk, *get(f"/con/{con.code}{report}")) for con in small)
-            if report == reports[0]:
-                costs_no_more("the view, the first time", spent(desk, *get(f"/con/{large.code}"), times=1), least)
-                same(desk.ask("POST", f"/con/{large.code}/import", "x")[::2], (400, '{"word":"bad_header"}'))
-            costs_no_more(report or "the view", spent(desk, *get(f"/con/{large.code}{report}")), least)
+    with serving(db, len(ASKED) * (4 * TIMES + 4) + 2 * TIMES + 2) as desk:
+        progress = spent(desk, *get("/progress"))
+        for what, (asked, status) in ASKED.items():
+            least = min(spent(desk, *asked(con), status=status) for con in small)
+            costs_no_more(f"{what}, the first time", spent(desk, *asked(large), times=1, status=status), least)
+            if what == "the view":
+                costs_no_more("the progress", progress, ALL // 10 * least)
+            forgotten(desk, large)
+            for con in (small[0], large):
+                spent(desk, *asked(con), times=1, status=status)
+            costs_no_more(what, spent(desk, *asked(large), status=status), least)
+        forgotten(desk, large)
+        spent(desk, *get("/progress"), times=1)
+        costs_no_more("the progress, the second time", spent(desk, *get("/progress")), progress)
 
 
 def test_sixty_thousand_returns():

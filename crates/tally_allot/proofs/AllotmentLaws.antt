@@ -5,8 +5,8 @@ use Rattle.std.proofs.lemmas.Bool.{cases_lt, cases_eq}
 use Rattle.std.proofs.lemmas.List.{get_or_past, length-map}
 use Rattle.std.proofs.lemmas.List.FromFn.{get_or-map-range_with_len, length-range_with_len}
 use Rattle.tally_law.specs.Poll.{Poll, IsEligible, votes_of}
-use Rattle.tally_rules.specs.declared.profile.LotRule.{LotRule}
-use Rattle.tally_rules.specs.declared.profile.LotRule.TheVariants.{Fixed, Alternating}
+use Rattle.tally_setup.specs.declared.profile.LotRule.{LotRule}
+use Rattle.tally_setup.specs.declared.profile.LotRule.TheVariants.{Fixed, Alternating}
 use Rattle.tally_law.specs.Lot.{place_of, is_named, IsTurned, ComesFirst, IsOrderOf}
 use Rattle.tally_law.specs.Allotment.{Rule, IsAllotment, IsAllotmentByVotes}
 use Rattle.tally_law.specs.Poll.{HasEligible}

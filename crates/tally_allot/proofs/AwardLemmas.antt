@@ -6,7 +6,7 @@ use Rattle.tally_contest.specs.declared.won.WonSeat.{WonSeat}
 use Rattle.tally_allot.specs.declared.award.Award.{Award}
 use Rattle.tally_law.specs.Poll.{Poll}
 use Rattle.tally_allot.specs.Awards.{award_of, IsAwardOf, AreAwardsOf, IsAwardAbove}
-use Rattle.tally_rules.specs.declared.profile.LotRule.{LotRule}
+use Rattle.tally_setup.specs.declared.profile.LotRule.{LotRule}
 use Rattle.tally_law.specs.DivisorAllotment.{IsAbove}
 use Rattle.tally_contest.specs.internal.Pairs.{pair_of}
 use Rattle.tally_contest.specs.internal.Race.{IsPair}

@@ -2,9 +2,9 @@
 use Rattle.std.proofs.Common.{◌≡◌, Option, None, Some, sym, ap, ◌∙◌}
 use Rattle.tally_frac.specs.declared.divisors.DivisorRule.{DivisorRule}
 use Rattle.tally_frac.specs.internal.DivisorLaws.{divisors-positive, divisors-rise, units-from_one}
-use Rattle.tally_rules.specs.Method.{divisor_rule_of}
-use Rattle.tally_rules.specs.declared.profile.LotRule.{LotRule}
-use Rattle.tally_rules.specs.declared.profile.Method.{Method}
+use Rattle.tally_setup.specs.Method.{divisor_rule_of}
+use Rattle.tally_setup.specs.declared.profile.LotRule.{LotRule}
+use Rattle.tally_setup.specs.declared.profile.Method.{Method}
 use Rattle.tally_law.specs.Rules.{rule_by, rule_with}
 use Rattle.tally_contest.specs.internal.Terms.{IsRule}
 

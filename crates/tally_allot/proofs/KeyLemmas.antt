@@ -13,7 +13,7 @@ use Rattle.tally_law.specs.Lot.{place_of}
 use Rattle.tally_contest.specs.internal.NextPairs.{HaveKeys}
 use Rattle.tally_contest.specs.internal.Orders.{MayBeTaken}
 use Rattle.tally_contest.specs.internal.Pairs.{last_place, turns, place_at}
-use Rattle.tally_rules.specs.declared.profile.LotRule.{LotRule}
+use Rattle.tally_setup.specs.declared.profile.LotRule.{LotRule}
 use Rattle.tally_law.specs.Poll.{Poll}
 use Rattle.tally_contest.specs.internal.Terms.{AreDivisors, IsClassOf, IsSound, Terms, divisor_under, lot_rule_of}
 use Rattle.tally_allot.proofs.LotLaws.{IsPlaced, at_name, at_setup, placed_at}

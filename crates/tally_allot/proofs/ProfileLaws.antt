@@ -2,10 +2,10 @@
 use Rattle.std.proofs.Common.{◌≡◌, ℕ, ◌+◌, ◌<◌, ◌≤◌, ◌⊎◌, List, [], ◌∷◌, Bool, false, length, get_or, map, sum, refl, sym, ap, ◌∙◌, subst, inl, inr, arith}
 use Rattle.std.proofs.lemmas.Bool.{cases_lt}
 use Rattle.std.proofs.lemmas.List.{get_or-map, length-map, get_or_past}
-use Rattle.tally_rules.specs.Threshold.{is_eligible, base_of}
-use Rattle.tally_rules.specs.declared.profile.Base.{Base}
-use Rattle.tally_rules.specs.declared.profile.Base.TheVariants.{Valid, Lists}
-use Rattle.tally_rules.specs.declared.profile.Profile.{Profile}
+use Rattle.tally_setup.specs.Threshold.{is_eligible, base_of}
+use Rattle.tally_setup.specs.declared.profile.Base.{Base}
+use Rattle.tally_setup.specs.declared.profile.Base.TheVariants.{Valid, Lists}
+use Rattle.tally_setup.specs.declared.profile.Profile.{Profile}
 use Rattle.tally_law.specs.Poll.{Poll, SharesOut}
 use Rattle.tally_law.specs.Lot.{IsOrderOf}
 use Rattle.tally_law.specs.Allotment.{Rule, divisors, hare, IsAllotment, IsAllotmentByVotes}

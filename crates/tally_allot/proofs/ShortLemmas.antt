@@ -7,7 +7,7 @@ use Rattle.std.proofs.Math.Nat.{mul-le-mul_right, mul-le-mul_left, le_of_mul-le-
 use Rattle.tally_frac.specs.Rank.{Pair, IsHigher, VotesRankAbove}
 use Rattle.tally_frac.proofs.FractionLaws.{scaled-greater, scaled-level}
 use Rattle.tally_frac.proofs.RankLaws.{weak-decided, weak-one_way, weak-not_below}
-use Rattle.tally_rules.specs.declared.profile.LotRule.{LotRule}
+use Rattle.tally_setup.specs.declared.profile.LotRule.{LotRule}
 use Rattle.tally_law.specs.Poll.{Poll, IsEligible, votes_of, SharesOut}
 use Rattle.tally_law.specs.Allotment.{Rule, divisors, IsAllotmentByVotes}
 use Rattle.tally_law.specs.DivisorAllotment.{IsDivisorAllotmentByVotes}

@@ -1,7 +1,7 @@
 -- The seats in the order of their award (LOREG article 163.1 c)).
 use Rattle.std.specs.Prelude.{ℕ, ◌≡◌, ◌+◌, ◌-◌, ◌*◌, ◌<◌, ◌≤◌, List, length, slice_index}
 use Rattle.std.specs.Prelude.{slice_index_or}
-use Rattle.tally_rules.specs.declared.profile.LotRule.{LotRule}
+use Rattle.tally_setup.specs.declared.profile.LotRule.{LotRule}
 use Rattle.tally_law.specs.Allotment.{Rule, divisors, hare}
 use Rattle.tally_allot.specs.declared.award.Award.{Award}
 use Rattle.tally_contest.specs.declared.won.WonSeat.{WonSeat}

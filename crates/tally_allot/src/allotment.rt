@@ -22,7 +22,7 @@ use tally_contest::{
     need_of,
 };
 use tally_frac::Divisors;
-use tally_rules::{LotRule, Profile};
+use tally_setup::{LotRule, Profile};
 
 /// The seats of each list, in order of place (LOREG article 163.1). `lot` has the places of the
 /// lists that a lot was drawn among, in its order, and is empty where no lot was drawn. It refuses

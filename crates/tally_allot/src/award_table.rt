@@ -2,8 +2,8 @@
 
 ghost use Rattle.std.specs.Prelude.{◌≡◌, ◌≢◌, ◌≤◌, IfOk, IfErr, OnOk, length};
 ghost use Rattle.tally_frac.specs.Limits.{most_seats};
-ghost use Rattle.tally_rules.specs.declared.profile.LotRule.{LotRule as rule_of_lots};
-ghost use Rattle.tally_rules.specs.declared.profile.Method.TheVariants.{Hare as by_hare};
+ghost use Rattle.tally_setup.specs.declared.profile.LotRule.{LotRule as rule_of_lots};
+ghost use Rattle.tally_setup.specs.declared.profile.Method.TheVariants.{Hare as by_hare};
 ghost use Rattle.tally_contest.specs.internal.KeptPoll.{kept_poll};
 ghost use Rattle.tally_law.specs.Allotment.{divisors as by_divisors};
 ghost use Rattle.tally_allot.specs.AllotFault.{IsFaultOf};
@@ -22,7 +22,7 @@ use crate::under_lot::award_under_lot;
 use std::alloc::{AllocError, Global};
 use tally_contest::{AwardedSeats, Poll, WonSeat};
 use tally_frac::Divisors;
-use tally_rules::{LotRule, Profile};
+use tally_setup::{LotRule, Profile};
 
 /// The seats in the order of their award, for a profile by a divisor rule (LOREG article 163.1 c)
 /// and d)). Lists of equal votes that no lot decides among follow the setup's order. It refuses as

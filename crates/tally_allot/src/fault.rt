@@ -5,7 +5,7 @@ ghost use Rattle.tally_allot.specs.AllotFault.{allot_fault_number};
 ghost use Rattle.tally_allot.specs.declared.fault.AllotFault.TheVariants.{Memory};
 
 use std::alloc::{AllocError, AllocFailed};
-use tally_rules::ListSet;
+use tally_frac::ListSet;
 use thiserror::Error;
 
 /// Why the seats of a poll are not allotted, in the order in which this is checked. Memory may come

@@ -22,4 +22,4 @@ pub use quota_row::QuotaRow;
 pub use quota_table::quotas;
 pub use short::votes_short;
 pub use tally_contest::Need;
-pub use tally_rules::ListSet;
+pub use tally_frac::ListSet;

@@ -1,7 +1,7 @@
 //! Quotas and remainders.
 
 ghost use Rattle.std.specs.Prelude.{◌≡◌, ◌<◌, IfOk, IfErr, OnOk, length};
-ghost use Rattle.tally_rules.specs.declared.profile.Method.TheVariants.{Hare as by_hare};
+ghost use Rattle.tally_setup.specs.declared.profile.Method.TheVariants.{Hare as by_hare};
 ghost use Rattle.tally_contest.specs.internal.KeptPoll.{kept_poll};
 ghost use Rattle.tally_contest.specs.internal.ContestTerms.{hare_terms};
 ghost use Rattle.tally_contest.specs.internal.Terms.{AreSound};
@@ -19,7 +19,7 @@ use crate::quota_row::QuotaRow;
 use crate::under_lot::seats_by_remainders;
 use std::alloc::{AllocError, Global};
 use tally_contest::{Contest, HareContest, Poll};
-use tally_rules::Profile;
+use tally_setup::Profile;
 
 /// The whole quotas and remainders of the eligible lists, in order of place, for a profile by
 /// Hare's rule. It refuses as `allot` does.

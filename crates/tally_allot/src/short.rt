@@ -3,8 +3,8 @@
 ghost use Rattle.std.specs.Prelude.{◌≡◌, ◌≢◌, ℕ, ◌+◌, ◌≤◌, ◌<◌, IfOk, IfErr, OnOk};
 ghost use Rattle.std.specs.Prelude.{length, slice_index};
 ghost use Rattle.tally_frac.specs.Limits.{greatest_divisor, most_seats, most_votes};
-ghost use Rattle.tally_rules.specs.declared.profile.LotRule.{LotRule as rule_of_lots};
-ghost use Rattle.tally_rules.specs.declared.profile.Method.TheVariants.{Hare as by_hare};
+ghost use Rattle.tally_setup.specs.declared.profile.LotRule.{LotRule as rule_of_lots};
+ghost use Rattle.tally_setup.specs.declared.profile.Method.TheVariants.{Hare as by_hare};
 ghost use Rattle.tally_contest.specs.internal.KeptPoll.{kept_poll};
 ghost use Rattle.tally_law.specs.Allotment.{divisors as by_divisors};
 ghost use Rattle.tally_law.specs.LotNeed.{IsLotTaken};
@@ -22,7 +22,7 @@ use crate::fault::AllotFault;
 use std::alloc::{AllocError, Global};
 use tally_contest::Poll;
 use tally_frac::{Divisors, votes_rank_above};
-use tally_rules::{LotRule, Profile};
+use tally_setup::{LotRule, Profile};
 
 /// How many more votes each list needs for one more seat than it has now, in order of place, for a
 /// profile by a divisor rule: with so many, whatever lot is drawn, it has more, and with one fewer

@@ -22,7 +22,7 @@ use tally_contest::{
     has_eligible, may_be_taken,
 };
 use tally_frac::Divisors;
-use tally_rules::LotRule;
+use tally_setup::LotRule;
 
 /// Gives all the seats under the lot that is to be taken. It refuses in the order of `AllotFault`.
 pub(crate) fn award_under_lot<D: Divisors + Copy>(

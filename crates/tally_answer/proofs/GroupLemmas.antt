@@ -1,7 +1,7 @@
 -- The codes of a group, list by list.
 use Rattle.std.proofs.Common.{◌≡◌, ℕ, zero, suc, ◌+◌, ◌<◌, Bool, true, false, ◌||◌, List, [], ◌∷◌, ◌++◌, length, take, get_or, slice_index_or, refl, ap, sym, append_assoc, append-nil, ◌∙◌, arith}
 use Rattle.std.specs.List.{flat_map}
-use Rattle.tally_rules.specs.Constituency.{ListEntry}
+use Rattle.tally_setup.specs.Constituency.{ListEntry}
 use Rattle.tally_answer.specs.Outcome.{marked_lists, quoted_code, next_code, quoted_codes}
 use Rattle.tally_answer.specs.internal.Group.{is_begun, code_in_group}
 

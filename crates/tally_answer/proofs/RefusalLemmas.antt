@@ -1,6 +1,6 @@
 -- What is said of a refusal that has a number.
 use Rattle.std.proofs.Common.{◌≡◌, ◌≢◌, List, refl}
-use Rattle.tally_rules.specs.Constituency.{ListEntry}
+use Rattle.tally_setup.specs.Constituency.{ListEntry}
 use Rattle.tally_returns.specs.declared.refusal.Refusal.{Refusal}
 use Rattle.tally_returns.specs.declared.refusal.Refusal.TheVariants as refusal
 use Rattle.tally_answer.specs.Outcome.{refusal_body, refusal_members}

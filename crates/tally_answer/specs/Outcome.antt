@@ -3,7 +3,7 @@
 use Rattle.std.specs.Prelude.{ℕ, Bool, true, false, List, [], ◌∷◌, ◌++◌, codes, decimal, Some, None}
 use Rattle.std.specs.Prelude.{Result, Ok, Err}
 use Rattle.std.specs.List.{flat_map}
-use Rattle.tally_rules.specs.Constituency.{ListEntry}
+use Rattle.tally_setup.specs.Constituency.{ListEntry}
 use Rattle.tally_returns.specs.Refusals.{refusal_number, refusal_word}
 use Rattle.tally_returns.specs.Return.{status_word}
 use Rattle.tally_returns.specs.declared.reply.Reply.{Reply}

@@ -5,9 +5,9 @@ use Rattle.std.specs.List.{slice_get}
 use Rattle.serde_json.specs.Data.{Data, boolean, number, unsigned, string, array, object, Members}
 use Rattle.serde_json.specs.Data.{member, no_members}
 use Rattle.serde_json.specs.View.{items_of}
-use Rattle.tally_rules.specs.Constituency.{Constituency, ListEntry}
-use Rattle.tally_rules.specs.declared.constituency.Entry.{Entry}
-use Rattle.tally_rules.specs.declared.constituency.Entry.TheVariants.{Single, Double}
+use Rattle.tally_setup.specs.Constituency.{Constituency, ListEntry}
+use Rattle.tally_setup.specs.declared.constituency.Entry.{Entry}
+use Rattle.tally_setup.specs.declared.constituency.Entry.TheVariants.{Single, Double}
 use Rattle.tally_returns.specs.GoneCandidate.{GoneCandidate}
 use Rattle.tally_returns.specs.Return.{StationReturn, status_word}
 use Rattle.tally_returns.specs.View.{View}

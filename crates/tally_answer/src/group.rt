@@ -7,7 +7,7 @@ ghost use Rattle.tally_answer.specs.internal.Group.{code_in_group};
 
 use crate::push::push;
 use tally_returns::ListSet;
-use tally_rules::ListEntry;
+use tally_setup::ListEntry;
 
 /// Appends the code of a list in quotes.
 fn push_code(out: &mut Vec<u8>, list: &ListEntry)

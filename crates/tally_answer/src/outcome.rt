@@ -3,7 +3,7 @@
 ghost use Rattle.std.specs.Prelude.{◌≡◌, ◌≤◌, ◌+◌, ◌++◌, List, [], codes, length, vec_len};
 ghost use Rattle.std.specs.Prelude.{vec_capacity};
 ghost use Rattle.tally_frac.specs.Limits.{most_lists};
-ghost use Rattle.tally_rules.specs.Constituency.{ListEntry};
+ghost use Rattle.tally_setup.specs.Constituency.{ListEntry};
 ghost use Rattle.tally_answer.specs.Outcome.{reply_body, group_text};
 ghost use Rattle.tally_answer.specs.Outcome.{refusal_status, members_before, members_after};
 ghost use Rattle.tally_answer.specs.Outcome.{word_member, refusal_members, refusal_body};
@@ -14,7 +14,7 @@ use crate::group::push_group;
 use crate::push::{push, push_around};
 use crate::status::{AnswerStatus, BodyType};
 use tally_returns::{ListSet, Refusal, Reply};
-use tally_rules::ListEntry;
+use tally_setup::ListEntry;
 
 /// The room that an answer to a command needs.
 pub const ANSWER_ROOM: usize = 2_048;

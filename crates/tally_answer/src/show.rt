@@ -8,12 +8,12 @@ ghost use Rattle.tally_answer.specs.Shown.{all_gone, code_at_place, codes_at_pla
 ghost use Rattle.tally_answer.specs.Shown.{members_after_gone, members_from_spoiled, shown_con};
 ghost use Rattle.tally_answer.specs.Shown.{shown_gone, shown_return, whole_value, whole_values};
 ghost use Rattle.tally_answer.specs.Shown.{con_members, with_entry};
-ghost use Rattle.tally_rules.specs.declared.constituency.Entry.TheVariants.{Single};
+ghost use Rattle.tally_setup.specs.declared.constituency.Entry.TheVariants.{Single};
 
 use serde_json::{Map, Value, json};
 use std::alloc::{AllocError, Global};
 use tally_returns::{ConView, Gone, Return};
-use tally_rules::{Constituency, Entry, ListEntry};
+use tally_setup::{Constituency, Entry, ListEntry};
 
 fn whole_values(alloc: Global, numbers: &[u32]) -> Result<Value, AllocError>
     ensures { IfOk result (λ value. view value ≡ whole_values numbers.now) }

@@ -5,7 +5,7 @@ use Rattle.std.specs.Option.{option_and_then}
 use Rattle.serde_json.specs.Data.{Data, Items, no_items, item}
 use Rattle.serde_json.specs.Read.{read}
 use Rattle.serde_json.specs.Find.{get, as_array, as_number, as_str, as_u64}
-use Rattle.tally_rules.specs.Code.{code_of}
+use Rattle.tally_setup.specs.Code.{code_of}
 use Rattle.tally_returns.specs.AskSeen.{AskSeen, lodge, query, correct, close, confirm, draw}
 use Rattle.tally_returns.specs.AskSeen.{certify, reopen, vacate}
 use Rattle.tally_returns.specs.Counts.{VoteCounts}

@@ -10,7 +10,7 @@ use Rattle.matchit.specs.Seek.{first}
 use Rattle.matchit.specs.Route.{Scan, parse_route}
 use Rattle.matchit.specs.Router.{RouteOf, route_from}
 use Rattle.matchit.specs.declared.error.InsertError.{InsertError}
-use Rattle.tally_rules.specs.Code.{code_of}
+use Rattle.tally_setup.specs.Code.{code_of}
 use Rattle.tally_records.specs.declared.separator.Sep.TheVariants as separator
 use Rattle.tally_report.specs.declared.report.Report.TheVariants as report
 use Rattle.tally_asks.specs.declared.routes.ConCommand.TheVariants as on_con

@@ -12,7 +12,7 @@ use crate::routes::{ConCommand, StationCommand};
 use serde_json::Value;
 use std::alloc::{AllocError, Global};
 use tally_returns::Ask;
-use tally_rules::Code;
+use tally_setup::Code;
 
 fn note_in(alloc: Global, value: &Value) -> Result<Option<String>, AllocError>
     ensures { IfOk result

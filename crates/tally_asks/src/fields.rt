@@ -10,7 +10,7 @@ ghost use Rattle.tally_asks.specs.Bodies.{counts_of_body};
 use serde_json::Value;
 use std::alloc::{AllocError, Global};
 use tally_returns::Counts;
-use tally_rules::Code;
+use tally_setup::Code;
 
 /// The value that a body is, if it is one.
 pub(crate) fn value_of(alloc: Global, body: &[u8]) -> Result<Option<Value>, AllocError>

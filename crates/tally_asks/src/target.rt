@@ -4,7 +4,7 @@ ghost use Rattle.std.specs.Prelude.{◌≡◌, ◌≤◌, ◌==◌, IfSome, leng
 ghost use Rattle.tally_asks.specs.Routes.{before_slash, code_after, station_of_target};
 ghost use Rattle.tally_asks.specs.Routes.{con_of_target};
 
-use tally_rules::Code;
+use tally_setup::Code;
 
 fn slash_in(text: &[u8]) -> Option<usize>
     ensures value { result ≡ position (λ b. b == 47) text.now }

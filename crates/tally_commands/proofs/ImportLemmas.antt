@@ -1,7 +1,7 @@
 -- Imports that were not begun, and what comes of a text of which nothing was read.
 use Rattle.std.proofs.Common.{◌≡◌, ◌≤◌, ◌+◌, ℕ, Bool, true, false, List, [], length, Option, Some, None, Result, Ok, Err, IfErr, IfOk, OnOk, option_map, refl, sym, ap, ◌∙◌, arith, inl, inr}
 use Rattle.std.specs.Prelude.{IsOk}
-use Rattle.tally_rules.specs.Constituency.{Constituency}
+use Rattle.tally_setup.specs.Constituency.{Constituency}
 use Rattle.tally_returns.specs.State.{State, stations_of}
 use Rattle.tally_keeper.specs.Import.{answers}
 use Rattle.tally_keeper.specs.Keeper.{Happens, Imports, IsImportFault, IsOwnFault, failed_import}

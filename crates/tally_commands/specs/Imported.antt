@@ -1,8 +1,8 @@
 -- Imports of returns, and what they come to.
 use Rattle.std.specs.Prelude.{◌≡◌, ◌++◌, ℕ, Bool, true, false, List, [], Option, Some, None}
 use Rattle.std.specs.Prelude.{Ok, Err, option_map}
-use Rattle.tally_rules.specs.Constituency.{Constituency, list_codes}
-use Rattle.tally_rules.specs.Setup.{constituency_with}
+use Rattle.tally_setup.specs.Constituency.{Constituency, list_codes}
+use Rattle.tally_setup.specs.Setup.{constituency_with}
 use Rattle.tally_records.specs.declared.separator.Sep.{Sep}
 use Rattle.tally_returns.specs.State.{State}
 use Rattle.tally_keeper.specs.Keeper.{Imports}

@@ -1,7 +1,7 @@
 -- What a text is judged before an office is made of it, and what is reported of one that was made.
 use Rattle.std.specs.Prelude.{◌≡◌, ℕ, ⊤, List, length, codes}
 use Rattle.tally_import.specs.Check.{named_number}
-use Rattle.tally_rules.specs.Constituency.{Constituency}
+use Rattle.tally_setup.specs.Constituency.{Constituency}
 use Rattle.tally_rules.specs.Fault.{IsPlacedFaultIn}
 use Rattle.tally_rules.specs.Place.{IsPlaceIn}
 use Rattle.tally_rules.specs.Reading.{setup_of_text}

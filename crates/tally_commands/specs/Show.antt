@@ -2,8 +2,8 @@
 -- shut a keeper meanwhile.
 use Rattle.std.specs.Prelude.{◌≡◌, ℕ, List, Option, Some, None, Ok, Err, Vec}
 use Rattle.std.specs.declared.alloc.Global.{Global}
-use Rattle.tally_rules.specs.Constituency.{Constituency}
-use Rattle.tally_rules.specs.Setup.{constituency_with}
+use Rattle.tally_setup.specs.Constituency.{Constituency}
+use Rattle.tally_setup.specs.Setup.{constituency_with}
 use Rattle.tally_returns.specs.State.{State}
 use Rattle.tally_returns.specs.View.{View}
 use Rattle.tally_returns.specs.declared.ask.Ask.{Ask}

@@ -4,8 +4,8 @@
 ghost use Rattle.std.specs.Prelude.{◌≡◌, ◌≤◌, ◌+◌, Err, IfErr, IfOk, IsOk, OnOk, Some, false};
 ghost use Rattle.std.specs.Prelude.{[], is_some, length, string_bytes, string_capacity};
 ghost use Rattle.std.specs.Prelude.{string_len, true};
-ghost use Rattle.tally_rules.specs.Constituency.{list_codes};
-ghost use Rattle.tally_rules.specs.Setup.{constituency_with};
+ghost use Rattle.tally_setup.specs.Constituency.{list_codes};
+ghost use Rattle.tally_setup.specs.Setup.{constituency_with};
 ghost use Rattle.tally_records.specs.Watch.{NotesNothing, has_failed};
 ghost use Rattle.tally_keeper.specs.Delivery.{delivery};
 ghost use Rattle.tally_keeper.specs.Source.{row_limit};
@@ -24,7 +24,7 @@ use std::io::Read;
 use tally_import::room::{COUNT_ROOM, push_count};
 use tally_import::{LINE_ROOM, ReturnRows, Sep, Watch, list_codes, push_lines};
 use tally_keeper::{ImportCount, Keeper, NamedRow, ROW_LIMIT, RowSource};
-use tally_rules::{Code, Constituency, Setup};
+use tally_setup::{Code, Constituency, Setup};
 
 /// Whether the setup has a constituency of this code.
 pub fn has_con(setup: &Setup, code: &str) -> bool

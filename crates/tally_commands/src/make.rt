@@ -10,7 +10,8 @@ ghost use Rattle.tally_commands.specs.internal.Judged.{placed_trouble};
 use crate::trouble::{Trouble, copy_of};
 use std::alloc::{AllocError, Global};
 use tally_import::room::push_number;
-use tally_rules::{Place, Setup, SetupFault, read_setup_placed};
+use tally_rules::{Place, SetupFault, read_setup_placed};
+use tally_setup::Setup;
 
 /// The most bytes that the number of constituencies has as text.
 pub const CONSTITUENCIES_ROOM: usize = 32;

@@ -1,9 +1,9 @@
 //! What a text names.
 
 ghost use Rattle.std.specs.Prelude.{◌≡◌, option_copied, option_map};
-ghost use Rattle.tally_rules.specs.Setup.{constituency_with};
+ghost use Rattle.tally_setup.specs.Setup.{constituency_with};
 
-use tally_rules::{Code, Constituency, Setup};
+use tally_setup::{Code, Constituency, Setup};
 
 /// The constituency whose code a text is.
 pub(crate) fn con_with_code<'a>(setup: &'a Setup, text: &str) -> Option<&'a Constituency>

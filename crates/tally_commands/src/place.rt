@@ -13,7 +13,8 @@ use crate::standard_error::put;
 use itoa::Buffer;
 use std::io::Write;
 use tally_import::CheckFault;
-use tally_rules::{Code, Holder, Place, SetupArray, Way};
+use tally_rules::{Holder, Place, SetupArray, Way};
+use tally_setup::Code;
 
 fn put_number<E: Write>(number: usize, errors: &mut E) -> Result<(), CheckFault>
     ensures { IsPut (E.contents errors.old) (E.contents errors.new) (decimal number) result }

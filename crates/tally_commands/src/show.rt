@@ -7,7 +7,7 @@ ghost use Rattle.tally_overview.specs.CountryText.{country_text};
 ghost use Rattle.tally_report.specs.ProgressText.{progress_text};
 ghost use Rattle.tally_overview.specs.Shown.{stations_report};
 ghost use Rattle.tally_returns.specs.View.{FitsView};
-ghost use Rattle.tally_rules.specs.Setup.{constituency_with};
+ghost use Rattle.tally_setup.specs.Setup.{constituency_with};
 ghost use Rattle.tally_report.specs.Reports.{IsEnoughFor, report_fault};
 ghost use Rattle.tally_commands.specs.Trouble.{IsTroubleOfDatabase, IsTroubleOfProgress};
 ghost use Rattle.tally_commands.specs.Trouble.{IsTroubleOfReport};
@@ -23,7 +23,7 @@ use tally_desk::{all_views, country_report, progress_of, view_for};
 use tally_keeper::{ConView, Keeper, ProgressRow, Refusal, StationRow};
 use tally_overview::{StationsReport, stations_report_text};
 use tally_report::{Report, progress_text, report_text};
-use tally_rules::{Code, Setup};
+use tally_setup::{Code, Setup};
 
 /// A report of the constituency of a code. It is shown, and nothing changes.
 pub fn show_report<K: Keeper>(

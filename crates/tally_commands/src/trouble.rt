@@ -179,7 +179,8 @@ impl Trouble {
 
     /// Its line, where it is not of a setup.
     fn line(&self) -> &'static str
-        requires { (fault : SetupFault) → (place : Option Place) → self.now ≢ Setup fault place }
+        requires { (fault : SetupFault) → (place : Option Place) →
+            self.now ≢ Setup fault place }
         ensures { result.now ≡ trouble_line self.now }
     {
         match self {

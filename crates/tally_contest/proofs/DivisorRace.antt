@@ -6,8 +6,8 @@ use Rattle.tally_frac.specs.Rank.{Pair, RanksAbove, RanksAboveByVotes, TiesByVot
 use Rattle.tally_frac.specs.internal.RankOrder.{tie-divisor}
 use Rattle.tally_frac.proofs.FractionLaws.{scaled-greater, scaled-level}
 use Rattle.tally_frac.proofs.RankLaws.{weak-decided, weak-one_way, weak-not_below, ties_if_neither, strict-decided, strict-one_way, strict-not_below}
-use Rattle.tally_rules.specs.declared.profile.LotRule.{LotRule}
-use Rattle.tally_rules.specs.declared.profile.LotRule.TheVariants.{Fixed}
+use Rattle.tally_setup.specs.declared.profile.LotRule.{LotRule}
+use Rattle.tally_setup.specs.declared.profile.LotRule.TheVariants.{Fixed}
 use Rattle.tally_law.specs.Poll.{Poll, IsEligible, votes_of, SharesOut}
 use Rattle.tally_law.specs.Lot.{ComesFirst}
 use Rattle.tally_contest.specs.internal.Pairs.{place_at, pair_of}

@@ -2,7 +2,7 @@
 use Rattle.std.proofs.Common.{◌≡◌, ℕ, ◌+◌, ◌*◌, ◌/◌, ◌%◌, ◌<◌, ◌≤◌, ◌≢◌, ◌⊎◌, List, [], Bool, true, false, cond, length, get_or, sum, refl, sym, inl, inr, ap, arith}
 use Rattle.std.proofs.lemmas.Bool.{cases_lt, cases_eq}
 use Rattle.tally_law.specs.Poll.{Poll, IsEligible, votes_of, SharesOut, eligible_votes}
-use Rattle.tally_rules.specs.declared.profile.LotRule.TheVariants.{Fixed}
+use Rattle.tally_setup.specs.declared.profile.LotRule.TheVariants.{Fixed}
 use Rattle.tally_law.specs.Lot.{place_of, ComesFirst}
 use Rattle.tally_law.specs.HareAllotment.{Claim, claim_of, ClaimsAbove, ClaimsAboveByVotes, whole_quotas, remainder, IsHareAllotment, IsHareAllotmentByVotes}
 use Rattle.tally_contest.specs.internal.Race.{IsPair, NotBelow, IsFair, IsTie}

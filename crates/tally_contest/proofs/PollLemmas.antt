@@ -2,10 +2,10 @@
 use Rattle.std.proofs.Common.{◌≡◌, ℕ, ◌*◌, ◌<◌, ◌≤◌, ◌⊎◌, List, Bool, false, true, ◌&&◌, length, get_or, ltb, leb, map, refl, sym, ◌∙◌, subst, inl, inr, arith}
 use Rattle.std.proofs.lemmas.Bool.{cases_lt, false≢true, ltb-true}
 use Rattle.std.proofs.lemmas.List.{get_or_past, get_or-map, length-map}
-use Rattle.tally_rules.specs.Threshold.{is_eligible}
+use Rattle.tally_setup.specs.Threshold.{is_eligible}
 use Rattle.tally_law.specs.Poll.{Poll, IsEligible, eligible_votes}
 use Rattle.tally_law.specs.HareAllotment.{whole_quotas}
-use Rattle.tally_rules.specs.declared.profile.LotRule.{LotRule}
+use Rattle.tally_setup.specs.declared.profile.LotRule.{LotRule}
 use Rattle.tally_law.specs.Allotment.{Rule, divisors}
 use Rattle.tally_contest.specs.internal.Terms.{poll_under, IsSound, AreSound, AreDivisors}
 use Rattle.tally_contest.proofs.Scan.{votes-le-eligible, quotas-le-seats}

@@ -1,8 +1,8 @@
 -- Under a proper lot the places for a seat are in the order in which lists come first.
 use Rattle.std.proofs.Common.{◌≡◌, ℕ, ◌+◌, ◌-◌, ◌%◌, ◌<◌, ◌≤◌, ◌≢◌, ◌⊎◌, ◌&&◌, ◌||◌, List, [], ◌∷◌, length, true, false, cond, eqb, refl, sym, ap, ◌∙◌, inl, inr, arith}
 use Rattle.std.proofs.lemmas.Bool.{cases_Bool, false≢true, eqb-true, eq-eqb}
-use Rattle.tally_rules.specs.declared.profile.LotRule.{LotRule}
-use Rattle.tally_rules.specs.declared.profile.LotRule.TheVariants.{Fixed, Alternating}
+use Rattle.tally_setup.specs.declared.profile.LotRule.{LotRule}
+use Rattle.tally_setup.specs.declared.profile.LotRule.TheVariants.{Fixed, Alternating}
 use Rattle.tally_law.specs.Lot.{place_in_lot, place_of, is_named, IsTurned, ComesFirst}
 use Rattle.tally_contest.specs.internal.Pairs.{last_place, place_at}
 use Rattle.tally_law.specs.Poll.{Poll, IsEligible, votes_of}

@@ -10,8 +10,8 @@ ghost use Rattle.tally_contest.specs.internal.Pairs.{place_at, turns};
 use crate::contest::Contest;
 use crate::lot::{places_under, turning_under};
 use crate::poll::Poll;
-use tally_frac::{Divisors, MOST_LISTS, votes_rank_above};
-use tally_rules::{ListSet, LotRule};
+use tally_frac::{Divisors, ListSet, MOST_LISTS, votes_rank_above};
+use tally_setup::LotRule;
 
 /// The lists of a poll that contest its seats under a divisor rule (LOREG article 163.1 b) to d)).
 #[derive(Drop)]

@@ -6,8 +6,8 @@ ghost use Rattle.tally_frac.specs.Limits.{most_lists};
 ghost use Rattle.tally_law.specs.Lot as spec;
 ghost use Rattle.tally_contest.specs.internal.Pairs.{turns};
 
-use tally_frac::MOST_LISTS;
-use tally_rules::{ListSet, LotRule};
+use tally_frac::{ListSet, MOST_LISTS};
+use tally_setup::LotRule;
 
 /// The places of the lists, by their numbers from 0: in the lot where the lot names them, and else
 /// in the setup.

@@ -9,7 +9,7 @@ ghost use Rattle.tally_contest.specs.internal.Terms.{AreFairSeats, AreSound, Hav
 
 use crate::contest::{Contest, highest_next, lowest_last};
 use crate::lot::is_order_of;
-use tally_rules::ListSet;
+use tally_frac::ListSet;
 
 /// The lot that is needed where the votes leave a choice (LOREG article 163.1 d)): the lists among
 /// which it decides, and the seats in question.

@@ -2,11 +2,11 @@
 
 ghost use Rattle.std.specs.Prelude.{◌≡◌, ◌<◌, ◌≤◌, length, sum, slice_index, slice_index_or, false};
 ghost use Rattle.tally_frac.specs.Limits.{most_lists, most_votes, whole_base};
-ghost use Rattle.tally_rules.specs.Threshold.{IsWithinVotes};
+ghost use Rattle.tally_setup.specs.Threshold.{IsWithinVotes};
 ghost use Rattle.tally_law.specs.Poll.{eligible_votes};
 ghost use Rattle.tally_law.specs.Rules.{poll_of};
 
-use tally_rules::{Profile, base_of, is_eligible};
+use tally_setup::{Profile, base_of, is_eligible};
 
 /// The votes of each list, and what a list needs to be eligible.
 #[derive(Clone, Copy)]

@@ -17,9 +17,9 @@ use Rattle.tally_steps.specs.Records.{IsOnRecord, IsReopenedIn}
 use Rattle.tally_steps.specs.Runs.{IsRun, is_act, IsSameCommand, kept_elements}
 use Rattle.tally_returns.specs.State.{State, con_state, opening}
 use Rattle.tally_returns.specs.View.{View}
-use Rattle.tally_rules.specs.Constituency.{Constituency}
-use Rattle.tally_rules.specs.Limits.{IsSetup}
-use Rattle.tally_rules.specs.Setup.{constituency_with}
+use Rattle.tally_setup.specs.Constituency.{Constituency}
+use Rattle.tally_setup.specs.Limits.{IsSetup}
+use Rattle.tally_setup.specs.Setup.{constituency_with}
 use Rattle.tally_returns.specs.declared.ask.Ask.{Ask}
 use Rattle.tally_returns.specs.declared.refusal.Refusal.{Refusal}
 use Rattle.tally_returns.specs.declared.reply.Reply.{Reply}

@@ -16,7 +16,7 @@ use std::marker::Model;
 use tally_keeper::{
     Ask, ImportCount, ImportFault, Keeper, Ledger, NamedRow, Refusal, Reply, RowSource, StationRow,
 };
-use tally_rules::{Code, Setup};
+use tally_setup::{Code, Setup};
 
 /// Keeps the office's state in memory. Nothing of it outlasts the program.
 #[derive(Drop)]

@@ -7,8 +7,8 @@ use crate::setups::fresh;
 use std::alloc::Global;
 use std::test::*;
 use tally_core::{Ask, Book, Change, ConView, Keeper, Refusal, Reply, decide_con};
-use tally_rules::Constituency;
 use tally_scripts::{TWIN_TOWN, check_answers, code, command, text_of_refusal};
+use tally_setup::Constituency;
 
 fn names(con: &Constituency, ask: &Ask) -> bool
     ensures { IsTrue result → con_named ask.now ≡ Some con.now.code }

@@ -1,7 +1,7 @@
 //! Codes: their order, and how they are written.
 
 use std::test::Fail;
-use tally_rules::Code;
+use tally_setup::Code;
 
 /// Whether one text is a code, another is one, and the first comes before the second.
 fn is_before(first: &str, second: &str) -> bool {

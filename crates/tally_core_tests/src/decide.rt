@@ -8,8 +8,8 @@ ghost use Rattle.tally_returns.specs.Lawful.{IsLawful, IsLawfulWhereNamed};
 use std::alloc::Global;
 use std::test::*;
 use tally_core::{Ask, Change, Refusal, Return, decide_return};
-use tally_rules::{Code, Constituency, Setup, Station};
 use tally_scripts::{TWIN_TOWN, code, command, setup, text_of_refusal};
+use tally_setup::{Code, Constituency, Setup, Station};
 
 /// Whether a command may be decided: its station is one of the constituency, and the return that
 /// is recorded is lawful there.

@@ -6,18 +6,18 @@ ghost use Rattle.std.specs.Prelude.{◌≡◌, if◌then◌else◌, true, Some, 
 use tally_core::{
     Ask, Book, ImportCount, ImportFault, Keeper, NamedRow, Refusal, Reply, RowSource, StationRow,
 };
-use tally_rules::{Code, Setup};
+use tally_setup::{Code, Setup};
 
 /// Keeps its state in memory, and fails as a disk would after some requests and imports.
 #[derive(Drop)]
-pub struct Frail {
-    pub book: Book,
+pub(crate) struct Frail {
+    pub(crate) book: Book,
     /// So many requests and imports more are taken.
-    pub turns: u32,
+    pub(crate) turns: u32,
     /// The disk has failed.
-    pub shut: bool,
+    pub(crate) shut: bool,
     /// No wrong answer of the disk has been taken as true.
-    pub clean: bool,
+    pub(crate) clean: bool,
 }
 
 impl Frail {

@@ -3,8 +3,8 @@
 use std::alloc::Global;
 use std::test::*;
 use tally_core::{Counts, LodgeReply, Refusal, Return, decide_lodge, holders};
-use tally_rules::Code;
 use tally_scripts::{code, counts, number};
+use tally_setup::Code;
 
 /// The return that is recorded: slip p1, revision 3, votes 50 and 40, 2 blank and 1 spoiled.
 fn standing(alloc: Global) -> Result<Return, Fail> {

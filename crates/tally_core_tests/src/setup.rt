@@ -3,9 +3,8 @@
 
 use std::alloc::{AllocError, Global};
 use std::test::Fail;
-use tally_rules::{
-    Code, Place, Setup, SetupArray, SetupFault, Way, good_note, read_setup, read_setup_placed,
-};
+use tally_rules::{Place, SetupArray, SetupFault, Way, read_setup, read_setup_placed};
+use tally_setup::{Code, Setup, good_note};
 
 const EXAMPLE: &[u8] = br#"[[profile]]
 code = "d3"

@@ -1,6 +1,6 @@
 -- The reports of a constituency over HTTP: what is answered where one is asked for.
 use Rattle.std.specs.Prelude.{◌≡◌, ℕ, List, Option, Some, None}
-use Rattle.tally_rules.specs.Constituency.{Constituency}
+use Rattle.tally_setup.specs.Constituency.{Constituency}
 use Rattle.tally_returns.specs.View.{View}
 use Rattle.tally_report.specs.Reports.{IsReport, report_fault}
 use Rattle.tally_report.specs.declared.fault.ReportFault.{ReportFault}

@@ -6,8 +6,8 @@ use Rattle.std.specs.Prelude.{Vec, Result, Ok, Err, OnOk, ◌++◌}
 use Rattle.std.specs.declared.alloc.Global.{Global}
 use Rattle.serde_json.specs.Data.{Data}
 use Rattle.serde_json.specs.Written.{compact_text}
-use Rattle.tally_rules.specs.Constituency.{Constituency, ListEntry, list_codes}
-use Rattle.tally_rules.specs.Setup.{constituency_with, station_with}
+use Rattle.tally_setup.specs.Constituency.{Constituency, ListEntry, list_codes}
+use Rattle.tally_setup.specs.Setup.{constituency_with, station_with}
 use Rattle.tally_returns.specs.AskSeen.{AskSeen, ask_seen}
 use Rattle.tally_returns.specs.State.{State}
 use Rattle.tally_returns.specs.View.{View}

@@ -1,7 +1,7 @@
 //! Commands and imports.
 
 ghost use Rattle.std.specs.Prelude.{◌≡◌, IfSome, Some, Result};
-ghost use Rattle.tally_rules.specs.Setup.{constituency_with};
+ghost use Rattle.tally_setup.specs.Setup.{constituency_with};
 ghost use Rattle.tally_returns.specs.declared.refusal.Refusal.TheVariants.{NoConstituency};
 ghost use Rattle.tally_returns.specs.declared.refusal.Refusal.TheVariants.{NoStation};
 ghost use Rattle.tally_returns.specs.declared.refusal.Refusal.{Refusal};
@@ -19,7 +19,7 @@ use tally_asks::{ConCommand, StationCommand, ask_on_con, ask_on_station};
 use tally_import::{ReturnRows, Sep};
 use tally_keeper::{Ask, ImportCount, ImportFault, Keeper, Refusal};
 use tally_message::Message;
-use tally_rules::{Code, Constituency, Setup};
+use tally_setup::{Code, Constituency, Setup};
 
 /// Carries out the command that a body was read as. Its answer takes no memory.
 fn order<K: Keeper>(room: Room, keeper: &mut K, subject: Subject, ask: Option<Ask>) -> Vec<u8>

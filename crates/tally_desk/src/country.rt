@@ -2,8 +2,8 @@
 
 ghost use Rattle.std.specs.Prelude.{◌≡◌, IfErr, IfOk, IfSome, string_bytes};
 ghost use Rattle.std.specs.List.{AllZip};
-ghost use Rattle.tally_rules.specs.Limits.{IsSetup};
-ghost use Rattle.tally_rules.specs.Setup.{constituency_codes};
+ghost use Rattle.tally_setup.specs.Limits.{IsSetup};
+ghost use Rattle.tally_setup.specs.Setup.{constituency_codes};
 ghost use Rattle.tally_returns.specs.View.{FitsView};
 ghost use Rattle.tally_returns.specs.declared.refusal.Refusal.TheVariants as refusal;
 ghost use Rattle.tally_keeper.specs.StaysKeeper.{StaysKeeper};
@@ -21,7 +21,7 @@ use std::alloc::{AllocError, Global};
 use tally_keeper::{ConView, Keeper, Refusal};
 use tally_overview::country_text;
 use tally_report::ReportFault;
-use tally_rules::{Code, Setup};
+use tally_setup::{Code, Setup};
 
 /// The codes of the constituencies, in order.
 fn codes_of(alloc: Global, setup: &Setup) -> Result<Vec<Code>, AllocError>

@@ -2,12 +2,12 @@
 
 ghost use Rattle.std.specs.Prelude.{◌≡◌, ◌≤◌, length, option_map, []};
 ghost use Rattle.tally_frac.specs.Limits.{most_lists};
-ghost use Rattle.tally_rules.specs.Constituency as value;
+ghost use Rattle.tally_setup.specs.Constituency as value;
 ghost use Rattle.tally_desk.specs.Requests.{con_in_target, station_in_target};
 ghost use Rattle.tally_desk.specs.internal.Named.{lists_of};
 
 use tally_asks::{con_of_target, station_of_target};
-use tally_rules::{Code, ListEntry, Setup};
+use tally_setup::{Code, ListEntry, Setup};
 
 /// What a command is on, by its code.
 #[derive(Clone, Copy)]

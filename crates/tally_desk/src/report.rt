@@ -10,7 +10,7 @@ use std::alloc::Global;
 use tally_answer::Word;
 use tally_keeper::ConView;
 use tally_report::{Report, ReportFault, report_text};
-use tally_rules::Constituency;
+use tally_setup::Constituency;
 
 /// The answer that a report has, written into the room where it is a word.
 pub(crate) fn report_answer(

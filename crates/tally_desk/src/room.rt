@@ -16,7 +16,7 @@ use tally_answer::{
     write_word,
 };
 use tally_keeper::{ImportCount, Refusal, Reply};
-use tally_rules::ListEntry;
+use tally_setup::ListEntry;
 
 /// Room for an answer, which is reserved before the office is asked: what is written into it takes
 /// no memory.

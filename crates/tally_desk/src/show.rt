@@ -2,8 +2,8 @@
 
 ghost use Rattle.std.specs.Prelude.{◌≡◌, IfSome, Some};
 ghost use Rattle.tally_returns.specs.View.{FitsView};
-ghost use Rattle.tally_rules.specs.Constituency as value;
-ghost use Rattle.tally_rules.specs.Setup.{constituency_with};
+ghost use Rattle.tally_setup.specs.Constituency as value;
+ghost use Rattle.tally_setup.specs.Setup.{constituency_with};
 ghost use Rattle.tally_desk.specs.Reports.{IsReportText};
 ghost use Rattle.serde_json.specs.Written.{compact_text};
 ghost use Rattle.tally_answer.specs.Answer.{answer_text};
@@ -26,7 +26,7 @@ use tally_answer::{con_text, return_text};
 use tally_keeper::{ConView, Keeper, ProgressRow, Refusal, Return};
 use tally_message::Message;
 use tally_report::{Report, progress_text};
-use tally_rules::{Code, Constituency, Setup};
+use tally_setup::{Code, Constituency, Setup};
 
 fn return_answer(alloc: Global, station: Code, kept: &Return) -> Option<Vec<u8>>
     ensures { IfSome result (λ text. text.items

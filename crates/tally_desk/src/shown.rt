@@ -6,8 +6,8 @@ ghost use Rattle.tally_keeper.specs.StaysKeeper.{StaysKeeper};
 ghost use Rattle.tally_returns.specs.View.{FitsView};
 ghost use Rattle.tally_returns.specs.declared.refusal.Refusal.TheVariants as refusal;
 ghost use Rattle.tally_returns.specs.declared.ask.Ask.TheVariants.{ShowProgress, ShowReturn};
-ghost use Rattle.tally_rules.specs.Constituency as value;
-ghost use Rattle.tally_rules.specs.Setup.{constituency_with};
+ghost use Rattle.tally_setup.specs.Constituency as value;
+ghost use Rattle.tally_setup.specs.Setup.{constituency_with};
 ghost use Rattle.tally_desk.specs.Shown.{ShowsFor, as_progress, is_past};
 ghost use Rattle.tally_report.specs.Reports.{IsEnoughFor};
 ghost use Rattle.tally_desk.specs.internal.Gives.{as_return};
@@ -15,7 +15,7 @@ ghost use Rattle.tally_desk.specs.internal.Gives.{as_return};
 use tally_keeper::{Ask, ConView, Keeper, ProgressRow, Refusal, Reply, Return};
 use tally_machine::laws::a_constituency_has_a_view;
 use tally_report::Report;
-use tally_rules::Code;
+use tally_setup::Code;
 
 /// The return of a station. It is shown, and nothing changes.
 pub(crate) fn return_of<K: Keeper>(keeper: &mut K, station: Code) -> Result<Return, Refusal>

@@ -1,8 +1,8 @@
 //! Answers on the stations of a constituency and their returns.
 
 ghost use Rattle.std.specs.Prelude.{◌≡◌, IfSome, Some};
-ghost use Rattle.tally_rules.specs.Constituency as value;
-ghost use Rattle.tally_rules.specs.Setup.{constituency_with};
+ghost use Rattle.tally_setup.specs.Constituency as value;
+ghost use Rattle.tally_setup.specs.Setup.{constituency_with};
 ghost use Rattle.tally_keeper.specs.StaysKeeper.{StaysKeeper};
 ghost use Rattle.tally_desk.specs.internal.Form.{rows_answer};
 ghost use Rattle.tally_desk.specs.internal.Gives.{GivesBy};
@@ -14,7 +14,7 @@ use std::alloc::Global;
 use tally_keeper::{Keeper, Refusal, StationRow};
 use tally_message::Message;
 use tally_overview::{returns_text, stations_text};
-use tally_rules::{Code, Constituency, Setup};
+use tally_setup::{Code, Constituency, Setup};
 
 /// How the stations of a constituency are shown.
 #[derive(Clone, Copy)]

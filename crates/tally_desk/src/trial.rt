@@ -14,7 +14,7 @@ use tally_import::room::{COUNT_ROOM, push_count};
 use tally_import::{ReturnRows, Sep, list_codes, push_lines};
 use tally_keeper::{ImportCount, Keeper, NamedRow, Refusal};
 use tally_message::Message;
-use tally_rules::{Code, Constituency};
+use tally_setup::{Code, Constituency};
 
 /// The six lines of an import, and a line for each row that it names.
 fn trial_lines(
@@ -23,7 +23,8 @@ fn trial_lines(
     count: &ImportCount,
     named: &[NamedRow],
 ) -> Result<String, AllocError>
-    ensures { IfOk result (λ text. string_bytes text ≡ trial_lines lists.now count.now named.now) }
+    ensures { IfOk result (λ text.
+        string_bytes text ≡ trial_lines lists.now count.now named.now) }
 {
     let mut text = String::with_capacity(alloc, COUNT_ROOM)?;
     push_count(&mut text, count);
@@ -38,7 +39,8 @@ fn trial_answer(
     count: &ImportCount,
     named: &[NamedRow],
 ) -> Option<Vec<u8>>
-    ensures { IfSome result (λ text. text.items ≡ trial_text lists.now (Ok count.now) named.now) }
+    ensures { IfSome result (λ text.
+        text.items ≡ trial_text lists.now (Ok count.now) named.now) }
 {
     match trial_lines(alloc, lists, count, named) {
         Ok(text) => text_answer(alloc, text.as_bytes()),

@@ -5,8 +5,8 @@ use Rattle.std.specs.Option.{ForSome}
 use Rattle.std.proofs.lemmas.List.Elements.{All-append, All-cons, All-nil}
 use Rattle.serde_json.specs.Data.{Data}
 use Rattle.serde_json.specs.Find.{as_str, get}
-use Rattle.tally_rules.specs.Code.{code_of, is_code}
-use Rattle.tally_rules.specs.Constituency.{Constituency}
+use Rattle.tally_setup.specs.Code.{code_of, is_code}
+use Rattle.tally_setup.specs.Constituency.{Constituency}
 use Rattle.tally_returns.specs.AskSeen.{AskSeen, ask_seen}
 use Rattle.tally_returns.specs.AskSeen as of_seen
 use Rattle.tally_returns.specs.Named.{slip_named}

@@ -17,11 +17,11 @@ use Rattle.csv.specs.Reading.{default_config, records_from, records_next, strip_
 use Rattle.csv.specs.Writing.{default_writer, escaped, field_text, fields_text, is_blank, needs_quotes, row_text}
 use Rattle.csv.specs.declared.parser.State.TheVariants as st
 use Rattle.csv.proofs.RoundTrip.{read-write}
-use Rattle.tally_rules.specs.Code.{code_cmp, is_code}
-use Rattle.tally_rules.specs.Constituency.{Constituency, ListEntry, list_codes}
-use Rattle.tally_rules.specs.Limits.{IsConstituency, IsListEntry, IsStation}
-use Rattle.tally_rules.specs.declared.constituency.Station.{Station}
-use Rattle.tally_rules.proofs.CodeLemmas.{length-code}
+use Rattle.tally_setup.specs.Code.{code_cmp, is_code}
+use Rattle.tally_setup.specs.Constituency.{Constituency, ListEntry, list_codes}
+use Rattle.tally_setup.specs.Limits.{IsConstituency, IsListEntry, IsStation}
+use Rattle.tally_setup.specs.declared.constituency.Station.{Station}
+use Rattle.tally_setup.proofs.CodeLemmas.{length-code}
 use Rattle.tally_returns.specs.Counts.{VoteCounts, all_votes, are_counts, is_number}
 use Rattle.tally_returns.specs.Decide.{limits_of}
 use Rattle.tally_returns.specs.Lawful.{IsLawful}

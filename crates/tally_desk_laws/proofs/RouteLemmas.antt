@@ -1,7 +1,7 @@
 -- What an answer has done: on each route it has shown or tried something, or it has carried out an
 -- order or an import.
 use Rattle.std.proofs.Common.{◌≡◌, ◌⊎◌, ℕ, List, false, Option, Some, None, Vec, Global, Result, Ok, Err, refl, sym, ap, subst, inl, inr}
-use Rattle.tally_rules.specs.Constituency.{Constituency}
+use Rattle.tally_setup.specs.Constituency.{Constituency}
 use Rattle.tally_returns.specs.Named.{BringsCode}
 use Rattle.tally_returns.specs.State.{State}
 use Rattle.tally_returns.specs.View.{View}

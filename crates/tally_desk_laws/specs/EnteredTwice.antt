@@ -3,9 +3,9 @@
 use Rattle.std.specs.Prelude.{◌≡◌, ◌⊎◌, ℕ, true, List, [], ◌∷◌, ◌++◌, take, codes, Option, Some}
 use Rattle.std.specs.Prelude.{None, Ok, IfSome, slice_get}
 use Rattle.matchit.specs.Router.{RouteOf}
-use Rattle.tally_rules.specs.Constituency.{Constituency}
-use Rattle.tally_rules.specs.Limits.{IsSetup}
-use Rattle.tally_rules.specs.Setup.{constituency_with}
+use Rattle.tally_setup.specs.Constituency.{Constituency}
+use Rattle.tally_setup.specs.Limits.{IsSetup}
+use Rattle.tally_setup.specs.Setup.{constituency_with}
 use Rattle.tally_returns.specs.AskSeen.{AskSeen, ask_seen, lodge, correct, confirm}
 use Rattle.tally_returns.specs.Named.{station_named}
 use Rattle.tally_returns.specs.Return.{StationReturn}

@@ -8,7 +8,7 @@
 use Rattle.std.specs.Prelude.{◌≡◌, ◌≢◌, ◌⊎◌, ℕ, Bool, All, List, ◌++◌, take, Option, Some, Result}
 use Rattle.std.specs.Prelude.{Ok, IfSome, option_to_list}
 use Rattle.matchit.specs.Router.{RouteOf}
-use Rattle.tally_rules.specs.Limits.{IsSetup}
+use Rattle.tally_setup.specs.Limits.{IsSetup}
 use Rattle.tally_returns.specs.declared.refusal.Refusal.TheVariants.{NoConstituency}
 use Rattle.tally_keeper.specs.Events.{BringsCodes}
 use Rattle.tally_keeper.specs.Keeper.{Event, HappensInTurn}

@@ -5,9 +5,9 @@ use Rattle.std.specs.Prelude.{◌≡◌, ℕ, Bool, List, [], ◌∷◌, Some, N
 use Rattle.std.specs.Prelude.{option_map}
 use Rattle.std.specs.List.{flat_map}
 use Rattle.std.specs.Option.{option_map_or}
-use Rattle.tally_rules.specs.Constituency.{Constituency}
-use Rattle.tally_rules.specs.Limits.{IsSetup}
-use Rattle.tally_rules.specs.Setup.{constituency_with}
+use Rattle.tally_setup.specs.Constituency.{Constituency}
+use Rattle.tally_setup.specs.Limits.{IsSetup}
+use Rattle.tally_setup.specs.Setup.{constituency_with}
 use Rattle.tally_returns.specs.Return.{StationReturn, first_return}
 use Rattle.tally_returns.specs.State.{State, opening}
 use Rattle.tally_returns.specs.StationRows.{station_rows}

@@ -199,21 +199,21 @@ fn a_bad_line_before_a_failed_read_is_not_answered(rt: HostRuntime) -> Result<()
     check_bad_head::<Stored>(rt.alloc())
 }
 
-/// The worked message of docs/FORMATS.md.
-pub(crate) const LODGE: &str = "POST /station/s1/lodge HTTP/1.1\r
+// The worked message of docs/FORMATS.md.
+const LODGE: &str = "POST /station/s1/lodge HTTP/1.1\r
 Content-Length: 51\r
 \r
 {\"slip\":\"p1\",\"votes\":[50,40],\"blank\":2,\"spoiled\":1}";
 
-/// What it is answered first, and when it comes again.
-pub(crate) const LODGED: &str = "HTTP/1.1 200 OK\r
+// What it is answered first, and when it comes again.
+const LODGED: &str = "HTTP/1.1 200 OK\r
 Content-Type: application/json\r
 Content-Length: 23\r
 Connection: close\r
 \r
 {\"ok\":\"lodged\",\"rev\":1}";
 
-pub(crate) const SAME: &str = "HTTP/1.1 200 OK\r
+const SAME: &str = "HTTP/1.1 200 OK\r
 Content-Type: application/json\r
 Content-Length: 21\r
 Connection: close\r

@@ -8,7 +8,7 @@ use std::io::ErrorKind;
 use std::test::Fail;
 use tally_core::{ImportCount, ImportFault, Keeper};
 use tally_import::Sep;
-use tally_scripts::{Pieces, first_wrong_of_run, import_from};
+use tally_scripts::{Pieces, import_from};
 use tally_store::{CreateFault, OpenFault, Store};
 
 /// Rows of a text, how many bytes a read gives, how a read fails at its end, and what their import
@@ -31,8 +31,6 @@ pub enum Deed<'a> {
     Open,
     /// It answers these lines, a step each.
     Answer(&'a str),
-    /// It answers these lines in one run, and the first that is wrong is shown.
-    Run(&'a str),
     /// It lodges these rows.
     Import(Rows<'a>),
     /// It answers these lines up to one that its store refuses, and shows then what it shows. What
@@ -159,19 +157,6 @@ fn import<S: Alter + Drop>(
     Ok(stopped(alloc, office.close(), 0))
 }
 
-fn run_in<S: Alter + Drop>(
-    alloc: Global,
-    mut office: Store<S>,
-    lines: &str,
-) -> Result<Work<S>, Fail> {
-    let shown = first_wrong_of_run(alloc, &mut office, lines)?;
-    Ok(Work {
-        left: Left::Conn(office.close()),
-        steps: 1,
-        shown,
-    })
-}
-
 fn refuse<S: Alter + Drop>(
     alloc: Global,
     mut office: Store<S>,
@@ -208,7 +193,6 @@ fn in_office<S: Alter + Drop>(
 ) -> Result<Work<S>, Fail> {
     match deed {
         Deed::Answer(lines) => answer(alloc, office, lines),
-        Deed::Run(lines) => run_in(alloc, office, lines),
         Deed::Import(rows) => import(alloc, office, rows),
         Deed::Refuse(lines) => refuse(alloc, office, lines),
         Deed::Repeat(lines) => repeat(alloc, office, lines),

@@ -16,7 +16,7 @@ use Rattle.sqlite.proofs.Callers.{one_permutation}
 use Rattle.tally_schema.specs.Rows.{text_cmp, cells, has_key, others, AreRowsOf}
 use Rattle.tally_schema.proofs.EntryLemmas.{other_entries, inserted}
 use Rattle.tally_schema.proofs.RowsLemmas.{AreKeyedBy, text_total, text_exact, text_same, filter-rows, same_again, put_rows, rows_of_key, partitioned_rows}
-use Rattle.tally_rules.specs.Code.{code_cmp}
+use Rattle.tally_setup.specs.Code.{code_cmp}
 use Rattle.tally_returns.specs.Counts.{VoteCounts}
 use Rattle.tally_returns.specs.State.{ConState}
 use Rattle.tally_schema.specs.Cells.{flag}

@@ -17,7 +17,7 @@ use Rattle.sqlite.specs.State.{State}
 use Rattle.tally_schema.specs.Rows.{has_key, others, AreRowsOf}
 use Rattle.tally_schema.proofs.RisingRowidLemmas.{int_less}
 use Rattle.tally_schema.proofs.RowsLemmas.{partitioned_rows, put_rows}
-use Rattle.tally_rules.specs.Constituency.{Constituency}
+use Rattle.tally_setup.specs.Constituency.{Constituency}
 use Rattle.tally_returns.specs.Counts.{VoteCounts}
 use Rattle.tally_returns.specs.Return.{StationReturn, Returns as StationReturns}
 use Rattle.tally_statements.specs.declared.table.KeyedTable.{KeyedTable}

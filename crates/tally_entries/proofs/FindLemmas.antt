@@ -18,8 +18,8 @@ use Rattle.sqlite.specs.State.{State, IsUnchanged}
 use Rattle.tally_schema.specs.Rows.{cells, has_key, HaveDistinctRowids}
 use Rattle.tally_schema.proofs.RisingRowidLemmas.{int_less}
 use Rattle.tally_schema.proofs.RowsLemmas.{rows_of_key}
-use Rattle.tally_rules.specs.Code.{is_code}
-use Rattle.tally_rules.specs.Constituency.{Constituency}
+use Rattle.tally_setup.specs.Code.{is_code}
+use Rattle.tally_setup.specs.Constituency.{Constituency}
 use Rattle.tally_returns.specs.Counts.{VoteCounts}
 use Rattle.tally_returns.specs.Return.{StationReturn, Returns as StationReturns}
 use Rattle.tally_statements.specs.declared.table.KeyedTable.{KeyedTable}

@@ -7,7 +7,7 @@ use Rattle.sqlite_value.specs.Order.{Row}
 use Rattle.sqlite.specs.State.{State}
 use Rattle.tally_schema.specs.Rows.{others, AreRowsOf}
 use Rattle.tally_schema.proofs.RowsLemmas.{AreKeyedBy, put_rows}
-use Rattle.tally_rules.specs.Code.{code_cmp}
+use Rattle.tally_setup.specs.Code.{code_cmp}
 use Rattle.tally_returns.specs.State.{ConState}
 use Rattle.tally_statements.specs.declared.table.KeyedTable.{KeyedTable}
 use Rattle.tally_statements.specs.declared.table.KeyedTable.TheVariants.{Lots}

@@ -10,7 +10,7 @@ use Rattle.sqlite.specs.State.{State}
 use Rattle.sqlite.proofs.Callers.{one_permutation}
 use Rattle.tally_schema.specs.Rows.{cells, has_key, others, AreRowsOf}
 use Rattle.tally_schema.proofs.RowsLemmas.{AreKeyedBy, add_rows, put_rows, same_rows, rows_of_key}
-use Rattle.tally_rules.specs.Constituency.{Constituency}
+use Rattle.tally_setup.specs.Constituency.{Constituency}
 use Rattle.tally_returns.specs.Return.{StationReturn, Returns as StationReturns}
 use Rattle.tally_statements.specs.declared.table.KeyedTable.TheVariants.{Returns, Counts}
 use Rattle.tally_statements.specs.Office.{tree_of, rows_in, HasRows}

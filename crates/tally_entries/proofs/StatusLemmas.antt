@@ -12,8 +12,8 @@ use Rattle.sqlite.specs.declared.error.Error.{Error}
 use Rattle.sqlite.specs.State.{State, IsUnchanged}
 use Rattle.tally_schema.specs.Values.{number_of}
 use Rattle.tally_schema.specs.Rows.{AreRowsOf}
-use Rattle.tally_rules.specs.Constituency.{Constituency}
-use Rattle.tally_rules.specs.declared.constituency.Station.{Station}
+use Rattle.tally_setup.specs.Constituency.{Constituency}
+use Rattle.tally_setup.specs.declared.constituency.Station.{Station}
 use Rattle.tally_returns.specs.Progress.{is_received, is_queried, is_corrected, is_closed, progress_row, count_with_status}
 use Rattle.tally_returns.specs.Return.{StationReturn, Returns as StationReturns}
 use Rattle.tally_returns.specs.State.{ConState, con_state, opening_con}

@@ -14,9 +14,9 @@ use Rattle.sqlite.specs.declared.error.Error.{Error}
 use Rattle.sqlite.specs.State.{State as Seen}
 use Rattle.tally_schema.specs.Values.{number_of}
 use Rattle.tally_schema.specs.Rows.{text_cmp}
-use Rattle.tally_rules.specs.Constituency.{Constituency}
-use Rattle.tally_rules.specs.Limits.{IsConstituency}
-use Rattle.tally_rules.specs.Setup.{constituency_with}
+use Rattle.tally_setup.specs.Constituency.{Constituency}
+use Rattle.tally_setup.specs.Limits.{IsConstituency}
+use Rattle.tally_setup.specs.Setup.{constituency_with}
 use Rattle.tally_steps.specs.LawfulState.{IsLawfulIn, IsLawfulState, IsUnderPlaces}
 use Rattle.tally_steps.specs.Outcome.{IsLawfulPast}
 use Rattle.tally_steps.specs.Step.{IsView}

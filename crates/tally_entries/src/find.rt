@@ -9,7 +9,7 @@ ghost use Rattle.tally_statements.specs.internal.Inside.{OnlyReads};
 use sqlite::{Alter, Error, ErrorCode, Row, Transaction};
 use std::alloc::Global;
 use tally_returns::Return;
-use tally_rules::{Code, Setup};
+use tally_setup::{Code, Setup};
 use tally_statements::{KeyedTable, rows_of_key};
 use tally_tables::{ReturnFound, entries_in};
 

@@ -4,7 +4,7 @@ ghost use Rattle.std.specs.Prelude.{◌≡◌, ◌≤◌, IfOk, Some, length, op
 ghost use Rattle.sqlite_value.specs.Order.{column};
 ghost use Rattle.tally_returns.specs.View.{FitsView};
 ghost use Rattle.tally_schema.specs.Values.{number_of};
-ghost use Rattle.tally_rules.specs.Limits.{most_stations};
+ghost use Rattle.tally_setup.specs.Limits.{most_stations};
 ghost use Rattle.tally_statements.specs.Office.{IsFound, ShowsTable};
 ghost use Rattle.tally_tables.specs.Reading.{status_of, sums_of};
 ghost use Rattle.tally_entries.specs.internal.Constituencies.{FindsCertified, FindsProgressRow};
@@ -21,8 +21,8 @@ use sqlite::{Alter, Error, ErrorCode, Row, Transaction};
 use std::alloc::Global;
 use std::marker::Model;
 use tally_returns::{ConView, ProgressRow, Status};
-use tally_rules::{Code, Constituency, Setup, Station};
 use tally_schema::{number_at, text_at};
+use tally_setup::{Code, Constituency, Setup, Station};
 use tally_statements::{KeyedTable, all_rows, rows_of_key};
 use tally_tables::{ConTables, Statuses, Sums, standing_in, status_of, sums_in, view_from_tables};
 

@@ -31,7 +31,7 @@ fn answered(alloc: Global, line: &str) -> Result<String, Fail> {
 }
 
 /// Fails where a text is not the answer of a line.
-pub(crate) fn check_answer(alloc: Global, got: String, line: &str) -> Result<(), Fail> {
+fn check_answer(alloc: Global, got: String, line: &str) -> Result<(), Fail> {
     let want = json_answer(alloc, line)?;
     if got.as_str() == want.as_str() {
         return Ok(());

@@ -100,14 +100,20 @@ fn answer<D: Door + Drop>(mut door: D) -> Result<(), DoorFault> {
     write_all(&mut door, b"hello")
 }
 
-// What a client that sent three bytes reads.
-fn answer_to(rt: &HostRuntime, is_timed: bool, is_ended: bool) -> Result<String, Fail> {
+// A listener, and a client that has sent it three bytes, and that ends there or is silent.
+fn client_of(rt: &HostRuntime, is_ended: bool) -> Result<(TcpListener, TcpStream), Fail> {
     let listener = TcpListener::bind(rt, "127.0.0.1:0")?;
     let mut client = TcpStream::connect(rt, listener.local_addr()?)?;
     client.write_all(b"abc")?;
     if is_ended {
         client.shutdown(Shutdown::Write)?;
     }
+    Ok((listener, client))
+}
+
+// What such a client reads.
+fn answer_to(rt: &HostRuntime, is_timed: bool, is_ended: bool) -> Result<String, Fail> {
+    let (listener, mut client) = client_of(rt, is_ended)?;
     if is_timed {
         answer(TcpDoor::timed(listener, rt))?;
     } else {
@@ -144,18 +150,19 @@ impl Clock for Leaping {
     }
 }
 
+fn by_leaps(listener: TcpListener) -> TcpDoor<Leaping> {
+    let clock = Leaping {
+        seconds: Cell::new(0),
+    };
+    TcpDoor::timed(listener, clock)
+}
+
 // The connection is taken at 0 seconds and read at 20, and what is written begins at 40, so that
 // thirty seconds in all would be over.
 #[test]
 fn writes_have_a_time_of_their_own(rt: HostRuntime) -> Result<(), Fail> {
-    let listener = TcpListener::bind(&rt, "127.0.0.1:0")?;
-    let mut client = TcpStream::connect(&rt, listener.local_addr()?)?;
-    client.write_all(b"abc")?;
-    client.shutdown(Shutdown::Write)?;
-    let clock = Leaping {
-        seconds: Cell::new(0),
-    };
-    answer(TcpDoor::timed(listener, clock))?;
+    let (listener, _client) = client_of(&rt, true)?;
+    answer(by_leaps(listener))?;
     Ok(())
 }
 
@@ -175,14 +182,8 @@ fn two_of_each<D: Door>(alloc: Global, door: &mut D) -> Result<String, Fail> {
 // begins at 60: a write at 80 is in time, one at 100 is not.
 #[test]
 fn reads_and_writes_fail_after_thirty_seconds(rt: HostRuntime) -> Result<(), Fail> {
-    let listener = TcpListener::bind(&rt, "127.0.0.1:0")?;
-    let mut client = TcpStream::connect(&rt, listener.local_addr()?)?;
-    client.write_all(b"abc")?;
-    client.shutdown(Shutdown::Write)?;
-    let clock = Leaping {
-        seconds: Cell::new(0),
-    };
-    let mut door = TcpDoor::timed(listener, clock);
+    let (listener, _client) = client_of(&rt, true)?;
+    let mut door = by_leaps(listener);
     let said = two_of_each(rt.alloc(), &mut door)?;
     assert!(rt; said.as_str() == "[ab] [failed] true false", "{said}");
     Ok(())
@@ -198,9 +199,7 @@ fn listen<D: Door + Drop>(mut door: D) -> Result<(), DoorFault> {
 
 #[test]
 fn a_silent_client_that_has_no_answer_is_not_waited_for(rt: HostRuntime) -> Result<(), Fail> {
-    let listener = TcpListener::bind(&rt, "127.0.0.1:0")?;
-    let mut client = TcpStream::connect(&rt, listener.local_addr()?)?;
-    client.write_all(b"abc")?;
+    let (listener, _client) = client_of(&rt, false)?;
     let begun = Instant::now(&rt)?;
     listen(TcpDoor::new(listener))?;
     assert!(rt; begun.elapsed(&rt)? < Duration::from_millis(1_900));

@@ -7,7 +7,7 @@ use crate::lines::{cut, number, sums};
 use std::alloc::Global;
 use std::test::Fail;
 use tally_allot::{Need, lot_need};
-use tally_rules::{Base, LotRule, Method, Profile};
+use tally_setup::{Base, LotRule, Method, Profile};
 
 /// The most votes of a poll.
 const MOST: u64 = 5_000_000_000;

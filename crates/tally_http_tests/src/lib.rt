@@ -1,14 +1,10 @@
-//! Tests of the crates that read and write messages of HTTP, `tally_door`, `tally_message`,
-//! `tally_asks` and `tally_answer`. They are checked once, over the finished proofs of these
-//! crates. Nothing here is public, so there are no must-fail edits.
+//! Tests of the crates that read and write messages of HTTP, `tally_door`, `tally_message` and
+//! `tally_answer`. They are checked once, over the finished proofs of these crates. Nothing here is
+//! public, so there are no must-fail edits. Routes and bodies are tried on the program.
 #![tactic(auto)]
 
 #[cfg(test)]
 mod answers;
-#[cfg(test)]
-mod asked;
-#[cfg(test)]
-mod bodies;
 #[cfg(test)]
 mod doors;
 #[cfg(test)]
@@ -25,9 +21,5 @@ mod outcomes;
 mod pieces;
 #[cfg(test)]
 mod setups;
-#[cfg(test)]
-mod shown;
-#[cfg(test)]
-mod targets;
 #[cfg(test)]
 mod words;

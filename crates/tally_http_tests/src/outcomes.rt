@@ -7,7 +7,7 @@ use std::alloc::Global;
 use std::test::Fail;
 use tally_answer::{ANSWER_ROOM, BODY_ROOM, write_outcome};
 use tally_returns::{Refusal, Reply, Status};
-use tally_rules::{ListEntry, Setup};
+use tally_setup::{ListEntry, Setup};
 
 // A reply with its number, or a refusal with what it says: of a lot the seats for which it is
 // missing, and the seats and the votes of the lists among which it is needed by D'Hondt. In the

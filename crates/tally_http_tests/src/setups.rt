@@ -2,7 +2,8 @@
 
 use std::alloc::{AllocError, Global};
 use std::test::Fail;
-use tally_rules::{Setup, read_setup};
+use tally_rules::read_setup;
+use tally_setup::Setup;
 
 const WITHOUT_LISTS: &str = r#"[[profile]]
 code = "d0"

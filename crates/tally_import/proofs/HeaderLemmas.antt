@@ -5,7 +5,7 @@ use Rattle.std.specs.List.{list_all, list_any}
 use Rattle.std.proofs.lemmas.Bool.{le-leb, leb-true}
 use Rattle.std.proofs.Math.Seq.{drop-cons}
 use Rattle.std.proofs.lemmas.List.{append-nil}
-use Rattle.tally_rules.specs.Code.{is_code, code_of}
+use Rattle.tally_setup.specs.Code.{is_code, code_of}
 use Rattle.tally_import.specs.Header.{same_text, are_distinct_codes, are_lists, header_lists}
 
 -- whether a code is among others

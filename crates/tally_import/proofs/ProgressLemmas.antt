@@ -7,11 +7,11 @@ use Rattle.std.specs.Ordering.{eq_by_cmp}
 use Rattle.std.specs.FinMap as map
 use Rattle.std.specs.HashMap as table
 use Rattle.std.specs.Map.{lookup}
-use Rattle.tally_rules.specs.Code.{code_cmp}
+use Rattle.tally_setup.specs.Code.{code_cmp}
 use Rattle.tally_returns.specs.Return.{StationReturn, Returns}
 use Rattle.tally_returns.specs.Counts.{VoteCounts}
 use Rattle.tally_returns.specs.Return.{first_return}
-use Rattle.tally_rules.specs.declared.constituency.Entry.TheVariants.{Single}
+use Rattle.tally_setup.specs.declared.constituency.Entry.TheVariants.{Single}
 use Rattle.tally_returns.specs.Lodge.{Stations, limits_for, lodge, lodge_answer, after_lodge, reply_at_station}
 use Rattle.tally_keeper.specs.Import.{row_answer, after_row, returns_after_import, count_of, lodged_counts}
 use Rattle.tally_keeper.specs.NamedRows.{named_row, named_rows}

@@ -5,8 +5,8 @@ use Rattle.std.proofs.lemmas.Bool.{lt-ltb, le-ltb}
 use Rattle.std.specs.BTreeSet.{contains}
 use Rattle.std.specs.List.{list_any}
 use Rattle.std.specs.Str.{bytes_eq}
-use Rattle.tally_rules.specs.Code.{code_cmp}
-use Rattle.tally_rules.specs.Constituency.{Constituency, list_codes, station_codes}
+use Rattle.tally_setup.specs.Code.{code_cmp}
+use Rattle.tally_setup.specs.Constituency.{Constituency, list_codes, station_codes}
 use Rattle.tally_returns.specs.Lodge.{Stations}
 use Rattle.tally_keeper.specs.Given.{with_given}
 use Rattle.tally_keeper.specs.Source.{Coming, GivesNext, at_end, row_limit}

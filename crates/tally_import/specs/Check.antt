@@ -5,8 +5,8 @@ use Rattle.std.specs.Prelude.{Result, Ok, Err, codes}
 use Rattle.std.specs.Fmt.{decimal}
 use Rattle.std.specs.FinMap.{empty}
 use Rattle.std.specs.Io.KnownBytes.{Appends, Keeps}
-use Rattle.tally_rules.specs.Limits.{most_electors}
-use Rattle.tally_rules.specs.declared.constituency.Entry.TheVariants.{Single}
+use Rattle.tally_setup.specs.Limits.{most_electors}
+use Rattle.tally_setup.specs.declared.constituency.Entry.TheVariants.{Single}
 use Rattle.tally_returns.specs.Counts.{VoteCounts}
 use Rattle.tally_returns.specs.Lodge.{Stations, limits_for}
 use Rattle.tally_keeper.specs.Import.{answers, count_of, lodged_counts}

@@ -5,8 +5,8 @@ use Rattle.std.specs.Prelude.{is_some, IfSome, Result, Ok, Err, codes, ⊤}
 use Rattle.std.specs.BTreeSet.{BTreeSet, contains}
 use Rattle.std.specs.Cmp.Lexicographic.{pointwise}
 use Rattle.tally_frac.specs.Limits.{most_lists}
-use Rattle.tally_rules.specs.Code.{code_cmp}
-use Rattle.tally_rules.specs.Constituency.{Constituency, list_codes}
+use Rattle.tally_setup.specs.Code.{code_cmp}
+use Rattle.tally_setup.specs.Constituency.{Constituency, list_codes}
 use Rattle.tally_returns.specs.Lodge.{Stations}
 use Rattle.tally_returns.specs.Decide.{station_in, limits_of}
 use Rattle.tally_keeper.specs.Source.{Coming, Ending, GivesNext, IsSudden, at_end, row_limit}

@@ -1,6 +1,6 @@
 -- The rows of a constituency's returns as contracts see them.
 use Rattle.std.specs.Prelude.{ℕ, Bool, false, List, [], Option, Some, None, IfSome, option_map}
-use Rattle.tally_rules.specs.Constituency.{Constituency}
+use Rattle.tally_setup.specs.Constituency.{Constituency}
 use Rattle.tally_keeper.specs.Source.{Coming, Ending}
 use Rattle.tally_keeper.specs.declared.import.Row.{Row}
 use Rattle.tally_keeper.specs.declared.source.ImportFault.{ImportFault}

@@ -3,7 +3,7 @@ use Rattle.std.specs.Prelude.{◌+◌, ◌-◌, ◌*◌, ◌==◌, ◌&&◌, if�
 use Rattle.std.specs.Prelude.{length, map, fold, nat_le, Option, Some, None, is_some}
 use Rattle.std.specs.Char.{is_ascii_digit}
 use Rattle.std.specs.List.{list_all}
-use Rattle.tally_rules.specs.Code.{is_code}
+use Rattle.tally_setup.specs.Code.{is_code}
 use Rattle.tally_returns.specs.Lodge.{Stations}
 use Rattle.tally_returns.specs.declared.ask.Ask.TheVariants as ask
 use Rattle.tally_keeper.specs.declared.import.Row.{Row}

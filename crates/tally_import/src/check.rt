@@ -23,7 +23,7 @@ use std::alloc::{AllocError, Global};
 use std::io::{Read, Write};
 use tally_keeper::ROW_LIMIT;
 use tally_records::{End, Records, Sep, Stop, Watch};
-use tally_rules::Code;
+use tally_setup::Code;
 
 /// Why a text could not be checked.
 #[derive(Clone, Copy, Debug, PartialEq, Eq)]

@@ -9,7 +9,7 @@ use csv::ByteRecord;
 use std::alloc::{AllocError, Global};
 use tally_frac::MOST_LISTS;
 use tally_records::field;
-use tally_rules::Code;
+use tally_setup::Code;
 
 /// How many names come before those of the lists.
 pub(crate) const FIXED_NAMES: usize = 4;

@@ -18,7 +18,7 @@ use tally_keeper::{
     Ask, Counts, FirstRow, ImportCount, LodgeReply, NamedRow, Refusal, Return, Row, decide_lodge,
     name_bad, name_refused,
 };
-use tally_rules::{Code, MOST_ELECTORS};
+use tally_setup::{Code, MOST_ELECTORS};
 
 /// How far an import has come.
 #[derive(Drop)]

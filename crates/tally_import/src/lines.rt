@@ -4,13 +4,13 @@ ghost use Rattle.std.specs.Prelude.{◌≡◌, ◌≤◌, ◌+◌, ◌*◌, ◌+
 ghost use Rattle.std.specs.Prelude.{string_bytes, string_capacity, string_len};
 ghost use Rattle.tally_import.specs.RowLines.{bad_words, cause_words, column_name, row_line};
 ghost use Rattle.tally_import.specs.RowLines.{row_lines, row_numbers};
-ghost use Rattle.tally_rules.specs.Constituency.{list_codes};
+ghost use Rattle.tally_setup.specs.Constituency.{list_codes};
 
 use crate::room::push;
 use itoa::Buffer;
 use std::alloc::{AllocError, Global};
 use tally_keeper::{BadRow, Column, NamedRow, RowCause};
-use tally_rules::{Code, ListEntry};
+use tally_setup::{Code, ListEntry};
 
 /// The most bytes of the line of a row.
 pub const LINE_ROOM: usize = 64;

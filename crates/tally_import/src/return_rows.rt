@@ -7,8 +7,8 @@ ghost use Rattle.std.specs.List.{list_any};
 ghost use Rattle.std.specs.Str.{bytes_eq};
 ghost use Rattle.csv.specs.Records.{fields_of};
 ghost use Rattle.tally_frac.specs.Limits.{most_lists};
-ghost use Rattle.tally_rules.specs.Code.{code_cmp};
-ghost use Rattle.tally_rules.specs.Constituency.{Constituency, list_codes, station_codes};
+ghost use Rattle.tally_setup.specs.Code.{code_cmp};
+ghost use Rattle.tally_setup.specs.Constituency.{Constituency, list_codes, station_codes};
 ghost use Rattle.tally_returns.specs.Lodge.{Stations};
 ghost use Rattle.tally_keeper.specs.Given.{with_given};
 ghost use Rattle.tally_keeper.specs.Source.{GivesNext, IsLodgeOrBad, at_end, ends_by, row_limit};
@@ -38,7 +38,7 @@ use std::marker::Model;
 use std::snapshot::Snapshot;
 use tally_keeper::{BadRow, Given, ImportFault, ROW_LIMIT, Row, RowSource};
 use tally_records::{End, Records, Sep, Stop, Watch, field};
-use tally_rules::{Code, Constituency, ListEntry, Station};
+use tally_setup::{Code, Constituency, ListEntry, Station};
 
 /// The rows of a constituency's returns, from a text that a reader gives.
 #[derive(Drop)]

@@ -11,7 +11,7 @@ use csv::ByteRecord;
 use std::alloc::{AllocError, Global};
 use tally_keeper::{Ask, BadRow, Column, Counts, Row};
 use tally_records::field;
-use tally_rules::Code;
+use tally_setup::Code;
 
 /// The most digits that a number may have.
 const DIGITS: usize = 9;

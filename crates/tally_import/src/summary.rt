@@ -12,7 +12,7 @@ use crate::lines::push_lines;
 use crate::room::{COUNT_ROOM, push_count};
 use crate::totals::Totals;
 use std::alloc::{AllocError, Global};
-use tally_rules::Code;
+use tally_setup::Code;
 
 /// What is written of an import under a header of these lists, with lines of its rows or without,
 /// or the fault Memory.

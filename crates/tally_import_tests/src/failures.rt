@@ -6,10 +6,10 @@ use std::io::ErrorKind;
 use std::test::*;
 use tally_core::{Book, Keeper, RowSource};
 use tally_import::{ReturnRows, Sep, check_csv};
-use tally_rules::Constituency;
 use tally_scripts::{
     Failing, TWIN_TOWN, TWO_ROWS_AND_A_PIECE, check_answers, failing_reads, text_of_import_from,
 };
+use tally_setup::Constituency;
 
 // The rows that `TWO_ROWS_AND_A_PIECE` gives before a read fails.
 const CUT_ROWS: &str = "\

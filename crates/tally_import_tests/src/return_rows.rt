@@ -5,8 +5,9 @@ use std::io::ErrorKind;
 use std::test::Fail;
 use tally_core::RowSource;
 use tally_import::{ReturnRows, Sep};
-use tally_rules::{Constituency, read_setup};
+use tally_rules::read_setup;
 use tally_scripts::{HEADER, Pieces};
+use tally_setup::Constituency;
 
 const SETUP: &[u8] = br#"[[profile]]
 code = "d0"

@@ -6,7 +6,7 @@ use Rattle.std.specs.List.{AllByRecursion}
 use Rattle.std.proofs.lemmas.Bool.{false_from_ne_true}
 use Rattle.std.proofs.lemmas.Slice.Eq.{bytes_eq-Decides}
 use Rattle.sqlite_keyed.proofs.ListLemmas.{all_weaker}
-use Rattle.tally_rules.specs.Codes.{AreDistinct, is_among_codes}
+use Rattle.tally_setup.specs.Codes.{AreDistinct, is_among_codes}
 
 -- no code is one of those before it
 abbrev pub AreApart : List (List ℕ) → Type 0

@@ -11,8 +11,8 @@ use Rattle.sqlite_value.specs.Order.{Row}
 use Rattle.tally_schema.specs.Rows.{text_cmp}
 use Rattle.tally_schema.proofs.RowsLemmas.{text_total, text_exact, text_same, keys_rise}
 use Rattle.tally_schema.proofs.StatementLemmas.{equal_is}
-use Rattle.tally_rules.specs.Code.{is_code}
-use Rattle.tally_rules.specs.Constituency.{Constituency}
+use Rattle.tally_setup.specs.Code.{is_code}
+use Rattle.tally_setup.specs.Constituency.{Constituency}
 use Rattle.tally_returns.specs.Return.{StationReturn, Returns}
 use Rattle.tally_tables.specs.Cells.{return_rows, count_rows}
 use Rattle.tally_judge.specs.internal.Entries.{IsLawfulEntry, AreReturnsOf, rises}

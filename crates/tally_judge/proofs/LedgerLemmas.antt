@@ -7,7 +7,7 @@ use Rattle.std.proofs.lemmas.List.{take_all, take_more}
 use Rattle.sqlite_trees.specs.Tree.{IsAscending}
 use Rattle.tally_schema.specs.Rows.{text_cmp}
 use Rattle.tally_schema.proofs.RowsLemmas.{text_total, text_exact, keys_rise}
-use Rattle.tally_rules.specs.Constituency.{Constituency}
+use Rattle.tally_setup.specs.Constituency.{Constituency}
 use Rattle.tally_returns.specs.Return.{StationReturn, Returns}
 use Rattle.tally_keeper.specs.Kept.{Kept, opening_kept}
 use Rattle.tally_judge.specs.internal.Entries.{rises}

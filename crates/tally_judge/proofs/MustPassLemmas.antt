@@ -7,9 +7,9 @@ use Rattle.std.proofs.lemmas.Bool.{and_parts, false≢true, leb-true, leb-false}
 use Rattle.std.proofs.lemmas.List.Sums.{sum_by-cons}
 use Rattle.std.proofs.lemmas.List.Elements.{recursion_from_All}
 use Rattle.sqlite_keyed.proofs.ListLemmas.{all_weaker}
-use Rattle.tally_rules.specs.Constituency.{Constituency, ListEntry}
-use Rattle.tally_rules.specs.Limits.{IsConstituency, IsListEntry}
-use Rattle.tally_rules.specs.Text.{is_note}
+use Rattle.tally_setup.specs.Constituency.{Constituency, ListEntry}
+use Rattle.tally_setup.specs.Limits.{IsConstituency, IsListEntry}
+use Rattle.tally_setup.specs.Text.{is_note}
 use Rattle.std.specs.Str.{is_utf8}
 use Rattle.tally_frac.specs.ListSet.{has_place}
 use Rattle.tally_law.specs.LotNeed.{IsLotTaken}

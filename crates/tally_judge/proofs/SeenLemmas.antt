@@ -12,8 +12,8 @@ use Rattle.tally_steps.specs.Outcome.{HasSeats, IsLawfulView, poll_in, rule_in}
 use Rattle.tally_steps.proofs.CertificationLemmas.{lot-right}
 use Rattle.tally_returns.specs.Lawful.{is_kept_note, is_note_or_empty}
 use Rattle.tally_returns.specs.View.{View}
-use Rattle.tally_rules.specs.Constituency.{Constituency}
-use Rattle.tally_rules.specs.Text.{is_note}
+use Rattle.tally_setup.specs.Constituency.{Constituency}
+use Rattle.tally_setup.specs.Text.{is_note}
 use Rattle.tally_judge.specs.internal.Seen.{HasLawfulFrame, IsCertified, IsLotRight, IsOpen, is_in_range}
 
 -- a text is a note that is kept where it may be a note

@@ -13,12 +13,12 @@ use Rattle.std.proofs.lemmas.List.{length-map}
 use Rattle.std.proofs.lemmas.List.Elements.{recursion_from_All, All-from_recursion}
 use Rattle.std.proofs.lemmas.Slice.Eq.{bytes_eq-Decides}
 use Rattle.sqlite_keyed.proofs.ListLemmas.{all_weaker, all-append}
-use Rattle.tally_rules.specs.Code.{is_code}
-use Rattle.tally_rules.specs.Codes.{is_among_codes}
-use Rattle.tally_rules.specs.Constituency.{Constituency}
-use Rattle.tally_rules.specs.Limits.{IsConstituency, IsSetup, IsStation}
-use Rattle.tally_rules.specs.Setup.{all_stations, constituency_with, constituency_codes, station_with}
-use Rattle.tally_rules.specs.declared.constituency.Station.{Station}
+use Rattle.tally_setup.specs.Code.{is_code}
+use Rattle.tally_setup.specs.Codes.{is_among_codes}
+use Rattle.tally_setup.specs.Constituency.{Constituency}
+use Rattle.tally_setup.specs.Limits.{IsConstituency, IsSetup, IsStation}
+use Rattle.tally_setup.specs.Setup.{all_stations, constituency_with, constituency_codes, station_with}
+use Rattle.tally_setup.specs.declared.constituency.Station.{Station}
 use Rattle.tally_keeper.specs.Kept.{Kept, opening_kept, view_in}
 use Rattle.tally_steps.specs.LawfulState.{IsLawfulState}
 use Rattle.tally_steps.specs.LawStatements.{ViewsAreLawful}

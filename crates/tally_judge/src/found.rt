@@ -10,8 +10,8 @@ use std::alloc::{AllocError, Global};
 use std::marker::Model;
 use tally_keeper::Ledger;
 use tally_returns::ConView;
-use tally_rules::{Code, Constituency};
 use tally_schema::text_at;
+use tally_setup::{Code, Constituency};
 use tally_tables::{ConTables, statuses_of, view_from_tables};
 
 /// A constituency that was read: its code, and what is seen of it.

@@ -7,7 +7,7 @@ ghost use Rattle.tally_judge.specs.internal.Tree.{AreNumbered, numbers_at, with_
 use std::alloc::AllocError;
 use std::collections::BTreeMap;
 use tally_keeper::Ledger;
-use tally_rules::Code;
+use tally_setup::Code;
 use tally_tables::{Statuses, statuses_of};
 
 /// Puts the numbers of each constituency of the setup into a tree, by the returns in the ledger.

@@ -10,7 +10,7 @@ ghost use Rattle.tally_judge.specs.Numbers.{HasNumbersOfRows, numbers_of};
 ghost use Rattle.tally_judge.specs.OfficeRows.{AreLawfulRows, AreRowsOfOneState, rows_in_order};
 ghost use Rattle.tally_keeper.specs.Kept.{opening_kept};
 ghost use Rattle.tally_returns.specs.Return.{Returns};
-ghost use Rattle.tally_rules.specs.Limits.{IsSetup};
+ghost use Rattle.tally_setup.specs.Limits.{IsSetup};
 ghost use Rattle.tally_tables.specs.Views.{tables_in};
 
 use crate::cons::are_lawful_cons;
@@ -21,7 +21,7 @@ use std::alloc::{AllocError, Global};
 use std::collections::BTreeMap;
 use tally_keeper::Ledger;
 use tally_machine::laws;
-use tally_rules::{Code, Setup};
+use tally_setup::{Code, Setup};
 use tally_tables::{ConTables, ReturnFound, Statuses, entries_in};
 
 /// The rows of all tables but `setup`, without their rowids, those of each table in the order of

@@ -6,7 +6,7 @@ ghost use Rattle.tally_returns.specs.Decide.{limits_of};
 ghost use Rattle.tally_returns.specs.Lawful.{IsLawful};
 
 use tally_returns::Return;
-use tally_rules::{Constituency, Setup, Station};
+use tally_setup::{Constituency, Setup, Station};
 use tally_tables::ReturnFound;
 
 /// Whether the code of each station is below the next.

@@ -11,7 +11,7 @@ ghost use Rattle.tally_judge.specs.internal.Seen.{is_in_range};
 use std::alloc::{AllocError, Global};
 use tally_allot::{AllotFault, allot, is_allotment};
 use tally_returns::{ConView, Gone, LAST_EDITION, Past, is_note_or_empty};
-use tally_rules::{Constituency, MOST_STATIONS, good_note};
+use tally_setup::{Constituency, MOST_STATIONS, good_note};
 
 /// Whether a lawful state may show a constituency in this way: its lot, its seats, those who are
 /// gone, and its certificates that were reopened.

@@ -1,7 +1,7 @@
 -- The same import again.
 use Rattle.std.proofs.Common.{◌≡◌, ◌∙◌, ◌+◌, List, [], ◌∷◌, false, cond, Option, Some, None, Result, Ok, Err, refl, sym, ap, subst, arith, count_by}
 use Rattle.std.proofs.lemmas.List.Sums.{sum_by-cons}
-use Rattle.tally_rules.specs.Constituency.{Constituency}
+use Rattle.tally_setup.specs.Constituency.{Constituency}
 use Rattle.tally_returns.specs.Return.{Returns}
 use Rattle.tally_returns.specs.Lodge.{Stations, lodge_answer}
 use Rattle.tally_returns.specs.State.{State, stations_of}

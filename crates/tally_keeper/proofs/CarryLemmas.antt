@@ -2,8 +2,8 @@
 use Rattle.std.proofs.Common.{◌≡◌, ◌≢◌, ◌≤◌, ◌⊎◌, ◌∙◌, ◌+◌, ◌∷◌, ℕ, List, [], Option, Some, None, Result, Ok, Err, refl, sym, ap, subst, inl, inr, arith}
 use Rattle.std.specs.Prelude.{IsSome, IfErr, IfOk, IfSome, OnErr, OnOk, is_some, string_bytes}
 use Rattle.std.specs.FinMap as fin
-use Rattle.tally_rules.specs.Constituency.{Constituency}
-use Rattle.tally_rules.specs.Setup.{constituency_with}
+use Rattle.tally_setup.specs.Constituency.{Constituency}
+use Rattle.tally_setup.specs.Setup.{constituency_with}
 use Rattle.tally_steps.specs.Step.{ConChange, Decides, after_change, certified_with, con_state_after, con_change, gone_for_good, lot_set, no_change, open_again, IsConStep, answer_seen, con_answer, con_shown, edition_now, reply_seen}
 use Rattle.tally_returns.specs.GoneCandidate.{GoneCandidate}
 use Rattle.tally_returns.specs.Named.{con_named}

@@ -1,6 +1,6 @@
 -- What happens to a keeper is a run of the machine.
 use Rattle.std.proofs.Common.{◌≡◌, ◌↔◌, ◌++◌, List, [], ◌∷◌, Option, Some, None, Result, Ok, Err, length, refl, ap, subst, sym, inl, inr, arith}
-use Rattle.tally_rules.specs.Constituency.{Constituency}
+use Rattle.tally_setup.specs.Constituency.{Constituency}
 use Rattle.tally_returns.specs.State.{State, stations_of}
 use Rattle.tally_returns.specs.Lodge.{lodge, lodge_answer}
 use Rattle.tally_steps.specs.Step.{reply_seen, lodge_reply}

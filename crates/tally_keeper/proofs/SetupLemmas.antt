@@ -4,11 +4,11 @@ use Rattle.std.specs.Prelude.{All, slice_index_or}
 use Rattle.std.specs.List.{find}
 use Rattle.std.specs.Str.{bytes_eq}
 use Rattle.std.proofs.lemmas.Slice.Eq.{bytes_eq-Decides}
-use Rattle.tally_rules.specs.Codes.{AreDistinct}
-use Rattle.tally_rules.specs.Constituency.{Constituency}
-use Rattle.tally_rules.specs.Limits.{IsConstituency, IsSetup}
-use Rattle.tally_rules.specs.Setup.{all_stations, constituency_with, station_with}
-use Rattle.tally_rules.specs.declared.constituency.Station.{Station}
+use Rattle.tally_setup.specs.Codes.{AreDistinct}
+use Rattle.tally_setup.specs.Constituency.{Constituency}
+use Rattle.tally_setup.specs.Limits.{IsConstituency, IsSetup}
+use Rattle.tally_setup.specs.Setup.{all_stations, constituency_with, station_with}
+use Rattle.tally_setup.specs.declared.constituency.Station.{Station}
 
 -- the test of codes
 pub same_bytes : (q k : List ℕ) → bytes_eq q k ≡ true → q ≡ k

@@ -1,6 +1,6 @@
 -- What a keeper in memory holds.
 use Rattle.std.specs.Prelude.{List}
-use Rattle.tally_rules.specs.Constituency.{Constituency}
+use Rattle.tally_setup.specs.Constituency.{Constituency}
 use Rattle.tally_returns.specs.State.{State}
 
 -- a setup, and the state of its election

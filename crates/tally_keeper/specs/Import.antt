@@ -2,7 +2,7 @@
 -- they were answered.
 use Rattle.std.specs.Prelude.{◌≡◌, if◌then◌else◌, ◌+◌, ◌<◌, not, ℕ, Bool, true, false, List, []}
 use Rattle.std.specs.Prelude.{◌∷◌, Option, Some, None, Result, Ok, Err, count_by}
-use Rattle.tally_rules.specs.Code.{is_code}
+use Rattle.tally_setup.specs.Code.{is_code}
 use Rattle.tally_returns.specs.Counts.{VoteCounts}
 use Rattle.tally_returns.specs.Return.{Returns}
 use Rattle.tally_returns.specs.Refusals.{refusal_number}

@@ -1,7 +1,7 @@
 -- The rows of an import that were neither lodged nor there already, each by its number and with its
 -- cause.
 use Rattle.std.specs.Prelude.{◌≡◌, ◌+◌, ◌++◌, ℕ, List, [], ◌∷◌, Option, Some, None, Err}
-use Rattle.tally_rules.specs.Constituency.{Constituency}
+use Rattle.tally_setup.specs.Constituency.{Constituency}
 use Rattle.tally_returns.specs.Refusals.{refusal_number}
 use Rattle.tally_returns.specs.State.{State, stations_of}
 use Rattle.tally_returns.specs.declared.ask.Ask.TheVariants.{Lodge}

@@ -1,7 +1,7 @@
 -- What a keeper shows of a constituency: without its certificates on record, and its returns.
 use Rattle.std.specs.Prelude.{◌≡◌, ◌⊎◌, List, ℕ, Option, Some, None, Vec, Result, Ok, Err}
 use Rattle.std.specs.declared.alloc.Global.{Global}
-use Rattle.tally_rules.specs.Constituency.{Constituency}
+use Rattle.tally_setup.specs.Constituency.{Constituency}
 use Rattle.tally_returns.specs.PastSeats.{PastSeats}
 use Rattle.tally_returns.specs.State.{State}
 use Rattle.tally_returns.specs.StationRows.{station_rows}
@@ -12,7 +12,7 @@ use Rattle.tally_returns.specs.declared.refusal.Refusal.TheVariants.{NoConstitue
 use Rattle.tally_returns.specs.declared.reply.Reply.{Reply}
 use Rattle.tally_returns.specs.declared.reply.Reply.TheVariants.{Con}
 use Rattle.tally_returns.specs.declared.station_row.StationRow.{StationRow}
-use Rattle.tally_rules.specs.Setup.{constituency_with}
+use Rattle.tally_setup.specs.Setup.{constituency_with}
 use Rattle.tally_keeper.specs.Keeper.{Happens, request}
 
 -- the reply that shows this with these certificates on record, or the same refusal

@@ -1,6 +1,6 @@
 -- What stays true of a keeper over any call.
 use Rattle.std.specs.Prelude.{◌≡◌, ◌⊎◌, List, Option, None}
-use Rattle.tally_rules.specs.Constituency.{Constituency}
+use Rattle.tally_setup.specs.Constituency.{Constituency}
 use Rattle.tally_returns.specs.State.{State}
 
 -- It has the same setup. It was trusted before if it is trusted after. It is shut, which is to have

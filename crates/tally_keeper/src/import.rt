@@ -7,7 +7,7 @@ ghost use Rattle.tally_keeper.specs.NamedRows.{named_row};
 
 use std::alloc::AllocError;
 use tally_returns::{Ask, LodgeReply, Refusal};
-use tally_rules::Code;
+use tally_setup::Code;
 
 /// A row of an import: a Lodge, or a row that cannot be read as one.
 #[derive(Debug, Drop)]

@@ -2,8 +2,8 @@
 
 ghost use Rattle.std.specs.Prelude.{◌≡◌, [], List, Option, Some, IfErr, IfOk, IfSome};
 ghost use Rattle.std.specs.Prelude.{OnOk};
-ghost use Rattle.tally_rules.specs.Constituency.{Constituency};
-ghost use Rattle.tally_rules.specs.Setup.{constituency_with};
+ghost use Rattle.tally_setup.specs.Constituency.{Constituency};
+ghost use Rattle.tally_setup.specs.Setup.{constituency_with};
 ghost use Rattle.tally_returns.specs.State.{State};
 ghost use Rattle.tally_returns.specs.View.{FitsView};
 ghost use Rattle.tally_steps.specs.Kinds.{IsReplyTo};
@@ -19,7 +19,7 @@ ghost use Rattle.tally_returns.specs.declared.refusal.Refusal.TheVariants as ref
 use crate::import::{ImportCount, NamedRow};
 use crate::source::{ImportFault, RowSource};
 use tally_returns::{Ask, ConView, Refusal, Reply, StationRow};
-use tally_rules::{Code, Setup};
+use tally_setup::{Code, Setup};
 
 /// Keeps the office's state, in memory or in a database.
 pub trait Keeper {

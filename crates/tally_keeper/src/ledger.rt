@@ -10,8 +10,8 @@ ghost use Rattle.tally_steps.specs.Step.{certified_with, gone_for_good, lot_set,
 ghost use Rattle.tally_returns.specs.Lawful.{IsLawfulAt};
 ghost use Rattle.tally_returns.specs.Progress.{progress};
 ghost use Rattle.tally_returns.specs.State.{con_state};
-ghost use Rattle.tally_rules.specs.Limits.{IsSetup};
-ghost use Rattle.tally_rules.specs.Setup.{constituency_with};
+ghost use Rattle.tally_setup.specs.Limits.{IsSetup};
+ghost use Rattle.tally_setup.specs.Setup.{constituency_with};
 
 use crate::returns::{put_return, remove_return};
 use crate::views::{
@@ -21,7 +21,7 @@ use std::alloc::{AllocError, Global};
 use std::collections::BTreeMap;
 use std::marker::Model;
 use tally_returns::{ConView, Gone, Past, ProgressRow, Return};
-use tally_rules::{Code, Setup};
+use tally_setup::{Code, Setup};
 
 /// The returns of an election, and what is seen of each of its constituencies. The sums of closed
 /// votes are kept, so that a command on a constituency costs what its lists cost, and not what its

@@ -12,7 +12,7 @@ use crate::views::count;
 use std::alloc::AllocError;
 use std::collections::BTreeMap;
 use tally_returns::{ConView, Return};
-use tally_rules::{Code, Setup};
+use tally_setup::{Code, Setup};
 
 /// Puts the return of a station: the former one is no longer counted, and this one is.
 pub(crate) fn put_return(

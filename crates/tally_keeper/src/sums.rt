@@ -5,7 +5,7 @@ ghost use Rattle.tally_keeper.specs.MovedSum.{CanMove, moved_sum};
 ghost use Rattle.tally_keeper.specs.internal.Sums.{CanCount, CanCountOne, CanMoveCounts};
 ghost use Rattle.tally_keeper.specs.internal.Sums.{CanMoveEach, moved_sums, with_counts};
 ghost use Rattle.tally_keeper.specs.internal.Sums.{with_return_counted, with_status};
-ghost use Rattle.tally_rules.specs.Limits.{most_stations};
+ghost use Rattle.tally_setup.specs.Limits.{most_stations};
 
 use tally_returns::{ConView, Counts, Return, Status};
 

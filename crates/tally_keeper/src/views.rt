@@ -9,13 +9,13 @@ ghost use Rattle.tally_keeper.specs.internal.Rows.{progress_row_of, views_of, wi
 ghost use Rattle.tally_keeper.specs.internal.Rows.{with_gone, with_lot, with_one_gone};
 ghost use Rattle.tally_keeper.specs.internal.Rows.{with_reopening, with_view};
 ghost use Rattle.tally_keeper.specs.internal.Sums.{CanCount, with_return_counted};
-ghost use Rattle.tally_rules.specs.Limits.{IsSetup};
+ghost use Rattle.tally_setup.specs.Limits.{IsSetup};
 
 use crate::sums::count_return;
 use std::alloc::{AllocError, Global};
 use std::collections::BTreeMap;
 use tally_returns::{ConView, Gone, Past, ProgressRow, Return};
-use tally_rules::{Code, Constituency, Setup};
+use tally_setup::{Code, Constituency, Setup};
 
 /// What is seen of each constituency as it opens.
 pub(crate) fn opening_views(

@@ -4,7 +4,7 @@ use Rattle.std.proofs.Common.{◌≡◌, ℕ, ◌+◌, ◌*◌, ◌<◌, ◌≤�
 use Rattle.std.proofs.lemmas.Bool.{agree_below, agree_below_at, or_cases, cases_lt, eqb-true, eq-eqb, ltb-true, not_from_true, false≢true}
 use Rattle.std.proofs.lemmas.List.{get_or_past}
 use Rattle.tally_frac.specs.Fraction.{Fraction}
-use Rattle.tally_rules.specs.declared.profile.LotRule.{LotRule}
+use Rattle.tally_setup.specs.declared.profile.LotRule.{LotRule}
 use Rattle.tally_law.specs.Poll.{Poll, IsEligible, SharesOut}
 use Rattle.tally_law.specs.DivisorAllotment.{IsAbove, IsDivisorAllotment, quotient_of}
 use Rattle.tally_law.specs.HareAllotment.{IsHareAllotment, ClaimsAbove, claim_of, whole_quotas, remainder}

@@ -1,8 +1,8 @@
 -- The examples. Each `refl` is arithmetic that could be done on paper, done by the prover.
 use Rattle.std.proofs.Common.{ℕ, ◌≡◌, List, [], ◌∷◌, true, length, sum, refl}
-use Rattle.tally_rules.specs.declared.profile.LotRule.TheVariants.{Fixed}
-use Rattle.tally_rules.specs.declared.profile.Method.{Method}
-use Rattle.tally_rules.specs.declared.profile.Method.TheVariants.{DHondt, SainteLague, ModifiedSainteLague, Hare}
+use Rattle.tally_setup.specs.declared.profile.LotRule.TheVariants.{Fixed}
+use Rattle.tally_setup.specs.declared.profile.Method.{Method}
+use Rattle.tally_setup.specs.declared.profile.Method.TheVariants.{DHondt, SainteLague, ModifiedSainteLague, Hare}
 use Rattle.tally_frac.specs.Divisors.{dhondt_divisor, sainte_lague_divisor, modified_sainte_lague_divisor}
 use Rattle.tally_law.specs.Poll.{Poll, SharesOut}
 use Rattle.tally_law.specs.Rules.{poll_of}

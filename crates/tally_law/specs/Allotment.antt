@@ -1,6 +1,6 @@
 -- The allotment of a poll under a rule.
 use Rattle.std.specs.Prelude.{ℕ, List}
-use Rattle.tally_rules.specs.declared.profile.LotRule.{LotRule}
+use Rattle.tally_setup.specs.declared.profile.LotRule.{LotRule}
 use Rattle.tally_law.specs.Poll.{Poll}
 use Rattle.tally_law.specs.DivisorAllotment.{IsDivisorAllotment, IsDivisorAllotmentByVotes}
 use Rattle.tally_law.specs.HareAllotment.{IsHareAllotment, IsHareAllotmentByVotes}

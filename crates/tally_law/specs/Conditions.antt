@@ -1,8 +1,8 @@
 -- The conditions of every allotment, which its caller keeps.
 use Rattle.std.specs.Prelude.{ℕ, ◌≤◌, List, length}
 use Rattle.tally_frac.specs.Limits.{most_lists, most_seats, whole_base}
-use Rattle.tally_rules.specs.Threshold.{IsWithinVotes}
-use Rattle.tally_rules.specs.declared.profile.Profile.{Profile}
+use Rattle.tally_setup.specs.Threshold.{IsWithinVotes}
+use Rattle.tally_setup.specs.declared.profile.Profile.{Profile}
 
 -- 1 to 60 lists, at most 5,000,000,000 votes with the blank ones, 1 to 500 seats and a threshold of
 -- at most 10,000.

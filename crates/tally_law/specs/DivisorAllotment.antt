@@ -4,7 +4,7 @@
 use Rattle.std.specs.Prelude.{ℕ, ◌+◌, ◌*◌, ◌≤◌, ◌≢◌, ◌⊎◌, List, slice_index}
 use Rattle.tally_frac.specs.Fraction.{Fraction}
 use Rattle.tally_frac.specs.Rank.{IsHigher, IsTied}
-use Rattle.tally_rules.specs.declared.profile.LotRule.{LotRule}
+use Rattle.tally_setup.specs.declared.profile.LotRule.{LotRule}
 use Rattle.tally_law.specs.Poll.{Poll, IsEligible, SharesOut, votes_of}
 use Rattle.tally_law.specs.Lot.{ComesFirst}
 

@@ -3,12 +3,12 @@
 -- votes by which the methods differ. No pair that wins a seat ties with one that does not, so they
 -- show nothing of ties and lots.
 use Rattle.std.specs.Prelude.{List, [], ◌∷◌, ℕ}
-use Rattle.tally_rules.specs.declared.profile.Base.TheVariants.{Valid}
-use Rattle.tally_rules.specs.declared.profile.LotRule.TheVariants.{Fixed}
-use Rattle.tally_rules.specs.declared.profile.Method.{Method}
-use Rattle.tally_rules.specs.declared.profile.Method.TheVariants.{DHondt, SainteLague}
-use Rattle.tally_rules.specs.declared.profile.Method.TheVariants.{ModifiedSainteLague, Hare}
-use Rattle.tally_rules.specs.declared.profile.Profile.{Profile}
+use Rattle.tally_setup.specs.declared.profile.Base.TheVariants.{Valid}
+use Rattle.tally_setup.specs.declared.profile.LotRule.TheVariants.{Fixed}
+use Rattle.tally_setup.specs.declared.profile.Method.{Method}
+use Rattle.tally_setup.specs.declared.profile.Method.TheVariants.{DHondt, SainteLague}
+use Rattle.tally_setup.specs.declared.profile.Method.TheVariants.{ModifiedSainteLague, Hare}
+use Rattle.tally_setup.specs.declared.profile.Profile.{Profile}
 use Rattle.tally_law.specs.Allotment.{IsAllotment}
 use Rattle.tally_law.specs.Rules.{rule_of, poll_of}
 

@@ -2,7 +2,7 @@
 -- proved as a clause of a function of `laws` in `tally_allot`, which has its name.
 use Rattle.std.specs.Prelude.{ℕ, ◌≡◌, ◌≤◌, ◌↔◌, ◌⊎◌, List, [], Bool, true, false, length}
 use Rattle.std.specs.Prelude.{slice_index_or}
-use Rattle.tally_rules.specs.declared.profile.Profile.{Profile}
+use Rattle.tally_setup.specs.declared.profile.Profile.{Profile}
 use Rattle.tally_law.specs.Poll.{Poll, IsEligible, HasEligible, votes_of}
 use Rattle.tally_law.specs.Lot.{IsOrderOf}
 use Rattle.tally_law.specs.Allotment.{Rule, IsAllotment, IsAllotmentByVotes}

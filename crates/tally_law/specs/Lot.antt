@@ -5,8 +5,8 @@ use Rattle.std.specs.Prelude.{ℕ, ◌≡◌, ◌+◌, ◌%◌, ◌<◌, ◌≢�
 use Rattle.std.specs.Prelude.{false, slice_index}
 use Rattle.std.specs.Prelude.{slice_index_or, length, if◌then◌else◌}
 use Rattle.std.specs.List.{list_any}
-use Rattle.tally_rules.specs.declared.profile.LotRule.{LotRule}
-use Rattle.tally_rules.specs.declared.profile.LotRule.TheVariants.{Fixed, Alternating}
+use Rattle.tally_setup.specs.declared.profile.LotRule.{LotRule}
+use Rattle.tally_setup.specs.declared.profile.LotRule.TheVariants.{Fixed, Alternating}
 use Rattle.tally_frac.specs.ListSet.{has_place}
 
 -- the place of list l in a lot whose first has this number, and its place in the setup where the

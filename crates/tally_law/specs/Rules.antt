@@ -2,11 +2,11 @@
 use Rattle.std.specs.Prelude.{ℕ, List, Option, None, Some}
 use Rattle.tally_frac.specs.Divisors.{divisor_of, unit_of}
 use Rattle.tally_frac.specs.declared.divisors.DivisorRule.{DivisorRule}
-use Rattle.tally_rules.specs.Method.{divisor_rule_of}
-use Rattle.tally_rules.specs.Threshold.{eligible_lists}
-use Rattle.tally_rules.specs.declared.profile.LotRule.{LotRule}
-use Rattle.tally_rules.specs.declared.profile.Method.{Method}
-use Rattle.tally_rules.specs.declared.profile.Profile.{Profile}
+use Rattle.tally_setup.specs.Method.{divisor_rule_of}
+use Rattle.tally_setup.specs.Threshold.{eligible_lists}
+use Rattle.tally_setup.specs.declared.profile.LotRule.{LotRule}
+use Rattle.tally_setup.specs.declared.profile.Method.{Method}
+use Rattle.tally_setup.specs.declared.profile.Profile.{Profile}
 use Rattle.tally_law.specs.Poll.{Poll}
 use Rattle.tally_law.specs.Allotment.{Rule, divisors, hare}
 

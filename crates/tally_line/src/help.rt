@@ -170,7 +170,8 @@ Example:
 Exit status:
   0  the office was made
   1  'refused: WORD' on standard error, the first fault of the setup from top
-     to bottom:
+     to bottom, and on the next line its place, where it has one, as
+     'at constituency 1 c1, station 7 s7':
        not_toml           the setup is not TOML, or not UTF-8
        missing KEY        a key is not there, or its array is empty
        bad_value KEY      a value has the wrong type, or is out of range

@@ -1,7 +1,7 @@
 -- An order longer than the lists does not name each list of a group once.
 use Rattle.std.proofs.Common.{◌≡◌, ◌<◌, ◌≤◌, ◌⊎◌, ◌∙◌, ℕ, zero, suc, List, [], ◌∷◌, Bool, true, false, Option, Some, None, MatchOption, Ok, Err, cond, length, get_or, refl, sym, ap, inl, inr, arith}
 use Rattle.std.proofs.lemmas.Bool.{cases_lt, false≢true, false_from_ne_true}
-use Rattle.tally_rules.specs.Constituency.{Constituency}
+use Rattle.tally_setup.specs.Constituency.{Constituency}
 use Rattle.tally_frac.specs.ListSet.{has_place}
 use Rattle.tally_returns.specs.declared.refusal.Refusal.TheVariants.{LotWrongGroup}
 use Rattle.tally_steps.specs.Certification.{drawn_places, list_place, list_places, names_group, with_place}

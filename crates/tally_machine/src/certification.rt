@@ -16,7 +16,7 @@ use crate::list_order::{list_places, names_group};
 use std::alloc::Global;
 use tally_allot::{AllotFault, ListSet, allot};
 use tally_returns::{ConView, LAST_EDITION, Past, Refusal};
-use tally_rules::{Code, Constituency, good_note};
+use tally_setup::{Code, Constituency, good_note};
 
 /// A certificate that is no longer in force.
 #[derive(Debug, Drop)]

@@ -9,7 +9,7 @@ use crate::certification::{certify, draw, reopen};
 use crate::vacancy::vacate;
 use std::alloc::Global;
 use tally_returns::{Ask, Change, ConView, Refusal};
-use tally_rules::Constituency;
+use tally_setup::Constituency;
 
 /// What a command on a constituency changes, or why it is refused: on this constituency, of which
 /// this is seen.

@@ -9,7 +9,8 @@ ghost use Rattle.tally_steps.specs.Holders.{is_among};
 
 use std::alloc::{AllocError, Global};
 use std::marker::Model;
-use tally_rules::{Code, Constituency, ListSet};
+use tally_frac::ListSet;
+use tally_setup::{Code, Constituency};
 
 /// A list: its place in the constituency, from 1, and how many candidates it has.
 #[derive(Drop)]

@@ -10,7 +10,7 @@ use crate::list_order::{Found, list_found};
 use crate::seat_holders::{holders, newcomer};
 use std::alloc::{AllocError, Global};
 use tally_returns::{ConView, Gone, Refusal};
-use tally_rules::{Code, Constituency, good_note};
+use tally_setup::{Code, Constituency, good_note};
 
 /// A seat that was left.
 #[derive(Debug, Drop)]

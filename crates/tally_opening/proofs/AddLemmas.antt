@@ -9,7 +9,7 @@ use Rattle.sqlite_value.specs.Order.{Row}
 use Rattle.sqlite.specs.declared.error.Error.{Error}
 use Rattle.sqlite.specs.State.{State as Seen}
 use Rattle.tally_schema.specs.Rows.{cells}
-use Rattle.tally_rules.specs.Constituency.{Constituency}
+use Rattle.tally_setup.specs.Constituency.{Constituency}
 use Rattle.tally_returns.specs.View.{votes_at, votes_of_lists}
 use Rattle.tally_statements.specs.declared.table.KeyedTable.TheVariants.{Cons, Totals}
 use Rattle.tally_statements.specs.Office.{IsInside, HasRows, rows_in}

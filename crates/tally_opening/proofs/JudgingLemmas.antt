@@ -17,8 +17,8 @@ use Rattle.sqlite.proofs.Callers.{unchanged_then}
 use Rattle.tally_schema.specs.Rows.{HaveDistinctRowids, cells}
 use Rattle.tally_schema.proofs.RisingRowidLemmas.{distinct_shown}
 use Rattle.tally_schema.proofs.RowidLemmas.{distinct_permuted}
-use Rattle.tally_rules.specs.Constituency.{Constituency}
-use Rattle.tally_rules.specs.Limits.{IsSetup}
+use Rattle.tally_setup.specs.Constituency.{Constituency}
+use Rattle.tally_setup.specs.Limits.{IsSetup}
 use Rattle.tally_judge.specs.Numbers.{HasNumbersOfRows, numbers_of}
 use Rattle.tally_judge.specs.OfficeRows.{AreLawfulRows, AreRowsOfOneState, RowsInOrder}
 use Rattle.tally_statements.specs.declared.table.KeyedTable.{KeyedTable}

@@ -8,7 +8,7 @@ use Rattle.sqlite_schema.specs.declared.schema.Schema.{Schema}
 use Rattle.sqlite_trees.specs.Tree.{Trees}
 use Rattle.sqlite_value.specs.declared.value.Value.TheVariants.{Int, Null, Text}
 use Rattle.tally_schema.specs.Rows.{AreRowsOf, HaveDistinctRowids}
-use Rattle.tally_rules.specs.Constituency.{Constituency}
+use Rattle.tally_setup.specs.Constituency.{Constituency}
 use Rattle.tally_rules.specs.Reading.{setup_of_text}
 use Rattle.tally_judge.specs.Numbers.{HasNumbers, numbers_of}
 use Rattle.tally_steps.specs.LawfulState.{IsLawfulState}

@@ -15,11 +15,11 @@ use Rattle.sqlite.specs.State.{State as Seen}
 use Rattle.tally_schema.specs.Rows.{text_cmp, cells, AreRowsOf}
 use Rattle.tally_schema.proofs.EntryLemmas.{other_entries, inserted}
 use Rattle.tally_schema.proofs.RowsLemmas.{text_total, text_exact, none_then_all, with_key_is}
-use Rattle.tally_rules.specs.Constituency.{Constituency}
-use Rattle.tally_rules.specs.Limits.{IsSetup}
+use Rattle.tally_setup.specs.Constituency.{Constituency}
+use Rattle.tally_setup.specs.Limits.{IsSetup}
 use Rattle.tally_rules.specs.Reading.{setup_of_text}
-use Rattle.tally_rules.specs.Setup.{constituency_with}
-use Rattle.tally_rules.specs.declared.constituency.Station.{Station}
+use Rattle.tally_setup.specs.Setup.{constituency_with}
+use Rattle.tally_setup.specs.declared.constituency.Station.{Station}
 use Rattle.tally_returns.specs.Counts.{VoteCounts}
 use Rattle.tally_returns.specs.State.{ConState, con_state, opening, opening_con, opening_cons}
 use Rattle.tally_returns.specs.Return.{StationReturn}

@@ -7,7 +7,7 @@ use Rattle.sqlite.specs.Effect.{Database, IsDatabase}
 use Rattle.sqlite.specs.State.{State as Seen, IsUnchanged}
 use Rattle.sqlite_trees.specs.Tree.{Trees}
 use Rattle.tally_schema.specs.Rows.{HaveDistinctRowids}
-use Rattle.tally_rules.specs.Constituency.{Constituency}
+use Rattle.tally_setup.specs.Constituency.{Constituency}
 use Rattle.tally_tables.specs.declared.views.Statuses.{Statuses}
 use Rattle.tally_steps.specs.LawfulState.{IsLawfulState}
 use Rattle.tally_returns.specs.State.{State}

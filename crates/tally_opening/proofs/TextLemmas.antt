@@ -3,7 +3,7 @@ use Rattle.std.proofs.Common.{◌≡◌, ℕ, Bool, true, false, List, Ok, refl}
 use Rattle.std.specs.Prelude.{nat_lt, length}
 use Rattle.std.specs.Str.{IsUtf8, is_utf8}
 use Rattle.std.proofs.lemmas.Str.{IsUtf8-from_is_utf8}
-use Rattle.tally_rules.specs.Constituency.{Constituency}
+use Rattle.tally_setup.specs.Constituency.{Constituency}
 use Rattle.tally_rules.specs.Reading.{document_of, setup_of_text}
 
 pub setup_is_utf8 : (text : List ℕ) (setup : List Constituency) → setup_of_text text ≡ Ok setup → IsUtf8 text

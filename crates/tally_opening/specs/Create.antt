@@ -4,7 +4,7 @@ use Rattle.std.specs.Prelude.{◌≡◌, ◌≢◌, List, ℕ, IsOk, IsTrue, fal
 use Rattle.sqlite.specs.State.{State as Seen}
 use Rattle.sqlite_schema.specs.declared.schema.Schema.{Schema}
 use Rattle.tally_returns.specs.State.{opening}
-use Rattle.tally_rules.specs.Constituency.{Constituency}
+use Rattle.tally_setup.specs.Constituency.{Constituency}
 use Rattle.tally_rules.specs.Fault.{IsFaultIn}
 use Rattle.tally_rules.specs.Reading.{setup_of_text}
 use Rattle.tally_rules.specs.declared.fault.SetupFault.TheVariants as setup_fault

@@ -4,7 +4,7 @@ use Rattle.sqlite.specs.Effect.{IsDatabase}
 use Rattle.sqlite.specs.State.{State as Seen}
 use Rattle.sqlite_trees.specs.Tree.{Trees}
 use Rattle.tally_schema.specs.Rows.{HaveDistinctRowids}
-use Rattle.tally_rules.specs.Constituency.{Constituency}
+use Rattle.tally_setup.specs.Constituency.{Constituency}
 use Rattle.tally_rules.specs.Reading.{setup_of_text}
 use Rattle.tally_returns.specs.State.{State}
 use Rattle.tally_schema.specs.Tables.{office_schema}

@@ -5,7 +5,7 @@ use Rattle.std.specs.BTreeMap.{BTreeMap}
 use Rattle.sqlite_trees.specs.Tree.{Trees}
 use Rattle.sqlite.specs.Effect.{Database}
 use Rattle.sqlite.specs.State.{State as Seen}
-use Rattle.tally_rules.specs.Constituency.{Constituency}
+use Rattle.tally_setup.specs.Constituency.{Constituency}
 use Rattle.tally_rules.specs.Fault.{IsFaultIn}
 use Rattle.tally_rules.specs.Reading.{setup_of_text}
 use Rattle.tally_rules.specs.declared.fault.SetupFault.TheVariants as setup_fault

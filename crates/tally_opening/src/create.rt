@@ -5,7 +5,7 @@
 ghost use Rattle.std.specs.Prelude.{◌≡◌, ◌↔◌, ◌⊎◌, false, IfErr, IfOk, IsTrue, Ok, OnOk};
 ghost use Rattle.sqlite.specs.Held.{state};
 ghost use Rattle.sqlite_schema.specs.declared.schema.Schema.{Schema};
-ghost use Rattle.tally_rules.specs.Limits.{IsSetup};
+ghost use Rattle.tally_setup.specs.Limits.{IsSetup};
 ghost use Rattle.tally_rules.specs.Reading.{setup_of_text};
 ghost use Rattle.tally_opening.specs.Calls.{OnDisk, Yields};
 ghost use Rattle.tally_opening.specs.Crash.{EndsWhole, LeavesOpening};
@@ -19,8 +19,9 @@ use sqlite_schema::schema::Schema;
 use std::alloc::Global;
 use std::str;
 use tally_keeper::CreateFault;
-use tally_rules::{Setup, SetupFault, read_setup};
+use tally_rules::{SetupFault, read_setup};
 use tally_schema::takes_office_name;
+use tally_setup::Setup;
 use tally_statements::is_memory;
 
 fn create_fault_of(error: &Error) -> CreateFault

@@ -18,8 +18,8 @@ use sqlite::{Alter, Connection, Error, Transaction};
 use std::alloc::Global;
 use std::collections::BTreeMap;
 use tally_keeper::OpenFault;
-use tally_rules::{Code, Setup};
 use tally_schema::create_past;
+use tally_setup::{Code, Setup};
 use tally_statements::update_version;
 use tally_tables::Statuses;
 

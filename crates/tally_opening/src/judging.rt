@@ -13,8 +13,8 @@ use sqlite::{Alter, Error, ErrorCode, Row, Transaction};
 use std::alloc::Global;
 use std::collections::BTreeMap;
 use tally_judge::{OfficeRows, accept_rows};
-use tally_rules::{Code, Setup};
 use tally_schema::rowids_rise;
+use tally_setup::{Code, Setup};
 use tally_statements::{KeyedTable, all_rows, rowids};
 use tally_tables::{ConTables, Statuses};
 

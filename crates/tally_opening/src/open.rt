@@ -16,8 +16,8 @@ use sqlite_schema::schema::Schema;
 use std::alloc::Global;
 use std::collections::BTreeMap;
 use tally_keeper::OpenFault;
-use tally_rules::{Code, Setup};
 use tally_schema::{has_former_tables, has_past, is_former_schema, is_office_schema};
+use tally_setup::{Code, Setup};
 use tally_tables::Statuses;
 
 /// Whether the tables are those of today, or those of version 1.

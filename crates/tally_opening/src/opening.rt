@@ -22,8 +22,9 @@ use sqlite::{Alter, Connection, Error, ErrorCode, Row, Transaction};
 use std::alloc::Global;
 use std::collections::BTreeMap;
 use tally_keeper::OpenFault;
-use tally_rules::{Code, Setup, SetupFault, read_setup};
+use tally_rules::{SetupFault, read_setup};
 use tally_schema::{number_at, text_at};
+use tally_setup::{Code, Setup};
 use tally_statements::{all_setup, is_memory};
 use tally_tables::Statuses;
 

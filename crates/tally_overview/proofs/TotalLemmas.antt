@@ -14,8 +14,8 @@ use Rattle.std.proofs.lemmas.List.Folds.{list_any-append}
 use Rattle.std.proofs.lemmas.List.Sums.{sum_by_more}
 use Rattle.std.proofs.lemmas.Map.Text.{is_eq-slice_cmp}
 use Rattle.std.proofs.lemmas.Slice.Eq.{bytes_eq-Decides}
-use Rattle.tally_rules.specs.Code.{code_cmp}
-use Rattle.tally_rules.specs.Constituency.{Constituency, ListEntry}
+use Rattle.tally_setup.specs.Code.{code_cmp}
+use Rattle.tally_setup.specs.Constituency.{Constituency, ListEntry}
 use Rattle.tally_frac.specs.Limits.{most_votes}
 use Rattle.tally_returns.specs.View.{FitsView, View}
 use Rattle.tally_overview.specs.CountryText.{all_lists, certified_seats, country_line, firsts, list_line, seats_in, sum_of_code, sum_over, votes_in}

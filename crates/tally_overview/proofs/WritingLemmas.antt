@@ -10,7 +10,7 @@ use Rattle.std.proofs.lemmas.List.Concat.{flat_map-append}
 use Rattle.csv.specs.Writing.{default_writer, escaped, field_text, fields_text, fields_written, has_written, is_blank, needs_quotes, row_text, text_written, with_flexible, writer_setup}
 use Rattle.csv.specs.declared.writer.Writer.{Writer}
 use Rattle.csv.specs.declared.writer.WriterBuilder.{WriterBuilder}
-use Rattle.tally_rules.specs.Constituency.{Constituency}
+use Rattle.tally_setup.specs.Constituency.{Constituency}
 use Rattle.tally_returns.specs.Return.{StationReturn}
 use Rattle.tally_returns.specs.declared.station_row.StationRow.{StationRow}
 use Rattle.tally_overview.specs.ReturnsText.{header_fields, record_of, return_fields, returns_text}

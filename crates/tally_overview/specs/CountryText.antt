@@ -14,7 +14,7 @@ use Rattle.std.specs.Prelude.{count_by, sum_by, filter, if◌then◌else◌}
 use Rattle.std.specs.Fmt.{decimal}
 use Rattle.std.specs.List.{flat_map}
 use Rattle.std.specs.Str.{bytes_eq}
-use Rattle.tally_rules.specs.Constituency.{Constituency, ListEntry}
+use Rattle.tally_setup.specs.Constituency.{Constituency, ListEntry}
 use Rattle.tally_returns.specs.View.{View}
 use Rattle.tally_report.specs.Columns.{code_width, left_cell, line_end, number}
 

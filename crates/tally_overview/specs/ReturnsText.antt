@@ -8,7 +8,7 @@ use Rattle.std.specs.Fmt.{decimal}
 use Rattle.std.specs.List.{flat_map}
 use Rattle.std.specs.Option.{option_map_or}
 use Rattle.csv.specs.Writing.{default_writer, row_text}
-use Rattle.tally_rules.specs.Constituency.{Constituency, list_codes}
+use Rattle.tally_setup.specs.Constituency.{Constituency, list_codes}
 use Rattle.tally_returns.specs.Return.{StationReturn}
 use Rattle.tally_returns.specs.declared.station_row.StationRow.{StationRow}
 

@@ -1,7 +1,7 @@
 -- What is shown of an office, by its name on the command line.
 use Rattle.std.specs.Prelude.{ℕ, Bool, true, false, if◌then◌else◌, List, Option, Some, bytes_eq}
 use Rattle.std.specs.Prelude.{codes, option_map}
-use Rattle.tally_rules.specs.Constituency.{Constituency}
+use Rattle.tally_setup.specs.Constituency.{Constituency}
 use Rattle.tally_returns.specs.declared.station_row.StationRow.{StationRow}
 use Rattle.tally_report.specs.Reports.{report_named}
 use Rattle.tally_overview.specs.ReturnsText.{returns_text}

@@ -6,10 +6,10 @@ ghost use Rattle.std.specs.BTreeMap.{get};
 ghost use Rattle.std.specs.List.{AllZip};
 ghost use Rattle.tally_frac.specs.Limits.{most_lists, most_votes};
 ghost use Rattle.tally_returns.specs.View.{FitsView};
-ghost use Rattle.tally_rules.specs.Code.{code_cmp};
-ghost use Rattle.tally_rules.specs.Constituency as value;
-ghost use Rattle.tally_rules.specs.Limits.{most_constituencies};
-ghost use Rattle.tally_rules.specs.Threshold.{IsWithinVotes};
+ghost use Rattle.tally_setup.specs.Code.{code_cmp};
+ghost use Rattle.tally_setup.specs.Constituency as value;
+ghost use Rattle.tally_setup.specs.Limits.{most_constituencies};
+ghost use Rattle.tally_setup.specs.Threshold.{IsWithinVotes};
 ghost use Rattle.tally_overview.specs.CountryText.{all_lists, certified_seats, country_text};
 ghost use Rattle.tally_overview.specs.CountryText.{list_line, numbers_line, pair_line};
 ghost use Rattle.tally_overview.specs.internal.Totals.{AreAdded, AreTotals, AreWithin, AreWithinOf};
@@ -23,7 +23,7 @@ use std::alloc::{AllocError, Global};
 use std::collections::BTreeMap;
 use tally_report::{CODE_WIDTH, ReportFault, push_left, push_number};
 use tally_returns::ConView;
-use tally_rules::{Code, Constituency, ListEntry};
+use tally_setup::{Code, Constituency, ListEntry};
 
 /// The seats and the votes of a list over constituencies.
 #[derive(Clone, Copy)]

@@ -5,7 +5,7 @@ ghost use Rattle.std.specs.Fmt.{decimal};
 ghost use Rattle.std.specs.List.{flat_map};
 ghost use Rattle.csv.specs.Records.{fields_of};
 ghost use Rattle.csv.specs.Writing.{default_writer, row_text};
-ghost use Rattle.tally_rules.specs.Constituency.{list_codes};
+ghost use Rattle.tally_setup.specs.Constituency.{list_codes};
 ghost use Rattle.tally_overview.specs.ReturnsText.{header_fields, record_of, return_fields};
 ghost use Rattle.tally_overview.specs.ReturnsText.{returns_text};
 ghost use Rattle.tally_overview.specs.internal.Writing.{HasWritten};
@@ -16,7 +16,7 @@ use itoa::Buffer;
 use std::alloc::{AllocError, Global};
 use tally_report::ReportFault;
 use tally_returns::{Return, StationRow};
-use tally_rules::{Code, Constituency, ListEntry};
+use tally_setup::{Code, Constituency, ListEntry};
 
 /// The returns of a constituency as CSV, which an import takes: a header, then a row for each
 /// station that has a return, whatever its status. The text is ASCII.

@@ -9,7 +9,7 @@ use crate::stations::stations_text;
 use std::alloc::Global;
 use tally_report::{Report, ReportFault};
 use tally_returns::StationRow;
-use tally_rules::Constituency;
+use tally_setup::Constituency;
 
 /// The reports of a constituency that are made of its stations.
 #[derive(Clone, Copy, Debug, PartialEq, Eq)]

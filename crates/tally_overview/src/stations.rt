@@ -10,7 +10,7 @@ ghost use Rattle.tally_report.specs.declared.fault.ReportFault.TheVariants.{Memo
 use std::alloc::{AllocError, Global};
 use tally_report::{CODE_WIDTH, ReportFault, push_heading, push_left, push_number};
 use tally_returns::{Return, StationRow, Status};
-use tally_rules::Constituency;
+use tally_setup::Constituency;
 
 /// How many stations a constituency has, how many of them have no return, and how many a closed
 /// one; then a line for each station, with its return where it has one.
@@ -30,7 +30,8 @@ pub fn stations_text(
 }
 
 fn push_counts(text: &mut String, rows: &[StationRow]) -> Result<(), AllocError>
-    ensures { OnOk result (string_bytes text.new ≡ string_bytes text.old ++ counts_line rows.now) }
+    ensures { OnOk result
+        (string_bytes text.new ≡ string_bytes text.old ++ counts_line rows.now) }
 {
     let (stations, missing, closed) = (rows.len(), missing(rows), closed(rows));
     writeln!(

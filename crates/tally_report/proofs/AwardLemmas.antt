@@ -17,9 +17,9 @@ use Rattle.tally_law.specs.Poll.{IsEligible}
 use Rattle.tally_law.specs.Rules.{rule_with}
 use Rattle.tally_steps.specs.Outcome.{HasSeats, IsLawfulView, poll_in, rule_in}
 use Rattle.tally_returns.specs.View.{View}
-use Rattle.tally_rules.specs.Constituency.{Constituency}
-use Rattle.tally_rules.specs.Threshold.{base_of, is_eligible}
-use Rattle.tally_rules.specs.declared.profile.LotRule.{LotRule}
+use Rattle.tally_setup.specs.Constituency.{Constituency}
+use Rattle.tally_setup.specs.Threshold.{base_of, is_eligible}
+use Rattle.tally_setup.specs.declared.profile.LotRule.{LotRule}
 use Rattle.tally_report.specs.internal.Awards.{IsAwardIn}
 
 -- what is said of the parts that awards are made of, said of equal ones

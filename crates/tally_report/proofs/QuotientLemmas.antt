@@ -9,7 +9,7 @@ use Rattle.tally_law.specs.Allotment.{IsAllotment, Rule, divisors, hare}
 use Rattle.tally_law.specs.Poll.{Poll}
 use Rattle.tally_steps.specs.Outcome.{HasSeats, IsLawfulView, poll_in, rule_in}
 use Rattle.tally_returns.specs.View.{View}
-use Rattle.tally_rules.specs.Constituency.{Constituency}
+use Rattle.tally_setup.specs.Constituency.{Constituency}
 use Rattle.tally_report.specs.QuotientsText.{greatest_of}
 
 -- one more number

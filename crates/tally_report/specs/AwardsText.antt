@@ -6,7 +6,7 @@
 --        2 A                  1           100     1         100
 --        3 B                  2           100     2          50
 use Rattle.std.specs.Prelude.{◌≡◌, ℕ, ◌-◌, ◌/◌, ◌++◌, List, [], slice_index_or, codes}
-use Rattle.tally_rules.specs.Constituency.{Constituency, list_codes}
+use Rattle.tally_setup.specs.Constituency.{Constituency, list_codes}
 use Rattle.tally_allot.specs.Awards.{AreAwardsBy}
 use Rattle.tally_allot.specs.declared.award.Award.{Award}
 use Rattle.tally_returns.specs.View.{View}

@@ -4,8 +4,8 @@
 use Rattle.std.specs.Prelude.{ℕ, ◌+◌, ◌-◌, ◌++◌, Bool, false, List, [], ◌∷◌, length, replicate}
 use Rattle.std.specs.Prelude.{slice_index_or, codes}
 use Rattle.std.specs.Fmt.{decimal}
-use Rattle.tally_rules.specs.Constituency.{Constituency, ListEntry}
-use Rattle.tally_rules.specs.Threshold.{eligible_lists}
+use Rattle.tally_setup.specs.Constituency.{Constituency, ListEntry}
+use Rattle.tally_setup.specs.Threshold.{eligible_lists}
 use Rattle.tally_returns.specs.View.{View}
 
 -- so many spaces

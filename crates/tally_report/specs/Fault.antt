@@ -2,8 +2,8 @@
 use Rattle.std.specs.Prelude.{◌≡◌, ℕ, Bool, true, false, Option, Some, None, Result, Err, IfErr}
 use Rattle.tally_returns.specs.View.{View}
 use Rattle.tally_frac.specs.declared.divisors.DivisorRule.{DivisorRule}
-use Rattle.tally_rules.specs.Constituency.{Constituency}
-use Rattle.tally_rules.specs.Method.{divisor_rule_of}
+use Rattle.tally_setup.specs.Constituency.{Constituency}
+use Rattle.tally_setup.specs.Method.{divisor_rule_of}
 use Rattle.tally_report.specs.declared.fault.ReportFault.{ReportFault}
 use Rattle.tally_report.specs.declared.fault.ReportFault.TheVariants.{NotCertified, OtherMethod}
 use Rattle.tally_report.specs.declared.fault.ReportFault.TheVariants.{Memory}

@@ -8,7 +8,7 @@
 use Rattle.std.specs.Prelude.{ℕ, ◌+◌, ◌-◌, ◌++◌, List, [], length, slice_index, slice_index_or}
 use Rattle.std.specs.Prelude.{codes}
 use Rattle.std.specs.List.{flat_map, repeat}
-use Rattle.tally_rules.specs.Constituency.{Constituency, ListEntry}
+use Rattle.tally_setup.specs.Constituency.{Constituency, ListEntry}
 use Rattle.tally_returns.specs.View.{View}
 use Rattle.tally_steps.specs.Certification.{gone_of}
 use Rattle.tally_steps.specs.Holders.{holders}

@@ -8,7 +8,7 @@
 use Rattle.std.specs.Prelude.{ℕ, ◌++◌, false, List, [], slice_index, slice_index_or, if◌then◌else◌}
 use Rattle.std.specs.Prelude.{codes}
 use Rattle.std.specs.Fmt.{decimal}
-use Rattle.tally_rules.specs.Constituency.{Constituency, ListEntry}
+use Rattle.tally_setup.specs.Constituency.{Constituency, ListEntry}
 use Rattle.tally_law.specs.HareAllotment.{whole_quotas, remainder}
 use Rattle.tally_law.specs.Poll.{Poll, eligible_votes, votes_of}
 use Rattle.tally_returns.specs.View.{View}

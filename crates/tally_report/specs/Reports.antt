@@ -1,7 +1,7 @@
 -- The reports of a constituency: their names, the text of each, and where it is not given.
 use Rattle.std.specs.Prelude.{◌≡◌, ℕ, Bool, true, false, if◌then◌else◌, IsTrue, List, Option, Some}
 use Rattle.std.specs.Prelude.{None, bytes_eq, codes}
-use Rattle.tally_rules.specs.Constituency.{Constituency}
+use Rattle.tally_setup.specs.Constituency.{Constituency}
 use Rattle.tally_returns.specs.View.{View}
 use Rattle.tally_steps.specs.Outcome.{IsLawfulView}
 use Rattle.tally_report.specs.AwardsText.{IsAwardsText}

@@ -7,7 +7,7 @@
 --     total               3
 use Rattle.std.specs.Prelude.{ℕ, ◌++◌, List, slice_index, codes}
 use Rattle.std.specs.Fmt.{decimal}
-use Rattle.tally_rules.specs.Constituency.{Constituency, ListEntry}
+use Rattle.tally_setup.specs.Constituency.{Constituency, ListEntry}
 use Rattle.tally_returns.specs.View.{View}
 use Rattle.tally_report.specs.Columns.{code_width, heading, left_cell, line_end, list_lines, number}
 

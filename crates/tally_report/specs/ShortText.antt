@@ -6,7 +6,7 @@
 --     B                   2         200
 use Rattle.std.specs.Prelude.{◌≡◌, ℕ, ◌++◌, Option, Some, None, List, [], slice_index}
 use Rattle.std.specs.Prelude.{slice_index_or, if◌then◌else◌, codes}
-use Rattle.tally_rules.specs.Constituency.{Constituency, ListEntry}
+use Rattle.tally_setup.specs.Constituency.{Constituency, ListEntry}
 use Rattle.tally_allot.specs.VotesShort.{AreVotesShort}
 use Rattle.tally_steps.specs.Outcome.{poll_in, rule_in}
 use Rattle.tally_returns.specs.View.{View}

@@ -10,8 +10,8 @@ use Rattle.std.specs.Prelude.{ℕ, ◌+◌, ◌*◌, ◌/◌, ◌%◌, ◌++◌,
 use Rattle.std.specs.Prelude.{slice_index, sum, if◌then◌else◌, codes}
 use Rattle.std.specs.Fmt.{decimal}
 use Rattle.tally_frac.specs.Limits.{whole_base}
-use Rattle.tally_rules.specs.Constituency.{Constituency, ListEntry}
-use Rattle.tally_rules.specs.Threshold.{base_of}
+use Rattle.tally_setup.specs.Constituency.{Constituency, ListEntry}
+use Rattle.tally_setup.specs.Threshold.{base_of}
 use Rattle.tally_returns.specs.View.{View}
 use Rattle.tally_report.specs.Columns.{code_width, heading, is_eligible_at, left_cell, line_end}
 use Rattle.tally_report.specs.Columns.{list_lines, number, right_cell}

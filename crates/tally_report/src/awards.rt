@@ -2,7 +2,7 @@
 
 ghost use Rattle.std.specs.Prelude.{◌≡◌, ◌≢◌, ℕ, ◌<◌, true, ◌++◌, IfOk, IfErr, OnOk, length};
 ghost use Rattle.std.specs.Prelude.{slice_index_or, string_bytes};
-ghost use Rattle.tally_rules.specs.declared.profile.Method.TheVariants.{Hare as by_hare};
+ghost use Rattle.tally_setup.specs.declared.profile.Method.TheVariants.{Hare as by_hare};
 ghost use Rattle.tally_allot.specs.Awards.{AreAwardsBy};
 ghost use Rattle.tally_allot.specs.declared.award.Award.{Award as award_type};
 ghost use Rattle.tally_steps.specs.Outcome.{IsLawfulView, poll_in, rule_in};
@@ -19,7 +19,7 @@ use crate::lots::laws_of_lots;
 use std::alloc::{AllocError, Global};
 use tally_allot::{AllotFault, Award, awards};
 use tally_returns::ConView;
-use tally_rules::Constituency;
+use tally_setup::Constituency;
 
 /// The seats of a certified constituency in the order of their award, each with its quotient, under
 /// a divisor rule (LOREG article 163.1 c)).

@@ -4,7 +4,7 @@ ghost use Rattle.std.specs.Prelude.{◌≡◌, ◌++◌, OnOk, string_bytes};
 ghost use Rattle.tally_report.specs.Columns.{heading, left_cell, number, spaces};
 
 use std::alloc::AllocError;
-use tally_rules::Constituency;
+use tally_setup::Constituency;
 
 /// The places of a column of codes: as many as the longest code has bytes.
 pub const CODE_WIDTH: usize = 16;

@@ -16,7 +16,7 @@ use crate::fault::ReportFault;
 use std::alloc::{AllocError, Global};
 use tally_machine::holders;
 use tally_returns::ConView;
-use tally_rules::{Constituency, ListEntry};
+use tally_setup::{Constituency, ListEntry};
 
 /// The candidate who holds each seat of a certified constituency, and the seats that are empty
 /// because their list has no more candidates (LOREG articles 163.1 e) and 164.1).

@@ -11,7 +11,7 @@ use crate::fault::ReportFault;
 use crate::seats::push_certificate;
 use std::alloc::{AllocError, Global};
 use tally_returns::{ConView, Past};
-use tally_rules::Constituency;
+use tally_setup::Constituency;
 
 /// The seats of each certificate of a constituency that was reopened, in order of edition. There is
 /// a text of a constituency that was never certified, too: its first line.

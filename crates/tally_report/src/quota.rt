@@ -13,7 +13,7 @@ use crate::fault::ReportFault;
 use std::alloc::{AllocError, Global};
 use tally_contest::{HareContest, Poll};
 use tally_returns::ConView;
-use tally_rules::{Constituency, ListEntry};
+use tally_setup::{Constituency, ListEntry};
 
 /// The eligible votes and the seats of a certified constituency, and the whole quotas, remainder
 /// and seats of each eligible list, under Hare's rule.

@@ -10,14 +10,14 @@ ghost use Rattle.tally_report.specs.Columns.{list_lines};
 ghost use Rattle.tally_report.specs.QuotientsText.{greatest_of, quotient_column, quotients_by};
 ghost use Rattle.tally_report.specs.QuotientsText.{quotients_line, quotients_text};
 ghost use Rattle.tally_report.specs.declared.fault.ReportFault.TheVariants.{Memory};
-ghost use Rattle.tally_rules.specs.Threshold.{eligible_lists};
+ghost use Rattle.tally_setup.specs.Threshold.{eligible_lists};
 
 use crate::column::{CODE_WIDTH, push_heading, push_left, push_number};
 use crate::fault::ReportFault;
 use std::alloc::{AllocError, Global};
 use tally_frac::{Divisors, MOST_SEATS};
 use tally_returns::ConView;
-use tally_rules::{Constituency, ListEntry, eligible};
+use tally_setup::{Constituency, ListEntry, eligible};
 
 /// The quotients of the eligible lists of a certified constituency under a divisor rule, rounded
 /// down, up to one more than the most seats that a list has. A star is put before each that won a
@@ -50,8 +50,9 @@ fn text_by<D: Divisors>(
 ) -> Result<String, ReportFault>
     requires view { FitsView con.now view.now }
     requires seats { length view.now.seats ≡ length con.now.lists }
-    ensures text { IfOk result (λ text. greatest_of view.now.seats ≤ most_seats → string_bytes text
-        ≡ quotients_by (D.divisor divisors.now) (D.unit_of divisors.now) con.now view.now) }
+    ensures text { IfOk result (λ text. greatest_of view.now.seats ≤ most_seats →
+        string_bytes text ≡
+        quotients_by (D.divisor divisors.now) (D.unit_of divisors.now) con.now view.now) }
     ensures fault { IfErr result (λ fault. fault ≡ Memory) }
 {
     let marks = eligible(alloc, &con.profile, &view.votes, view.blank)?;

@@ -11,7 +11,7 @@ use crate::{
 };
 use std::alloc::Global;
 use tally_returns::ConView;
-use tally_rules::Constituency;
+use tally_setup::Constituency;
 
 /// The reports of a constituency. The progress, which is of all constituencies, is not one of them.
 #[derive(Clone, Copy, Debug, PartialEq, Eq)]

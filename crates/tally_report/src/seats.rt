@@ -10,7 +10,7 @@ use crate::column::{CODE_WIDTH, push_heading, push_left, push_number};
 use crate::fault::ReportFault;
 use std::alloc::{AllocError, Global};
 use tally_returns::ConView;
-use tally_rules::{Constituency, ListEntry};
+use tally_setup::{Constituency, ListEntry};
 
 /// The seats of each list of a certified constituency, and of the constituency.
 pub fn seats_text(alloc: Global, con: &Constituency, view: &ConView) -> Result<String, ReportFault>

@@ -2,8 +2,8 @@
 
 ghost use Rattle.std.specs.Prelude.{◌≡◌, ◌≢◌, true, ◌++◌, IfOk, IfErr, OnOk, None, length};
 ghost use Rattle.std.specs.Prelude.{slice_index_or, string_bytes};
-ghost use Rattle.tally_rules.specs.Threshold.{eligible_lists};
-ghost use Rattle.tally_rules.specs.declared.profile.Method.TheVariants.{Hare as by_hare};
+ghost use Rattle.tally_setup.specs.Threshold.{eligible_lists};
+ghost use Rattle.tally_setup.specs.declared.profile.Method.TheVariants.{Hare as by_hare};
 ghost use Rattle.tally_steps.specs.Outcome.{IsLawfulView};
 ghost use Rattle.tally_returns.specs.View.{FitsView};
 ghost use Rattle.tally_report.specs.Fault.{IsRefused, divisors_fault};
@@ -18,7 +18,7 @@ use crate::lots::laws_of_lots;
 use std::alloc::{AllocError, Global};
 use tally_allot::{AllotFault, votes_short};
 use tally_returns::ConView;
-use tally_rules::{Constituency, ListEntry, eligible};
+use tally_setup::{Constituency, ListEntry, eligible};
 
 /// The seats of each eligible list of a certified constituency under a divisor rule, and how many
 /// more votes it needs for one more; a dash where it has all seats.

@@ -2,7 +2,7 @@
 
 ghost use Rattle.std.specs.Prelude.{◌≡◌, ◌≤◌, ◌<◌, ◌*◌, ◌++◌, IfOk, IfErr, OnOk, sum, string_bytes};
 ghost use Rattle.tally_frac.specs.Limits.{most_votes};
-ghost use Rattle.tally_rules.specs.Threshold.{IsWithinVotes, base_of, eligible_lists};
+ghost use Rattle.tally_setup.specs.Threshold.{IsWithinVotes, base_of, eligible_lists};
 ghost use Rattle.tally_returns.specs.View.{FitsView};
 ghost use Rattle.tally_report.specs.Columns.{list_lines, right_cell};
 ghost use Rattle.tally_report.specs.TallyText.{hundredths, share, tally_columns, tally_line};
@@ -14,7 +14,7 @@ use crate::fault::ReportFault;
 use std::alloc::{AllocError, Global};
 use tally_frac::WHOLE_BASE;
 use tally_returns::ConView;
-use tally_rules::{Base, Constituency, ListEntry, eligible};
+use tally_setup::{Base, Constituency, ListEntry, eligible};
 
 /// The votes of the closed returns of a constituency: how many of its stations are closed, the
 /// valid, blank and spoiled votes, and of each list its votes, their share in the base of the

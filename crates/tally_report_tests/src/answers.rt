@@ -2,14 +2,14 @@
 
 ghost use Rattle.std.specs.Prelude.{◌≡◌, ◌≢◌};
 ghost use Rattle.tally_law.specs.Conditions.{AreLimitsKept};
-ghost use Rattle.tally_rules.specs.declared.profile.Method.TheVariants.{Hare};
+ghost use Rattle.tally_setup.specs.declared.profile.Method.TheVariants.{Hare};
 
 use crate::polls::{Poll, are_limits_kept, numbers, poll_of};
 use std::alloc::{AllocError, Global};
 use tally_allot::{
     AllotFault, ListSet, allot, awards, is_allotment, lot_need, quotas, votes_short,
 };
-use tally_rules::Method;
+use tally_setup::Method;
 
 /// `lot of 1 2 for 1`: the places of the lists of a group, and the seats in question.
 fn lot_text(alloc: Global, group: &ListSet, seats: u32) -> Result<String, AllocError> {

@@ -1,5 +1,5 @@
 //! Tests of `tally_report` and of the crates below it that have the rules: `tally_frac`,
-//! `tally_rules` and `tally_allot`. They are checked once, over the finished proofs of these
+//! `tally_setup` and `tally_allot`. They are checked once, over the finished proofs of these
 //! crates. Nothing here is public, so there are no must-fail edits.
 #![tactic(auto)]
 

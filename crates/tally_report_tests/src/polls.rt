@@ -4,7 +4,7 @@ ghost use Rattle.std.specs.Prelude.{◌+◌, ◌≤◌, IsTrue, sum};
 ghost use Rattle.tally_law.specs.Conditions.{AreLimitsKept};
 
 use std::alloc::{AllocError, Global};
-use tally_rules::{Base, LotRule, Method, Profile};
+use tally_setup::{Base, LotRule, Method, Profile};
 
 /// A poll, and the places of a lot.
 #[derive(Drop)]

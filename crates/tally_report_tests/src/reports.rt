@@ -4,7 +4,7 @@ use crate::views::{PROVINCE, THREE_LISTS, TWIN_TOWN, check, check_text};
 use std::test::*;
 use tally_report::progress_text;
 use tally_returns::ProgressRow;
-use tally_rules::Code;
+use tally_setup::Code;
 
 // Two lists of 100 votes each, a lot by which B is first, and three seats.
 const OPEN: &str = "1 1 1: 100 100: 0 0: : : ";

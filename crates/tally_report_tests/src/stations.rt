@@ -5,7 +5,8 @@ use std::alloc::Global;
 use std::test::*;
 use tally_overview::{returns_text, stations_text};
 use tally_returns::{Counts, Return, StationRow, Status};
-use tally_rules::{Code, Constituency, read_setup};
+use tally_rules::read_setup;
+use tally_setup::{Code, Constituency};
 
 // One station, its return closed; the same without a return.
 const CLOSED: &str = "s1 300 closed 2 p1: 100 100: 0 0";

@@ -1,10 +1,10 @@
 //! Which lists take part.
 
-ghost use Rattle.tally_rules.specs.Threshold.{IsWithinVotes};
+ghost use Rattle.tally_setup.specs.Threshold.{IsWithinVotes};
 
 use std::alloc::{AllocError, Global};
 use std::test::Fail;
-use tally_rules::{Base, LotRule, Method, Profile, eligible};
+use tally_setup::{Base, LotRule, Method, Profile, eligible};
 
 /// Whether of three lists the first two are eligible and the last is not.
 fn last_is_out(alloc: Global, base: Base, votes: [u64; 3], blank: u64) -> Result<bool, AllocError>

@@ -8,7 +8,8 @@ use std::alloc::{AllocError, Global};
 use std::test::Fail;
 use tally_report::{Report, ReportFault, report_text};
 use tally_returns::{ConView, Gone, Past};
-use tally_rules::{Constituency, read_setup};
+use tally_rules::read_setup;
+use tally_setup::Constituency;
 
 /// One constituency of two lists and one station, by D'Hondt.
 pub(crate) const TWIN_TOWN: &str = r#"[[profile]]

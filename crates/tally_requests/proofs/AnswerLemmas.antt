@@ -1,6 +1,6 @@
 -- What is answered to a request on a constituency, and to the one that
 -- shows how far constituencies have come, in a transaction.
-use Rattle.std.proofs.Common.{◌≡◌, ◌≢◌, ◌∙◌, ◌⊎◌, ◌+◌, ◌++◌, ◌∷◌, ◌<◌, ℕ, List, [], Bool, Option, Some, None, Result, Ok, Err, IfOk, inl, inr, length, refl, sym, ap, subst, map, take}
+use Rattle.std.proofs.Common.{◌≡◌, ◌≢◌, ◌∙◌, ◌⊎◌, ◌+◌, ◌++◌, ◌∷◌, ◌<◌, ℕ, List, [], Bool, Option, Some, None, Result, Ok, Err, IfOk, OnOk, inl, inr, length, refl, sym, ap, subst, map, take}
 use Rattle.std.specs.Prelude.{is_some, slice_index_or}
 use Rattle.std.specs.FinMap.{get, insert}
 use Rattle.std.specs.List.Sorted.{IsPermutation}
@@ -17,9 +17,9 @@ use Rattle.tally_statements.proofs.StaysLemmas.{stays-then}
 use Rattle.tally_statements.specs.declared.table.KeyedTable.TheVariants.{Cons}
 use Rattle.tally_schema.specs.Rows.{cells}
 use Rattle.tally_entries.proofs.FindLemmas.{inside_still}
-use Rattle.tally_rules.specs.Constituency.{Constituency}
-use Rattle.tally_rules.specs.Limits.{IsSetup}
-use Rattle.tally_rules.specs.Setup.{constituency_with}
+use Rattle.tally_setup.specs.Constituency.{Constituency}
+use Rattle.tally_setup.specs.Limits.{IsSetup}
+use Rattle.tally_setup.specs.Setup.{constituency_with}
 use Rattle.tally_returns.specs.Named.{con_named}
 use Rattle.tally_returns.specs.Progress.{progress, progress_row}
 use Rattle.tally_returns.specs.Return.{Returns}
@@ -50,6 +50,11 @@ use Rattle.tally_requests.specs.internal.Known.{AreKnown, Known}
 use Rattle.tally_requests.proofs.KnownLemmas.{con-returns, known-remembered, seen-statuses, shown-returns}
 use Rattle.tally_requests.specs.internal.Seen.{CarriesOutSeen, IsStill, shows_con}
 use Rattle.tally_requests.proofs.RecordLemmas.{decides-whole, refusal-whole, shown-only, whole-view}
+
+-- what holds anyway holds of an answer
+pub on-answer : {X E P : Type 0} (r : Result X E) → P → OnOk r P
+on-answer (Ok x) p = p
+on-answer (Err e) p = tt
 
 -- ---- requests on a constituency
 

@@ -1,9 +1,9 @@
 -- A Lodge, as a step and as a row of an import.
 use Rattle.std.proofs.Common.{◌≡◌, ◌∙◌, ℕ, List, Some, Result, Ok, inl, refl, sym, ap, subst, true}
 use Rattle.sqlite.specs.State.{State as Seen}
-use Rattle.tally_rules.specs.Code.{is_code}
-use Rattle.tally_rules.specs.Constituency.{Constituency}
-use Rattle.tally_rules.specs.Limits.{IsSetup}
+use Rattle.tally_setup.specs.Code.{is_code}
+use Rattle.tally_setup.specs.Constituency.{Constituency}
+use Rattle.tally_setup.specs.Limits.{IsSetup}
 use Rattle.tally_returns.specs.Counts.{VoteCounts}
 use Rattle.tally_returns.specs.Reply.{as_reply}
 use Rattle.tally_returns.specs.State.{State, stations_of}

@@ -8,12 +8,12 @@ use Rattle.std.specs.Ordering.{eq_by_cmp}
 use Rattle.std.proofs.lemmas.Bool.{and_parts, eqb-true}
 use Rattle.sqlite.specs.State.{State as Seen, HasCleanDisk, IsUnchanged}
 use Rattle.tally_schema.specs.Rows.{AreRowsOf}
-use Rattle.tally_rules.specs.Code.{code_cmp}
-use Rattle.tally_rules.specs.Constituency.{Constituency}
-use Rattle.tally_rules.specs.Limits.{IsSetup}
-use Rattle.tally_rules.specs.Setup.{constituency_with, station_with}
-use Rattle.tally_rules.specs.declared.constituency.Entry.TheVariants.{Single}
-use Rattle.tally_rules.specs.declared.constituency.Station.{Station}
+use Rattle.tally_setup.specs.Code.{code_cmp}
+use Rattle.tally_setup.specs.Constituency.{Constituency}
+use Rattle.tally_setup.specs.Limits.{IsSetup}
+use Rattle.tally_setup.specs.Setup.{constituency_with, station_with}
+use Rattle.tally_setup.specs.declared.constituency.Entry.TheVariants.{Single}
+use Rattle.tally_setup.specs.declared.constituency.Station.{Station}
 use Rattle.tally_law.specs.Rules.{poll_of, rule_of}
 use Rattle.tally_law.specs.LotNeed.{IsAllotmentUnderLot}
 use Rattle.tally_returns.specs.Checks.{check, first_refusal, refused_or}
@@ -149,6 +149,11 @@ still setup text s old new same inside tables = record {
 pub answer-at : (setup : List Constituency) (returns : Returns) (station slip : List ℕ) (counts : VoteCounts) (con : Constituency) (place : Station) → station_with station setup ≡ Some (con, place)
     → reply_at_station (limits_of con place) (get returns station) slip counts ≡ lodge_answer (stations_of setup) returns station slip counts
 answer-at setup returns station slip counts con place is =
+    ap (λ found. reply_at_code (option_map (λ (p : Constituency × Station). limits_of p.0 p.1) found) (get returns station) slip counts) (sym is)
+
+-- and at a code that is no station
+pub answer-nowhere : (setup : List Constituency) (returns : Returns) (station slip : List ℕ) (counts : VoteCounts) → station_with station setup ≡ None → Err NoStation ≡ lodge_answer (stations_of setup) returns station slip counts
+answer-nowhere setup returns station slip counts is =
     ap (λ found. reply_at_code (option_map (λ (p : Constituency × Station). limits_of p.0 p.1) found) (get returns station) slip counts) (sym is)
 
 -- what was decided of what was found is what is answered

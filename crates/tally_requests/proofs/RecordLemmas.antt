@@ -1,7 +1,7 @@
 -- The certificates on record of a constituency decide nothing.
 use Rattle.std.proofs.Common.{◌≡◌, List, Bool, true, false, Option, Some, None, Result, Ok, Err, ℕ, inl, inr, ap, refl, subst}
 use Rattle.std.specs.Prelude.{string_bytes}
-use Rattle.tally_rules.specs.Constituency.{Constituency}
+use Rattle.tally_setup.specs.Constituency.{Constituency}
 use Rattle.tally_returns.specs.Checks.{first_refusal}
 use Rattle.tally_returns.specs.GoneCandidate.{GoneCandidate}
 use Rattle.tally_returns.specs.PastSeats.{PastSeats}

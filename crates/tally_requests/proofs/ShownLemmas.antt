@@ -2,8 +2,8 @@
 use Rattle.std.proofs.Common.{◌≡◌, false, List, [], ℕ, Option, Some, None, Ok, Err, inl, refl, sym, subst}
 use Rattle.std.specs.FinMap.{get, insert}
 use Rattle.sqlite.specs.State.{State as Seen}
-use Rattle.tally_rules.specs.Constituency.{Constituency}
-use Rattle.tally_rules.specs.Setup.{constituency_with}
+use Rattle.tally_setup.specs.Constituency.{Constituency}
+use Rattle.tally_setup.specs.Setup.{constituency_with}
 use Rattle.tally_returns.specs.State.{State}
 use Rattle.tally_returns.specs.View.{View}
 use Rattle.tally_returns.specs.declared.ask.Ask.TheVariants.{ShowCon}

@@ -13,10 +13,10 @@ use Rattle.std.proofs.lemmas.Result.{IfOk-weaker}
 use Rattle.sqlite.specs.declared.error.Error.{Error}
 use Rattle.sqlite.specs.State.{State as Seen, HasCleanDisk, IsUnchanged}
 use Rattle.tally_schema.specs.Rows.{AreRowsOf}
-use Rattle.tally_rules.specs.Constituency.{Constituency}
-use Rattle.tally_rules.specs.Limits.{IsSetup}
-use Rattle.tally_rules.specs.Setup.{constituency_with, station_with}
-use Rattle.tally_rules.specs.declared.constituency.Station.{Station}
+use Rattle.tally_setup.specs.Constituency.{Constituency}
+use Rattle.tally_setup.specs.Limits.{IsSetup}
+use Rattle.tally_setup.specs.Setup.{constituency_with, station_with}
+use Rattle.tally_setup.specs.declared.constituency.Station.{Station}
 use Rattle.tally_returns.specs.Counts.{VoteCounts}
 use Rattle.tally_returns.specs.Return.{StationReturn, Returns}
 use Rattle.tally_returns.specs.State.{State}

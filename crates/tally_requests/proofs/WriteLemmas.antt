@@ -6,7 +6,7 @@ use Rattle.std.proofs.lemmas.Bool.{eqb-false}
 use Rattle.sqlite_value.specs.Order.{Row}
 use Rattle.sqlite.specs.State.{State as Seen}
 use Rattle.tally_schema.specs.Rows.{AreRowsOf}
-use Rattle.tally_rules.specs.Code.{code_cmp}
+use Rattle.tally_setup.specs.Code.{code_cmp}
 use Rattle.tally_returns.specs.PastSeats.{PastSeats}
 use Rattle.tally_returns.specs.State.{ConState}
 use Rattle.tally_statements.specs.declared.table.KeyedTable.{KeyedTable}

@@ -10,7 +10,7 @@ use sqlite::{Alter, Error, Transaction};
 use std::alloc::Global;
 use std::collections::BTreeMap;
 use tally_returns::{Ask, Counts, Refusal, Reply};
-use tally_rules::{Code, Setup};
+use tally_setup::{Code, Setup};
 use tally_tables::Statuses;
 
 /// Answers a request by the tables and carries it out on them. An error is one of the database, or

@@ -9,7 +9,7 @@ ghost use Rattle.tally_steps.specs.Step.{lot_set, open_again};
 ghost use Rattle.tally_returns.specs.Named.{con_named};
 ghost use Rattle.tally_returns.specs.View.{FitsView};
 ghost use Rattle.tally_returns.specs.declared.change.Change.TheVariants.{Same};
-ghost use Rattle.tally_rules.specs.Setup.{constituency_with};
+ghost use Rattle.tally_setup.specs.Setup.{constituency_with};
 ghost use Rattle.tally_requests.specs.internal.Changes.{CarriesDecided, HasWrittenLot};
 ghost use Rattle.tally_requests.specs.internal.Changes.{HasWrittenRecord, HasWrittenSeats};
 ghost use Rattle.tally_requests.specs.internal.Changes.{WritesSo};
@@ -19,7 +19,7 @@ ghost use Rattle.tally_requests.specs.internal.Changes.{CarriesChange};
 use sqlite::{Alter, Error, Transaction};
 use tally_entries::{put_con, put_gone, put_lot, put_record, put_seats};
 use tally_returns::{Ask, Change, ConView, Gone, Past, Reply};
-use tally_rules::{Constituency, Setup};
+use tally_setup::{Constituency, Setup};
 
 /// Carries out what was decided of a request on a constituency, of which this was seen.
 pub(crate) fn carry_out<S: Alter>(

@@ -6,24 +6,25 @@ ghost use Rattle.tally_steps.specs.Step.{IsConDecision};
 ghost use Rattle.tally_returns.specs.Named.{con_named};
 ghost use Rattle.tally_returns.specs.View.{FitsView};
 ghost use Rattle.tally_returns.specs.declared.ask.Ask.TheVariants.{ShowProgress};
-ghost use Rattle.tally_rules.specs.Limits.{IsSetup};
-ghost use Rattle.tally_rules.specs.Setup.{constituency_with};
+ghost use Rattle.tally_setup.specs.Limits.{IsSetup};
+ghost use Rattle.tally_setup.specs.Setup.{constituency_with};
 ghost use Rattle.tally_entries.specs.internal.Entries.{ChangesNothing, Finds};
-ghost use Rattle.tally_statements.specs.internal.Inside.{StaysInside};
+ghost use Rattle.tally_statements.specs.internal.Inside.{InDatabase, StaysInside};
 ghost use Rattle.tally_requests.specs.internal.Known.{ForgetsNone, known_of};
-ghost use Rattle.tally_requests.specs.internal.Requests.{AnswersIn};
+ghost use Rattle.tally_requests.specs.internal.Requests.{AnswersIn, WasOpen};
 ghost use Rattle.tally_requests.specs.internal.Answering.{AnswersSo};
 ghost use Rattle.tally_requests.specs.internal.Seen.{CarriesOutSeen, FindsKnown, FindsProgress};
 ghost use Rattle.tally_requests.specs.internal.Seen.{LooksUp, shows_con};
 
 use crate::changes::carry_out;
 use crate::known::{known_at, remember, statuses_of_row};
+use crate::shown::see_open;
 use sqlite::{Alter, Error, Transaction};
 use std::alloc::Global;
 use std::collections::BTreeMap;
 use tally_entries::{find_progress_row, find_view, rows_of_cons};
 use tally_machine::{Ask, Change, ConView, ProgressRow, Refusal, Reply, decide_con};
-use tally_rules::{Code, Constituency, Setup};
+use tally_setup::{Code, Constituency, Setup};
 use tally_tables::{Statuses, statuses_of};
 
 /// Answers a request on the constituency of a code, and carries it out.
@@ -40,6 +41,7 @@ pub(crate) fn answer_on_con<S: Alter>(
     ensures answers { AnswersIn S.Store setup.now ask.now known.old known.new tx.old tx.new result }
 {
     let Some(con) = setup.con(code) else {
+        see_open(tx)?;
         return Ok(Err(Refusal::NoConstituency));
     };
     let view = find_view(
@@ -145,6 +147,7 @@ fn find_progress<S: Alter>(
     ensures still { LooksUp (state S.Store tx.old.conn.now) (state S.Store tx.new.conn.now) result }
     ensures forgets { OnOk result (ForgetsNone (known_of known.old) (known_of known.new)) }
     ensures unchanged { ChangesNothing S.Store tx.old tx.new result }
+    ensures answered_open { InDatabase S.Store WasOpen tx.old tx.new result }
 {
     let cons = setup.cons();
     let standing = rows_of_cons(tx)?;

@@ -12,7 +12,7 @@ ghost use Rattle.tally_requests.specs.internal.Counting.{without_one};
 use std::alloc::AllocError;
 use std::collections::BTreeMap;
 use tally_returns::{Ask, ProgressRow, Return, Status};
-use tally_rules::Code;
+use tally_setup::Code;
 use tally_tables::Statuses;
 
 /// What is known of the constituency of a code.

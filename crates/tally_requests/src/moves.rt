@@ -13,7 +13,7 @@ use sqlite::{Alter, Error, Transaction};
 use std::alloc::Global;
 use tally_entries::{change_return, correct_return, put_lot};
 use tally_returns::{Return, Status};
-use tally_rules::{Code, Constituency};
+use tally_setup::{Code, Constituency};
 
 /// Writes a return that is queried now. Its counts are no longer in the totals, and the lot of its
 /// constituency is taken out.

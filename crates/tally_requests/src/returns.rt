@@ -7,8 +7,8 @@ ghost use Rattle.tally_returns.specs.Decide.{return_change_at};
 ghost use Rattle.tally_returns.specs.Named.{station_named};
 ghost use Rattle.tally_returns.specs.Return.{first_return};
 ghost use Rattle.tally_returns.specs.declared.ask.Ask.TheVariants.{ShowReturn};
-ghost use Rattle.tally_rules.specs.Limits.{IsSetup};
-ghost use Rattle.tally_rules.specs.Setup.{station_with};
+ghost use Rattle.tally_setup.specs.Limits.{IsSetup};
+ghost use Rattle.tally_setup.specs.Setup.{station_with};
 ghost use Rattle.tally_entries.specs.internal.Entries.{AddsReturn, Finds, FindsReturn};
 ghost use Rattle.tally_requests.specs.internal.Found.{CarriesOutFound, IsLawfulIfFound, MovesTo};
 ghost use Rattle.tally_requests.specs.internal.Found.{after_move};
@@ -17,13 +17,14 @@ ghost use Rattle.tally_requests.specs.internal.Lodging.{DecidesLodge, IsFewIfLod
 ghost use Rattle.tally_requests.specs.internal.Lodging.{WritesOnlyLodged};
 ghost use Rattle.tally_requests.specs.internal.Moves.{PutsMoved};
 ghost use Rattle.tally_requests.specs.internal.Counting.{CountsLodge};
-ghost use Rattle.tally_requests.specs.internal.Requests.{AnswersIn};
+ghost use Rattle.tally_requests.specs.internal.Requests.{AnswersIn, WasOpen};
 ghost use Rattle.tally_requests.specs.internal.Answering.{AnswersSo};
 ghost use Rattle.tally_requests.specs.internal.Found.{CarriesOut};
 ghost use Rattle.tally_requests.specs.internal.Lodging.{Lodges};
 
 use crate::known::{count_command, count_move, status_found};
 use crate::moves::{put_closed, put_corrected, put_queried};
+use crate::shown::see_open;
 use sqlite::{Alter, Error, ErrorCode, Transaction};
 use std::alloc::Global;
 use std::collections::BTreeMap;
@@ -32,7 +33,7 @@ use tally_machine::{
     Ask, Change, Counts, LodgeReply, Refusal, Reply, Return, decide_at, decide_lodge,
 };
 use tally_returns::Status;
-use tally_rules::{Code, Constituency, Setup, Station};
+use tally_setup::{Code, Constituency, Setup, Station};
 use tally_tables::Statuses;
 
 /// Lodges the return of a station.
@@ -51,8 +52,10 @@ pub(crate) fn lodge<S: Alter>(
     ensures limits { OnOk result (IsSetup setup.now) }
     ensures known { CountsLodge setup.now station known.old known.new result }
     ensures unwritten { InDatabase S.Store WritesOnlyLodged tx.old tx.new result }
+    ensures answered_open { InDatabase S.Store WasOpen tx.old tx.new result }
 {
     let Some((con, place)) = setup.station(station) else {
+        see_open(tx)?;
         return Ok(Err(Refusal::NoStation));
     };
     let answer = decide_first(alloc, tx, setup, con, place, station, slip, counts)?;
@@ -124,6 +127,7 @@ pub(crate) fn move_on<S: Alter>(
     ensures answers { AnswersIn S.Store setup.now ask.now known.old known.new tx.old tx.new result }
 {
     let Some((con, place)) = setup.station(station) else {
+        see_open(tx)?;
         return Ok(Err(Refusal::NoStation));
     };
     let found = find_lawful(alloc, tx, setup, con, place, station)?;
@@ -266,8 +270,10 @@ pub(crate) fn show_return<S: Alter>(
     ensures stays { StaysInside S.Store tx.old tx.new }
     ensures answers { AnswersSo S.Store setup.now (ShowReturn station)
         (CarriesOut setup.now (ShowReturn station)) tx.old tx.new result }
+    ensures answered_open { InDatabase S.Store WasOpen tx.old tx.new result }
 {
     if setup.station(station).is_none() {
+        see_open(tx)?;
         return Ok(Err(Refusal::NoStation));
     }
     let Some(standing) = find_return(alloc, tx, setup, station)? else {

@@ -7,7 +7,7 @@ ghost use Rattle.tally_keeper.specs.Import.{IsCodedRow};
 ghost use Rattle.tally_keeper.specs.Keeper.{IsOwnFault};
 ghost use Rattle.tally_keeper.specs.NamedRows.{named_row};
 ghost use Rattle.tally_keeper.specs.declared.import.Row.{Row};
-ghost use Rattle.tally_rules.specs.Code.{is_code};
+ghost use Rattle.tally_setup.specs.Code.{is_code};
 ghost use Rattle.tally_statements.specs.internal.Inside.{StaysInside};
 ghost use Rattle.tally_requests.specs.internal.Inside.{StaysInState};
 ghost use Rattle.tally_requests.specs.internal.Counting.{CountsLodge, CountsRow};
@@ -23,7 +23,7 @@ use tally_keeper::{
     Ask, Counts, ImportCount, ImportFault, LodgeReply, NamedRow, ROW_LIMIT, Refusal, Row,
     RowSource, name_bad, name_refused,
 };
-use tally_rules::{Code, Setup};
+use tally_setup::{Code, Setup};
 use tally_statements::is_memory;
 use tally_tables::Statuses;
 

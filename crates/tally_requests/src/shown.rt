@@ -1,8 +1,8 @@
 //! A constituency, shown without its certificates on record.
 
 ghost use Rattle.std.specs.Prelude.{◌≡◌, [], Some, IfOk, OnOk};
-ghost use Rattle.tally_rules.specs.Constituency as value;
-ghost use Rattle.tally_rules.specs.Setup.{constituency_with};
+ghost use Rattle.tally_setup.specs.Constituency as value;
+ghost use Rattle.tally_setup.specs.Setup.{constituency_with};
 ghost use Rattle.tally_returns.specs.View.{FitsView};
 ghost use Rattle.tally_entries.specs.internal.Entries.{Finds};
 ghost use Rattle.tally_statements.specs.internal.Inside.{OnlyReads};
@@ -15,12 +15,12 @@ use std::alloc::Global;
 use std::collections::BTreeMap;
 use tally_entries::find_view;
 use tally_returns::{ConView, Refusal};
-use tally_rules::{Code, Setup};
+use tally_setup::{Code, Setup};
 use tally_statements::{KeyedTable, rows_of_key};
 use tally_tables::{Statuses, statuses_of};
 
 /// Reads a row that is never there. A connection that is shut does not answer this. So a request
-/// that looks at no table, or an import without rows, gets to no commit there.
+/// that reads nothing else, or an import without rows, gets to no commit there.
 pub fn see_open<S: Alter>(tx: &mut Transaction<'_, S>) -> Result<(), Error>
     ensures reads { OnlyReads S.Store tx.old tx.new result }
 {

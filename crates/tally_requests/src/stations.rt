@@ -1,10 +1,12 @@
 //! The stations of a constituency, with their returns.
 
-ghost use Rattle.std.specs.Prelude.{◌≡◌, None, IfErr, IfOk};
-ghost use Rattle.tally_rules.specs.Limits.{IsSetup};
-ghost use Rattle.tally_rules.specs.Setup.{constituency_with};
+ghost use Rattle.std.specs.Prelude.{◌≡◌, ◌≤◌, length, None, IfErr, IfOk};
+ghost use Rattle.tally_setup.specs.Limits.{IsSetup};
+ghost use Rattle.tally_setup.specs.Setup.{constituency_with};
 ghost use Rattle.tally_entries.specs.internal.Entries.{ChangesNothing, Finds, FindsFrom};
-ghost use Rattle.tally_statements.specs.internal.Inside.{IsOpenInside, OnlyReads, StaysFrom};
+ghost use Rattle.tally_statements.specs.internal.Inside.{InDatabase, IsOpenInside, OnlyReads};
+ghost use Rattle.tally_statements.specs.internal.Inside.{StaysInside};
+ghost use Rattle.tally_requests.specs.internal.Requests.{WasOpen};
 ghost use Rattle.tally_requests.specs.internal.Stations.{FindsRows, FindsStations};
 
 use crate::shown::see_open;
@@ -12,7 +14,7 @@ use sqlite::{Alter, Error, Transaction};
 use std::alloc::Global;
 use tally_entries::find_return;
 use tally_returns::{Refusal, StationRow};
-use tally_rules::{Code, Setup, Station};
+use tally_setup::{Code, Setup, Station};
 
 /// These stations, each with its return, which is looked up by its code.
 fn find_rows<S: Alter>(
@@ -22,10 +24,12 @@ fn find_rows<S: Alter>(
     stations: &[Station],
 ) -> Result<Vec<StationRow>, Error>
     requires limits { IsSetup setup.now }
-    ensures stays { StaysFrom IsOpenInside S.Store tx.old tx.new }
+    ensures stays { StaysInside S.Store tx.old tx.new }
     ensures found { FindsFrom IsOpenInside S.Store
         (λ seen rows. FindsRows setup.now stations.now seen rows.items) tx.old tx.new result }
     ensures same { ChangesNothing S.Store tx.old tx.new result }
+    ensures answered_open { 1 ≤ length stations.now →
+        InDatabase S.Store WasOpen tx.old tx.new result }
 {
     let mut rows = Vec::new(alloc);
     for station in stations {
@@ -52,8 +56,8 @@ pub fn show_returns_in<S: Alter>(
         why ≡ Refusal.NoConstituency × (constituency_with code setup.now ≡ None))) }
     ensures shown { Finds S.Store (FindsStations setup.now code) tx.old tx.new result }
 {
-    see_open(tx)?;
     let Some(con) = setup.con(code) else {
+        see_open(tx)?;
         return Ok(Err(Refusal::NoConstituency));
     };
     let rows = find_rows(alloc, tx, setup, con.stations.as_slice())?;

@@ -14,7 +14,7 @@ use tally_entries::{find_sums, put_sums};
 use tally_frac::MOST_VOTES;
 use tally_keeper::moved;
 use tally_returns::Counts;
-use tally_rules::Constituency;
+use tally_setup::Constituency;
 use tally_tables::Sums;
 
 /// Adds the counts of a return that is closed now to the sums of its constituency, or takes out

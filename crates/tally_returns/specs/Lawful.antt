@@ -2,9 +2,9 @@
 use Rattle.std.specs.Prelude.{◌≡◌, ◌≤◌, ◌&&◌, Bool, true, ℕ, List, [], ◌∷◌, Option, Some}
 use Rattle.std.specs.Option.{ForSome}
 use Rattle.std.specs.Str.{is_utf8}
-use Rattle.tally_rules.specs.Code.{is_code}
-use Rattle.tally_rules.specs.Constituency.{Constituency}
-use Rattle.tally_rules.specs.Text.{is_note}
+use Rattle.tally_setup.specs.Code.{is_code}
+use Rattle.tally_setup.specs.Constituency.{Constituency}
+use Rattle.tally_setup.specs.Text.{is_note}
 use Rattle.tally_returns.specs.Counts.{are_counts, all_votes}
 use Rattle.tally_returns.specs.Decide.{limits_named}
 use Rattle.tally_returns.specs.Return.{StationReturn}

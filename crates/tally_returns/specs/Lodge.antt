@@ -3,7 +3,7 @@ use Rattle.std.specs.Prelude.{◌&&◌, if◌then◌else◌, ℕ, Bool, nat_eq, 
 use Rattle.std.specs.Prelude.{Some, None, Result, Ok, Err}
 use Rattle.std.specs.Cmp.Lexicographic.{pointwise}
 use Rattle.std.specs.FinMap.{get, insert}
-use Rattle.tally_rules.specs.declared.constituency.Entry.{Entry}
+use Rattle.tally_setup.specs.declared.constituency.Entry.{Entry}
 use Rattle.tally_returns.specs.Counts.{VoteCounts, are_counts, all_votes, same_counts}
 use Rattle.tally_returns.specs.Return.{StationReturn, Returns, first_return}
 use Rattle.tally_returns.specs.Checks.{check, first_refusal, refused_or}

@@ -3,9 +3,9 @@
 use Rattle.std.specs.Prelude.{◌+◌, ◌==◌, not, ℕ, Bool, true, false, List, [], ◌∷◌, ◌++◌, Option}
 use Rattle.std.specs.Prelude.{is_some}
 use Rattle.std.specs.Option.{option_map_or}
-use Rattle.tally_rules.specs.Text.{is_note}
-use Rattle.tally_rules.specs.declared.constituency.Entry.{Entry}
-use Rattle.tally_rules.specs.declared.constituency.Entry.TheVariants.{Single, Double}
+use Rattle.tally_setup.specs.Text.{is_note}
+use Rattle.tally_setup.specs.declared.constituency.Entry.{Entry}
+use Rattle.tally_setup.specs.declared.constituency.Entry.TheVariants.{Single, Double}
 use Rattle.tally_returns.specs.Counts.{VoteCounts}
 use Rattle.tally_returns.specs.Return.{StationReturn}
 use Rattle.tally_returns.specs.Lodge.{StationLimits, counts_checks, is_return_of}

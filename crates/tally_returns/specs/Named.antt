@@ -1,7 +1,7 @@
 -- What a command names.
 use Rattle.std.specs.Prelude.{◌≡◌, true, ℕ, List, Option, Some, None}
 use Rattle.std.specs.Option.{ForSome}
-use Rattle.tally_rules.specs.Code.{is_code}
+use Rattle.tally_setup.specs.Code.{is_code}
 use Rattle.tally_returns.specs.declared.ask.Ask.{Ask}
 use Rattle.tally_returns.specs.declared.ask.Ask.TheVariants.{Lodge, Query, Correct, Close}
 use Rattle.tally_returns.specs.declared.ask.Ask.TheVariants.{Confirm, ShowReturn, Draw, Certify}

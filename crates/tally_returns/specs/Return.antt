@@ -1,7 +1,7 @@
 -- The return of a polling station, and the recorded returns.
 use Rattle.std.specs.Prelude.{ℕ, List, [], codes}
 use Rattle.std.specs.FinMap.{FinMap}
-use Rattle.tally_rules.specs.Code.{code_cmp}
+use Rattle.tally_setup.specs.Code.{code_cmp}
 use Rattle.tally_returns.specs.Counts.{VoteCounts}
 use Rattle.tally_returns.specs.declared.returns.Status.{Status}
 use Rattle.tally_returns.specs.declared.returns.Status.TheVariants.{Received, Queried, Corrected}

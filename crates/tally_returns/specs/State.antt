@@ -4,9 +4,9 @@ use Rattle.std.specs.Prelude.{ℕ, Bool, false, List, [], map, option_map, unwra
 use Rattle.std.specs.FinMap.{FinMap, get, empty, from_entries}
 use Rattle.std.specs.Ordering.{nat_cmp}
 use Rattle.std.specs.Cmp.Lexicographic.{slice_cmp}
-use Rattle.tally_rules.specs.Code.{code_cmp}
-use Rattle.tally_rules.specs.Constituency.{Constituency}
-use Rattle.tally_rules.specs.Setup.{station_with}
+use Rattle.tally_setup.specs.Code.{code_cmp}
+use Rattle.tally_setup.specs.Constituency.{Constituency}
+use Rattle.tally_setup.specs.Setup.{station_with}
 use Rattle.tally_returns.specs.Return.{Returns}
 use Rattle.tally_returns.specs.Lodge.{Stations}
 use Rattle.tally_returns.specs.Decide.{limits_of}

@@ -1,8 +1,8 @@
 -- The stations of a constituency, each with its return where it has one.
 use Rattle.std.specs.Prelude.{List, map}
 use Rattle.std.specs.FinMap.{get}
-use Rattle.tally_rules.specs.Constituency.{Constituency}
-use Rattle.tally_rules.specs.declared.constituency.Station.{Station}
+use Rattle.tally_setup.specs.Constituency.{Constituency}
+use Rattle.tally_setup.specs.declared.constituency.Station.{Station}
 use Rattle.tally_returns.specs.Return.{Returns}
 use Rattle.tally_returns.specs.declared.station_row.StationRow.{StationRow}
 

@@ -2,10 +2,10 @@
 
 ghost use Rattle.std.specs.Prelude.{◌≡◌, true};
 ghost use Rattle.tally_returns.specs.Named.{BringsCode, con_named, slip_named, station_named};
-ghost use Rattle.tally_rules.specs.Code.{is_code};
+ghost use Rattle.tally_setup.specs.Code.{is_code};
 
 use crate::counts::Counts;
-use tally_rules::Code;
+use tally_setup::Code;
 
 /// What is asked of the office. Stations, constituencies and lists are named by their codes. A
 /// command on a return names the revision that it speaks of, and one on a constituency the edition,

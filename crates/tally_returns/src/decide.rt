@@ -2,7 +2,7 @@
 
 ghost use Rattle.std.specs.Prelude.{◌≡◌, ◌≤◌, ◌∷◌, ◌++◌, [], Ok, IfOk, IsSome, is_some};
 ghost use Rattle.std.specs.Option.{ForSome, option_copied};
-ghost use Rattle.tally_rules.specs.Text.{is_note};
+ghost use Rattle.tally_setup.specs.Text.{is_note};
 ghost use Rattle.tally_returns.specs.Checks.{check, first_refusal, refused_or};
 ghost use Rattle.tally_returns.specs.Decide.{IsDecidedMove, IsUnlessMemory, return_change_at};
 ghost use Rattle.tally_returns.specs.Decide.{return_change_named};
@@ -25,7 +25,7 @@ use crate::refusal::Refusal;
 use crate::reply::LodgeReply;
 use crate::returns::Return;
 use std::alloc::Global;
-use tally_rules::{Code, Constituency, Entry, Station, good_note};
+use tally_setup::{Code, Constituency, Entry, Station, good_note};
 
 /// What a command on a return changes, or why it is refused: at a station of this constituency,
 /// which is certified or not, where this return or none is recorded.

@@ -25,5 +25,5 @@ pub use refusal::Refusal;
 pub use reply::{LodgeReply, Reply};
 pub use returns::{Return, Status, is_note_or_empty};
 pub use station_row::StationRow;
-pub use tally_rules::ListSet;
+pub use tally_frac::ListSet;
 pub use view::{ConView, Gone, LAST_EDITION, Past};

@@ -3,7 +3,7 @@
 ghost use Rattle.std.specs.Prelude.{◌≡◌, ◌≤◌, IfErr, OnOk, None, Some};
 ghost use Rattle.std.specs.Option.{option_copied};
 ghost use Rattle.tally_frac.specs.Limits.{most_lists};
-ghost use Rattle.tally_rules.specs.declared.constituency.Entry.TheVariants.{Single};
+ghost use Rattle.tally_setup.specs.declared.constituency.Entry.TheVariants.{Single};
 ghost use Rattle.tally_returns.specs.Checks.{first_refusal};
 ghost use Rattle.tally_returns.specs.Lodge.{reply_where_recorded, counts_checks, reply_at_station};
 ghost use Rattle.tally_returns.specs.Lodge.{limits_for};
@@ -12,7 +12,7 @@ use crate::counts::Counts;
 use crate::refusal::Refusal;
 use crate::reply::LodgeReply;
 use crate::returns::Return;
-use tally_rules::Code;
+use tally_setup::Code;
 
 /// What a Lodge is answered at a station of so many lists (at most 60) and electors, where this
 /// return or none is recorded. Where the reply is `Lodged`, `Return::lodged` is the return that is

@@ -10,7 +10,7 @@ use crate::counts::Counts;
 use crate::refusal::Refusal;
 use crate::returns::{Return, Status};
 use std::alloc::{AllocError, Global};
-use tally_rules::Code;
+use tally_setup::Code;
 
 /// The last revision that a return can have.
 pub(crate) const LAST_REVISION: u32 = 9_999;

@@ -1,6 +1,6 @@
 //! How far constituencies have come.
 
-use tally_rules::Code;
+use tally_setup::Code;
 
 /// How far a constituency has come: its stations, how many of their returns are in each status,
 /// its edition and whether it is certified.

@@ -4,7 +4,7 @@ ghost use Rattle.std.specs.Prelude.{◌≡◌, ◌≤◌, length};
 
 use crate::returns::Status;
 use std::alloc::AllocError;
-use tally_rules::ListSet;
+use tally_frac::ListSet;
 
 /// Why a command was refused: the first of its checks that failed. `Memory` and `Store` are
 /// outside that order.

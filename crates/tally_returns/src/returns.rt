@@ -2,7 +2,7 @@
 
 ghost use Rattle.std.specs.Prelude.{◌≡◌, ◌≤◌, length, IfOk, IsTrue};
 ghost use Rattle.tally_frac.specs.Limits.{most_lists};
-ghost use Rattle.tally_rules.specs.declared.constituency.Entry as declared;
+ghost use Rattle.tally_setup.specs.declared.constituency.Entry as declared;
 ghost use Rattle.tally_returns.specs.Lawful.{IsLawful, is_note_or_empty};
 ghost use Rattle.tally_returns.specs.Lodge.{is_return_of, limits_for};
 ghost use Rattle.tally_returns.specs.Return.{first_return, status_word};
@@ -11,7 +11,7 @@ use crate::counts::Counts;
 use crate::moves::LAST_REVISION;
 use std::alloc::{AllocError, Global};
 use std::marker::Model;
-use tally_rules::{Code, good_note};
+use tally_setup::{Code, good_note};
 
 /// How far the office has come with a return.
 #[derive(Clone, Copy, Debug, PartialEq, Eq)]

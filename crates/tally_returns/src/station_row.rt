@@ -1,7 +1,7 @@
 //! The stations of a constituency.
 
 use crate::returns::Return;
-use tally_rules::Code;
+use tally_setup::Code;
 
 /// A station, and its return where it has one.
 #[derive(Debug, Drop)]

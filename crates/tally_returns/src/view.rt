@@ -2,12 +2,12 @@
 
 ghost use Rattle.std.specs.Prelude.{◌≡◌, [], All, IfOk, IsTrue};
 ghost use Rattle.tally_returns.specs.View.{FitsView, HasEachList, is_before};
-ghost use Rattle.tally_rules.specs.Threshold.{IsWithinVotes};
+ghost use Rattle.tally_setup.specs.Threshold.{IsWithinVotes};
 
 use std::alloc::{AllocError, Global};
 use std::marker::Model;
 use tally_frac::MOST_VOTES;
-use tally_rules::Constituency;
+use tally_setup::Constituency;
 
 /// The last edition that a constituency can have.
 pub const LAST_EDITION: u32 = 9_999;

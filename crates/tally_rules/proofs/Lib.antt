@@ -1,7 +1,3 @@
-pub mod CodeLemmas
-pub mod TextLemmas
-pub mod CodesLemmas
-pub mod SetupLemmas
 pub mod ReadLemmas
 pub mod PlaceLemmas
 pub mod ProfileLemmas

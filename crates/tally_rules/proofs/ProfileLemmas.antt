@@ -4,7 +4,7 @@ use Rattle.std.specs.List.{slice_get}
 use Rattle.std.specs.Map.{lookup}
 use Rattle.std.specs.Option.{option_and_then}
 use Rattle.std.specs.Str.{bytes_eq}
-use Rattle.tally_rules.specs.Codes.{index_of}
+use Rattle.tally_setup.specs.Codes.{index_of}
 
 -- what comes with a code is at the code's place
 pub lookup-index_of : {X : Type 0} (q : List ℕ) (xs : List (List ℕ × X)) → lookup (bytes_eq q) xs ≡ option_map (λ (x : List ℕ × X). x.1) (option_and_then (slice_get xs) (index_of q (map (λ (x : List ℕ × X). x.0) xs)))

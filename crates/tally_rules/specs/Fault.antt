@@ -34,8 +34,7 @@ IsFaultIn reading answer.UnknownProfile = without_place reading ≡ Err unknown_
 IsFaultIn reading answer.Memory = ⊤
 
 -- What is answered is the fault that reading comes to, and beside it the place of the entry that
--- has it. Where the text is not TOML, no entry has the fault: `IsPlaceInText` says which place that
--- is.
+-- has it. Where the text is not TOML, no entry has the fault: `IsPlaceIn` says which place that is.
 abbrev pub IsPlacedFaultIn : {A : Type 0} → Result A Placed → SetupFault × Option Place → Type 0
 IsPlacedFaultIn reading (answer.NotToml, place) = reading ≡ Err (not_toml, None)
 IsPlacedFaultIn reading (answer.Missing key, place) = reading ≡ Err (missing key.now, place)

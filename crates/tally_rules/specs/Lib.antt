@@ -1,12 +1,4 @@
 pub mod internal
-pub mod Code
-pub mod Codes
-pub mod Constituency
 pub mod Fault
-pub mod Limits
-pub mod Method
 pub mod Place
 pub mod Reading
-pub mod Setup
-pub mod Text
-pub mod Threshold

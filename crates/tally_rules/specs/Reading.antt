@@ -12,33 +12,33 @@ use Rattle.toml.specs.Data.{Data, Items, no_items, item, table, get, as_str, as_
 use Rattle.toml.specs.Data.{as_table}
 use Rattle.toml.specs.Parse.{parse_document}
 use Rattle.tally_frac.specs.Limits.{most_lists, most_seats, whole_base}
-use Rattle.tally_rules.specs.Code.{code_of}
-use Rattle.tally_rules.specs.Codes.{index_of, is_among_codes}
-use Rattle.tally_rules.specs.Constituency.{Constituency, ListEntry, list_codes, station_codes}
+use Rattle.tally_setup.specs.Code.{code_of}
+use Rattle.tally_setup.specs.Codes.{index_of, is_among_codes}
+use Rattle.tally_setup.specs.Constituency.{Constituency, ListEntry, list_codes, station_codes}
 use Rattle.tally_rules.specs.Fault.{Fault, not_toml, missing, bad_value, over_limit, duplicate}
 use Rattle.tally_rules.specs.Fault.{unknown_profile, Placed}
-use Rattle.tally_rules.specs.Limits.{most_candidates, most_constituencies, most_electors}
-use Rattle.tally_rules.specs.Limits.{most_profiles, most_stations}
-use Rattle.tally_rules.specs.Method.{method_named}
+use Rattle.tally_setup.specs.Limits.{most_candidates, most_constituencies, most_electors}
+use Rattle.tally_setup.specs.Limits.{most_profiles, most_stations}
+use Rattle.tally_setup.specs.Method.{method_named}
 use Rattle.tally_rules.specs.Place.{coded, constituency_way, in_code, in_entry, list_way, nowhere}
 use Rattle.tally_rules.specs.Place.{nth}
-use Rattle.tally_rules.specs.Setup.{constituency_codes, all_station_codes}
-use Rattle.tally_rules.specs.Text.{is_name}
-use Rattle.tally_rules.specs.declared.constituency.Entry.{Entry}
-use Rattle.tally_rules.specs.declared.constituency.Entry.TheVariants.{Single, Double}
-use Rattle.tally_rules.specs.declared.constituency.Station.{Station}
+use Rattle.tally_setup.specs.Setup.{constituency_codes, all_station_codes}
+use Rattle.tally_setup.specs.Text.{is_name}
+use Rattle.tally_setup.specs.declared.constituency.Entry.{Entry}
+use Rattle.tally_setup.specs.declared.constituency.Entry.TheVariants.{Single, Double}
+use Rattle.tally_setup.specs.declared.constituency.Station.{Station}
 use Rattle.tally_rules.specs.declared.place.Holder.{Holder}
 use Rattle.tally_rules.specs.declared.place.SetupArray.{SetupArray}
 use Rattle.tally_rules.specs.declared.place.SetupArray.TheVariants.{Candidates, Constituencies}
 use Rattle.tally_rules.specs.declared.place.SetupArray.TheVariants.{Lists as ListArray, Profiles}
 use Rattle.tally_rules.specs.declared.place.SetupArray.TheVariants.{Stations}
 use Rattle.tally_rules.specs.declared.place.Way.{Way}
-use Rattle.tally_rules.specs.declared.profile.Base.{Base}
-use Rattle.tally_rules.specs.declared.profile.Base.TheVariants.{Valid, Lists}
-use Rattle.tally_rules.specs.declared.profile.LotRule.{LotRule}
-use Rattle.tally_rules.specs.declared.profile.LotRule.TheVariants.{Fixed, Alternating}
-use Rattle.tally_rules.specs.declared.profile.Method.{Method}
-use Rattle.tally_rules.specs.declared.profile.Profile.{Profile}
+use Rattle.tally_setup.specs.declared.profile.Base.{Base}
+use Rattle.tally_setup.specs.declared.profile.Base.TheVariants.{Valid, Lists}
+use Rattle.tally_setup.specs.declared.profile.LotRule.{LotRule}
+use Rattle.tally_setup.specs.declared.profile.LotRule.TheVariants.{Fixed, Alternating}
+use Rattle.tally_setup.specs.declared.profile.Method.{Method}
+use Rattle.tally_setup.specs.declared.profile.Profile.{Profile}
 
 -- one step after another, as far as the first fault
 infixl 10 ◌>>=◌

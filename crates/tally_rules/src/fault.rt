@@ -3,7 +3,7 @@
 ghost use Rattle.std.specs.Prelude.{◌≡◌};
 ghost use Rattle.tally_rules.specs.Fault.{setup_fault_number};
 
-use crate::code::Code;
+use tally_setup::Code;
 use thiserror::Error;
 
 /// The first fault of a setup's text. A key is the key's own name, as `seats`.

@@ -5,7 +5,7 @@ ghost use Rattle.tally_rules.specs.Place.{coded, constituency_way, list_way, nth
 ghost use Rattle.tally_rules.specs.declared.place.SetupArray.TheVariants.{Candidates, Lists};
 ghost use Rattle.tally_rules.specs.declared.place.SetupArray.TheVariants.{Stations};
 
-use crate::code::Code;
+use tally_setup::Code;
 
 /// An entry that holds arrays of its own: a constituency, or a list.
 #[derive(Clone, Copy, Debug, PartialEq, Eq)]

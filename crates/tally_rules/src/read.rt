@@ -14,16 +14,14 @@ mod fault;
 mod key;
 mod profile;
 
-use crate::codes::Codes;
 use crate::fault::SetupFault;
-use crate::limits::MOST_CONSTITUENCIES;
 use crate::place::Place;
-use crate::setup::Setup;
 use entry::{Kind, constituency_entry, read_array};
 use fault::{Key, KeyFault, PlacedFault};
 use profile::{Profiles, read_profiles};
 use std::alloc::Global;
 use std::str;
+use tally_setup::{Codes, MOST_CONSTITUENCIES, Setup};
 use toml::Value;
 
 /// The most bytes that a setup's text has, 8 MiB.

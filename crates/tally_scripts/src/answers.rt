@@ -7,7 +7,7 @@ use std::test::Fail;
 use tally_keeper::{
     Ask, ConView, Keeper, ListSet, ProgressRow, Refusal, Reply, Return, StationRow, run,
 };
-use tally_rules::Code;
+use tally_setup::Code;
 
 /// What is answered, as text: a word for it, and its numbers.
 pub fn text_of_answer(alloc: Global, answer: &Result<Reply, Refusal>) -> Result<String, Fail> {

@@ -21,5 +21,5 @@ pub use returns::{
     ALL_LODGED, BAD_RETURNS, CUT_RETURNS, HEADER, NONE_LODGED, QUOTED_RETURNS, RETURNS,
     TWO_ROWS_AND_A_PIECE, failing_reads, import_count, with_bad_rows,
 };
-pub use scripts::{CERTIFIED, RECOUNT, TWICE, setups_and_scripts};
+pub use scripts::{CERTIFIED, RECOUNT, setups_and_scripts};
 pub use setups::{MORE_STATIONS, TWIN_TOWN, code, entered_twice, number, setup, twin_town};

@@ -23,7 +23,7 @@ return s1 = 3 p2 Corrected [1, 1] 0 0 sum";
 
 /// Commands that are given again, and the progress: of one station nothing is received, queried or
 /// corrected, and one return is closed.
-pub const TWICE: &str = "lodge s1 p1 100,100 = lodged 1
+const TWICE: &str = "lodge s1 p1 100,100 = lodged 1
 lodge s1 p1 100,100 = same 1
 close s1 1 = moved 2
 close s1 1 = stale 2

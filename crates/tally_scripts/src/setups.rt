@@ -2,7 +2,8 @@
 
 use std::alloc::Global;
 use std::test::Fail;
-use tally_rules::{Code, Setup, read_setup};
+use tally_rules::read_setup;
+use tally_setup::{Code, Setup};
 
 /// One constituency of two lists, and one station.
 pub const TWIN_TOWN: &str = r#"[[profile]]

@@ -1,8 +1,8 @@
 -- A command acts where its answer says so, and leaves the state where it does not.
 use Rattle.std.proofs.Common.{◌≡◌, ◌∙◌, ℕ, List, Bool, true, false, Option, Some, None, Result, Ok, Err, refl, sym, ap, subst, inl, inr}
 use Rattle.std.specs.FinMap.{get}
-use Rattle.tally_rules.specs.Constituency.{Constituency}
-use Rattle.tally_rules.specs.Setup.{constituency_with}
+use Rattle.tally_setup.specs.Constituency.{Constituency}
+use Rattle.tally_setup.specs.Setup.{constituency_with}
 use Rattle.tally_returns.specs.Checks.{first_refusal, refused_or}
 use Rattle.tally_returns.specs.Counts.{VoteCounts}
 use Rattle.tally_returns.specs.Return.{StationReturn}

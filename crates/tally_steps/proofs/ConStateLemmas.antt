@@ -7,9 +7,9 @@ use Rattle.std.specs.Cmp.{Equal-is, eq_by_cmp_equiv}
 use Rattle.std.specs.Cmp.Lexicographic.{nat_list_cmp_total}
 use Rattle.std.specs.Ordering.{eq_by_cmp}
 use Rattle.std.proofs.lemmas.Slice.Eq.{bytes_eq-Decides}
-use Rattle.tally_rules.specs.Code.{code_cmp}
-use Rattle.tally_rules.specs.Constituency.{Constituency}
-use Rattle.tally_rules.specs.Setup.{constituency_with}
+use Rattle.tally_setup.specs.Code.{code_cmp}
+use Rattle.tally_setup.specs.Constituency.{Constituency}
+use Rattle.tally_setup.specs.Setup.{constituency_with}
 use Rattle.tally_returns.specs.State.{State, ConState, con_state, opening_con}
 use Rattle.tally_steps.specs.Step.{ConChange, no_change, after_change, with_con, IsConStep}
 use Rattle.tally_returns.specs.declared.ask.Ask.{Ask}

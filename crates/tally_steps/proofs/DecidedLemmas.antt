@@ -2,9 +2,9 @@
 -- something, and of that something is decided.
 use Rattle.std.proofs.Common.{◌≡◌, ◌≤◌, ◌∷◌, ◌⊎◌, ℕ, zero, suc, List, [], Bool, true, false, Option, Some, None, Result, Err, get_or, length, refl, inl, inr, arith}
 use Rattle.std.proofs.lemmas.Bool.{false≢true}
-use Rattle.tally_rules.specs.Constituency.{Constituency}
-use Rattle.tally_rules.specs.Limits.{IsSetup}
-use Rattle.tally_rules.specs.Setup.{constituency_with}
+use Rattle.tally_setup.specs.Constituency.{Constituency}
+use Rattle.tally_setup.specs.Limits.{IsSetup}
+use Rattle.tally_setup.specs.Setup.{constituency_with}
 use Rattle.tally_law.specs.Allotment.{Rule}
 use Rattle.tally_law.specs.LotNeed.{IsDecidedByVotes, IsLotTaken, IsNeed}
 use Rattle.tally_law.specs.Poll.{HasEligible, Poll}

@@ -3,9 +3,9 @@ use Rattle.std.proofs.Common.{◌≡◌, ◌≤◌, ◌++◌, ◌∙◌, ◌∷�
 use Rattle.std.specs.Prelude.{is_some, option_map, string_bytes, if◌then◌else◌}
 use Rattle.std.specs.FinMap.{get}
 use Rattle.std.specs.Option.{option_map_or}
-use Rattle.tally_rules.specs.Constituency.{Constituency}
-use Rattle.tally_rules.specs.Setup.{constituency_with, station_with}
-use Rattle.tally_rules.specs.declared.constituency.Station.{Station}
+use Rattle.tally_setup.specs.Constituency.{Constituency}
+use Rattle.tally_setup.specs.Setup.{constituency_with, station_with}
+use Rattle.tally_setup.specs.declared.constituency.Station.{Station}
 use Rattle.tally_steps.specs.Step.{ConChange, after_change, certified_with, con_state_after, change_of_result, gone_for_good, lot_set, no_change, open_again, Answer, IsAnswered, IsConStep, IsConStepSeen, IsStepSeen, IsStepSeenAt, con_answer, lodge_reply, lodged, move_reply, return_reply, return_shown, same, state_after, con_of_station, change_at_station, change_in_state, is_certified}
 use Rattle.tally_steps.specs.Certification.{ListFound, gone_of, holders_of, list_found, reopen_result, vacate_checks, vacancy, vacate_result}
 use Rattle.tally_steps.specs.Decisions.{NamesStation, LimitsAreThoseOfTheSetup, RefusalsOnReturnsAreSteps, ChangesOfReturnsAreSteps, UnknownStationsAreRefused, DecisionsOnConstituenciesAreSteps, UnknownConstituenciesAreRefused, EditionsStayWithinTheirLimit, NobodyGoesTwice, change_at_code, answer_to_change}
@@ -32,7 +32,7 @@ use Rattle.tally_returns.specs.declared.reply.LodgeReply.{LodgeReply}
 use Rattle.tally_returns.specs.declared.reply.LodgeReply.TheVariants as reply
 use Rattle.tally_returns.specs.declared.reply.Reply.TheVariants.{Vacated}
 use Rattle.tally_returns.specs.declared.returns.Status.{Status}
-use Rattle.tally_rules.specs.Text.{is_note}
+use Rattle.tally_setup.specs.Text.{is_note}
 use Rattle.tally_returns.proofs.DecideLemmas.{first_refusal-append_first, limits_named-found, passed-rest}
 use Rattle.tally_returns.proofs.StateLemmas.{station_with-in}
 use Rattle.tally_steps.proofs.ConStateLemmas.{con-code, con_state-changed}

@@ -8,12 +8,12 @@ use Rattle.std.specs.Str.{bytes_eq}
 use Rattle.std.proofs.lemmas.Bool.{eqb-true}
 use Rattle.std.proofs.lemmas.List.Elements.{All-nil, All-cons, All-head, All-tail}
 use Rattle.std.proofs.lemmas.Slice.Eq.{bytes_eq-Decides}
-use Rattle.tally_rules.specs.Code.{code_cmp}
-use Rattle.tally_rules.specs.Constituency.{Constituency}
-use Rattle.tally_rules.specs.Limits.{IsSetup}
-use Rattle.tally_rules.specs.Setup.{constituency_with, station_with}
-use Rattle.tally_rules.specs.declared.constituency.Entry.TheVariants.{Double}
-use Rattle.tally_rules.specs.declared.constituency.Station.{Station}
+use Rattle.tally_setup.specs.Code.{code_cmp}
+use Rattle.tally_setup.specs.Constituency.{Constituency}
+use Rattle.tally_setup.specs.Limits.{IsSetup}
+use Rattle.tally_setup.specs.Setup.{constituency_with, station_with}
+use Rattle.tally_setup.specs.declared.constituency.Entry.TheVariants.{Double}
+use Rattle.tally_setup.specs.declared.constituency.Station.{Station}
 use Rattle.tally_returns.specs.Checks.{check, first_refusal, refused_or}
 use Rattle.tally_returns.specs.Counts.{VoteCounts, same_counts}
 use Rattle.tally_returns.specs.Decide.{return_change, limits_of, lodge_change, move_change, put_next, show_checks, station_in}

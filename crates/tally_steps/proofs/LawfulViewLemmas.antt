@@ -2,7 +2,7 @@
 use Rattle.std.proofs.Common.{◌≡◌, ◌∙◌, ◌+◌, ◌-◌, ◌==◌, ◌∷◌, ℕ, List, [], Bool, true, false, Option, Some, None, Result, Ok, Err, refl, sym, subst, inr, arith}
 use Rattle.std.specs.Prelude.{not, if◌then◌else◌}
 use Rattle.std.proofs.lemmas.Bool.{eqb-true, eqb-false, not-true}
-use Rattle.tally_rules.specs.Constituency.{Constituency}
+use Rattle.tally_setup.specs.Constituency.{Constituency}
 use Rattle.tally_law.specs.Lot.{IsOrderOf}
 use Rattle.tally_steps.specs.Certification.{ByOutcome, Certifies, Draws, RefusedOr, seats_by_outcome, count_checks, lot_in_view, drawn_places, lot_where_recorded, list_places, names_group}
 use Rattle.tally_returns.specs.Checks.{check, first_refusal}

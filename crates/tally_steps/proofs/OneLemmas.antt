@@ -1,8 +1,8 @@
 -- What votes and a lot come to is one, and so is what is decided of a command, and a step.
 use Rattle.std.proofs.Common.{◌≡◌, ◌∙◌, ℕ, List, Option, Some, None, Result, refl, sym, ap, subst}
-use Rattle.tally_rules.specs.Constituency.{Constituency}
-use Rattle.tally_rules.specs.Limits.{IsSetup}
-use Rattle.tally_rules.specs.Setup.{constituency_with}
+use Rattle.tally_setup.specs.Constituency.{Constituency}
+use Rattle.tally_setup.specs.Limits.{IsSetup}
+use Rattle.tally_setup.specs.Setup.{constituency_with}
 use Rattle.tally_steps.specs.Certification.{ByOutcome, Certifies, Draws, RefusedOr, seats_by_outcome, count_checks, lot_in_view, lot_where_recorded, list_places}
 use Rattle.tally_returns.specs.Checks.{first_refusal}
 use Rattle.tally_steps.specs.Step.{ConChange, Decides, after_change, certified_with, change_of_result, lot_set, Answer, IsConStepSeen, IsStepSeen, IsStepSeenAt, con_answer}

@@ -3,9 +3,9 @@ use Rattle.std.proofs.Common.{◌++◌, ◌∷◌, ℕ, List, [], Bool, true, fa
 use Rattle.std.specs.Prelude.{◌==◌, ◌-◌, not, nat_le, IfErr, is_some, string_bytes, if◌then◌else◌}
 use Rattle.std.specs.FinMap.{get}
 use Rattle.std.specs.Option.{option_map_or}
-use Rattle.tally_rules.specs.Constituency.{Constituency}
-use Rattle.tally_rules.specs.Setup.{constituency_with}
-use Rattle.tally_rules.specs.Text.{is_note}
+use Rattle.tally_setup.specs.Constituency.{Constituency}
+use Rattle.tally_setup.specs.Setup.{constituency_with}
+use Rattle.tally_setup.specs.Text.{is_note}
 use Rattle.tally_steps.specs.Certification.{ListFound, RefusedOr, certificate_of, seats_by_outcome, count_checks, lot_where_recorded, gone_of, has_candidate, holders_of, list_found, list_places, names_group, reopen_checks, reopen_result, vacate_checks, vacancy, vacate_result}
 use Rattle.tally_returns.specs.Checks.{check, check_found, first_refusal, refused_or}
 use Rattle.tally_steps.specs.Step.{ConChange, no_change, gone_for_good, lot_set, certified_with, open_again, Decides, change_of_result, Answer, IsConStepSeen, IsStepSeenAt, answer, con_answer, lodge_reply, move_reply, return_reply, change_in_state, is_certified}

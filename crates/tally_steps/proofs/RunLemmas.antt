@@ -1,6 +1,6 @@
 -- Runs: which requests act in them, and which can be left out.
 use Rattle.std.proofs.Common.{◌≡◌, ◌+◌, ◌<◌, ◌∷◌, ◌∙◌, ℕ, zero, suc, List, [], Bool, true, false, cond, Some, Result, refl, sym, ap, subst, arith, add-one, filter, slice_get}
-use Rattle.tally_rules.specs.Constituency.{Constituency}
+use Rattle.tally_setup.specs.Constituency.{Constituency}
 use Rattle.tally_returns.specs.State.{State}
 use Rattle.tally_steps.specs.Runs.{IsRun, is_act, IsSameCommand, acting_asks, kept_elements}
 use Rattle.tally_returns.specs.declared.ask.Ask.{Ask}

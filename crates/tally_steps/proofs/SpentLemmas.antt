@@ -8,9 +8,9 @@ use Rattle.std.specs.Cmp.{eq_by_cmp_equiv}
 use Rattle.std.specs.Cmp.Lexicographic.{slice_cmp, nat_list_cmp_total}
 use Rattle.std.specs.Ordering.{eq_by_cmp, nat_cmp}
 use Rattle.std.proofs.lemmas.Bool.{eqb-true, eq-eqb, or_right}
-use Rattle.tally_rules.specs.Constituency.{Constituency}
-use Rattle.tally_rules.specs.Setup.{constituency_with}
-use Rattle.tally_rules.specs.Text.{is_note}
+use Rattle.tally_setup.specs.Constituency.{Constituency}
+use Rattle.tally_setup.specs.Setup.{constituency_with}
+use Rattle.tally_setup.specs.Text.{is_note}
 use Rattle.tally_steps.specs.Certification.{ListFound, RefusedOr, certificate_of, count_checks, gone_of, has_candidate, holders_of, list_found, reopen_result, reopen_checks, vacate_checks, vacancy, vacate_result}
 use Rattle.tally_returns.specs.Checks.{check, first_refusal, refused_or}
 use Rattle.tally_returns.specs.GoneCandidate.{GoneCandidate}

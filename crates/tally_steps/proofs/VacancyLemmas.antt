@@ -3,8 +3,8 @@ use Rattle.std.proofs.Common.{◌≡◌, ◌≤◌, ◌<◌, ◌+◌, ◌-◌, �
 use Rattle.std.specs.Prelude.{nat_le, not, slice_index, sum}
 use Rattle.std.specs.Str.{bytes_eq}
 use Rattle.std.proofs.lemmas.Bool.{and_from, le-leb}
-use Rattle.tally_rules.specs.Constituency.{Constituency, ListEntry}
-use Rattle.tally_rules.specs.Text.{is_note}
+use Rattle.tally_setup.specs.Constituency.{Constituency, ListEntry}
+use Rattle.tally_setup.specs.Text.{is_note}
 use Rattle.tally_law.specs.Allotment.{Rule, divisors, hare, IsAllotment}
 use Rattle.tally_law.specs.Poll.{Poll}
 use Rattle.tally_steps.specs.Certification.{ListFound, list_found_from, gone_of, has_candidate, holders_of, list_found, vacate_checks, vacancy, vacate_result}

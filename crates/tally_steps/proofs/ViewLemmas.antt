@@ -9,11 +9,11 @@ use Rattle.std.proofs.lemmas.List.Elements.{All-head, All-tail, All-append, All-
 use Rattle.std.proofs.lemmas.List.FromFn.{length-map-range_with_len, sum_by-map-range_with_len_more}
 use Rattle.std.proofs.lemmas.List.Sums.{count_by-le-length, sum_by-append, sum_by-cons}
 use Rattle.std.proofs.lemmas.Slice.Eq.{bytes_eq-Decides}
-use Rattle.tally_rules.specs.Constituency.{Constituency}
-use Rattle.tally_rules.specs.Limits.{IsConstituency, IsSetup}
-use Rattle.tally_rules.specs.Setup.{all_stations, constituency_with, station_with}
-use Rattle.tally_rules.specs.Threshold.{IsWithinVotes}
-use Rattle.tally_rules.specs.declared.constituency.Station.{Station}
+use Rattle.tally_setup.specs.Constituency.{Constituency}
+use Rattle.tally_setup.specs.Limits.{IsConstituency, IsSetup}
+use Rattle.tally_setup.specs.Setup.{all_stations, constituency_with, station_with}
+use Rattle.tally_setup.specs.Threshold.{IsWithinVotes}
+use Rattle.tally_setup.specs.declared.constituency.Station.{Station}
 use Rattle.tally_steps.specs.Step.{IsView}
 use Rattle.tally_returns.specs.Counts.{VoteCounts, all_votes}
 use Rattle.tally_steps.specs.LawfulState.{IsLawfulState}

@@ -4,8 +4,8 @@ use Rattle.std.specs.Prelude.{Bool, true, false, List, [], ◌∷◌, length, ma
 use Rattle.std.specs.Prelude.{Some, None, Result, Ok, Err, is_some, option_map}
 use Rattle.std.specs.List.{list_all, filter}
 use Rattle.std.specs.Str.{bytes_eq}
-use Rattle.tally_rules.specs.Constituency.{Constituency, ListEntry}
-use Rattle.tally_rules.specs.Text.{is_note}
+use Rattle.tally_setup.specs.Constituency.{Constituency, ListEntry}
+use Rattle.tally_setup.specs.Text.{is_note}
 use Rattle.tally_frac.specs.ListSet.{has_place}
 use Rattle.tally_law.specs.Poll.{HasEligible}
 use Rattle.tally_returns.specs.Checks.{check, check_found, first_refusal, refused_or}

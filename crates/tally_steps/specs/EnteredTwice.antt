@@ -3,11 +3,11 @@
 use Rattle.std.specs.Prelude.{◌≡◌, ◌≢◌, ◌<◌, ℕ, All, Bool, true, false, List, Option, Some, None}
 use Rattle.std.specs.Prelude.{Result, Ok, slice_get}
 use Rattle.std.specs.FinMap.{get}
-use Rattle.tally_rules.specs.Constituency.{Constituency}
-use Rattle.tally_rules.specs.Limits.{IsSetup}
-use Rattle.tally_rules.specs.Setup.{constituency_with, station_with}
-use Rattle.tally_rules.specs.declared.constituency.Entry.TheVariants.{Double}
-use Rattle.tally_rules.specs.declared.constituency.Station.{Station}
+use Rattle.tally_setup.specs.Constituency.{Constituency}
+use Rattle.tally_setup.specs.Limits.{IsSetup}
+use Rattle.tally_setup.specs.Setup.{constituency_with, station_with}
+use Rattle.tally_setup.specs.declared.constituency.Entry.TheVariants.{Double}
+use Rattle.tally_setup.specs.declared.constituency.Station.{Station}
 use Rattle.tally_returns.specs.Counts.{VoteCounts}
 use Rattle.tally_returns.specs.Named.{BringsCode, slip_named, station_named}
 use Rattle.tally_returns.specs.Return.{StationReturn}

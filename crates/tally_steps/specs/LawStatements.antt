@@ -5,9 +5,9 @@ use Rattle.std.specs.Prelude.{◌≡◌, ◌↔◌, ◌<◌, ℕ, All, Bool, Lis
 use Rattle.std.specs.Prelude.{true, false, is_some, slice_get}
 use Rattle.std.specs.FinMap.{get}
 use Rattle.std.specs.List.{filter}
-use Rattle.tally_rules.specs.Constituency.{Constituency}
-use Rattle.tally_rules.specs.Limits.{IsSetup}
-use Rattle.tally_rules.specs.Setup.{constituency_with}
+use Rattle.tally_setup.specs.Constituency.{Constituency}
+use Rattle.tally_setup.specs.Limits.{IsSetup}
+use Rattle.tally_setup.specs.Setup.{constituency_with}
 use Rattle.tally_law.specs.LotNeed.{IsLotNeeded, IsNeed}
 use Rattle.tally_law.specs.Poll.{HasEligible}
 use Rattle.tally_returns.specs.Checks.{first_refusal}

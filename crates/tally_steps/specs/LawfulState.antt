@@ -2,8 +2,8 @@
 use Rattle.std.specs.Prelude.{◌≡◌, ◌∷◌, ℕ, List, [], All, is_some, slice_index}
 use Rattle.std.specs.FinMap.{entries, get}
 use Rattle.std.specs.Option.{ForSome}
-use Rattle.tally_rules.specs.Constituency.{Constituency}
-use Rattle.tally_rules.specs.Setup.{constituency_with}
+use Rattle.tally_setup.specs.Constituency.{Constituency}
+use Rattle.tally_setup.specs.Setup.{constituency_with}
 use Rattle.tally_returns.specs.Lawful.{IsLawfulAt}
 use Rattle.tally_steps.specs.Outcome.{IsLawfulCon}
 use Rattle.tally_returns.specs.State.{State, con_state}

@@ -3,8 +3,8 @@ use Rattle.std.specs.Prelude.{◌≡◌, ◌≢◌, ◌<◌, ◌≤◌, ◌⊎�
 use Rattle.std.specs.Prelude.{List, [], All, length, slice_get, sum}
 use Rattle.std.specs.Option.{option_map_or}
 use Rattle.tally_frac.specs.Limits.{most_lists}
-use Rattle.tally_rules.specs.Constituency.{Constituency, ListEntry}
-use Rattle.tally_rules.specs.Limits.{most_stations}
+use Rattle.tally_setup.specs.Constituency.{Constituency, ListEntry}
+use Rattle.tally_setup.specs.Limits.{most_stations}
 use Rattle.tally_law.specs.Poll.{Poll, HasEligible}
 use Rattle.tally_law.specs.Allotment.{Rule}
 use Rattle.tally_law.specs.LotNeed.{IsLotNeeded, IsLotTaken, IsLotWrong, IsNeed}

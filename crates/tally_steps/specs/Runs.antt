@@ -1,7 +1,7 @@
 -- Runs, their equal commands, and what is left of a run where some requests are left out.
 use Rattle.std.specs.Prelude.{◌≡◌, if◌then◌else◌, ◌+◌, ℕ, Bool, true, false, List, [], ◌∷◌, Result}
 use Rattle.std.specs.Prelude.{Ok, Err}
-use Rattle.tally_rules.specs.Constituency.{Constituency}
+use Rattle.tally_setup.specs.Constituency.{Constituency}
 use Rattle.tally_steps.specs.Step.{IsAnswered}
 use Rattle.tally_returns.specs.AskSeen.{ask_seen}
 use Rattle.tally_returns.specs.declared.ask.Ask.{Ask}

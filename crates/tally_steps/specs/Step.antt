@@ -5,9 +5,9 @@ use Rattle.std.specs.Prelude.{◌≡◌, ◌≢◌, ◌+◌, ◌∷◌, ◌⊎�
 use Rattle.std.specs.Prelude.{None, Result, Ok, Err, option_map, string_bytes}
 use Rattle.std.specs.Option.{option_map_or}
 use Rattle.std.specs.FinMap.{get, insert}
-use Rattle.tally_rules.specs.Constituency.{Constituency}
-use Rattle.tally_rules.specs.Setup.{constituency_with, station_with}
-use Rattle.tally_rules.specs.declared.constituency.Station.{Station}
+use Rattle.tally_setup.specs.Constituency.{Constituency}
+use Rattle.tally_setup.specs.Setup.{constituency_with, station_with}
+use Rattle.tally_setup.specs.declared.constituency.Station.{Station}
 use Rattle.tally_returns.specs.Checks.{first_refusal, refused_or}
 use Rattle.tally_returns.specs.Decide.{return_change, show_checks}
 use Rattle.tally_returns.specs.GoneCandidate.{GoneCandidate}

@@ -8,8 +8,8 @@ use Rattle.std.specs.FinMap.Entries.{is_sorted}
 use Rattle.std.specs.declared.cmp.Ordering.{Ordering}
 use Rattle.std.proofs.lemmas.List.Elements.{recursion_from_All}
 use Rattle.sqlite.specs.State.{State as Seen}
-use Rattle.tally_rules.specs.Constituency.{Constituency}
-use Rattle.tally_rules.specs.Limits.{IsSetup}
+use Rattle.tally_setup.specs.Constituency.{Constituency}
+use Rattle.tally_setup.specs.Limits.{IsSetup}
 use Rattle.tally_returns.specs.Return.{Returns}
 use Rattle.tally_returns.specs.State.{ConState, GoneCandidates, PastRecords, State, opening}
 use Rattle.tally_returns.specs.View.{gone_candidate, gone_candidates, past_record, past_records, view_with}

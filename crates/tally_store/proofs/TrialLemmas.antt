@@ -4,7 +4,7 @@ use Rattle.sqlite.specs.Effect.{Database}
 use Rattle.sqlite.specs.State.{State as Seen, HasCleanDisk, IsNotRun, IsRolledBack, KeepsCommit, Survives}
 use Rattle.sqlite.specs.declared.error.Error.{Error}
 use Rattle.sqlite.proofs.StateLemmas.{survives_then}
-use Rattle.tally_rules.specs.Constituency.{Constituency}
+use Rattle.tally_setup.specs.Constituency.{Constituency}
 use Rattle.tally_returns.specs.State.{State}
 use Rattle.tally_steps.specs.LawStatements.{ViewsAreLawful}
 use Rattle.tally_keeper.specs.Keeper.{IsImportFault, Tries}

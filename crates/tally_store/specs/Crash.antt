@@ -4,7 +4,7 @@
 use Rattle.std.specs.Prelude.{◌≡◌, ◌⊎◌, List, ℕ, IfOk, IsTrue, Some, Result, Ok, Err}
 use Rattle.sqlite.specs.State.{State as Seen, HasCleanDisk, KeepsCounts}
 use Rattle.sqlite_trees.specs.Tree.{Trees}
-use Rattle.tally_rules.specs.Constituency.{Constituency}
+use Rattle.tally_setup.specs.Constituency.{Constituency}
 use Rattle.tally_steps.specs.LawfulState.{IsLawfulState}
 use Rattle.tally_steps.specs.Step.{IsAnswered, IsNotAccepted}
 use Rattle.tally_returns.specs.State.{State}

@@ -2,7 +2,7 @@
 -- back where there is no store.
 use Rattle.std.specs.Prelude.{◌≡◌, List, ℕ, IsTrue, Some, false}
 use Rattle.sqlite.specs.State.{State as Seen, HasCleanDisk}
-use Rattle.tally_rules.specs.Constituency.{Constituency}
+use Rattle.tally_setup.specs.Constituency.{Constituency}
 use Rattle.tally_returns.specs.State.{opening}
 use Rattle.tally_opening.specs.Create.{IsAsBefore}
 use Rattle.tally_opening.specs.Office.{HasState}

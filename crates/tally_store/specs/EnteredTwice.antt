@@ -6,9 +6,9 @@ use Rattle.sqlite.specs.State.{State as Seen, HasCleanDisk}
 use Rattle.sqlite_value.specs.declared.value.Value.TheVariants.{Int, Text}
 use Rattle.sqlite_value.specs.Order.{Row, column}
 use Rattle.tally_schema.specs.Rows.{has_key}
-use Rattle.tally_rules.specs.Constituency.{Constituency}
-use Rattle.tally_rules.specs.Setup.{constituency_with}
-use Rattle.tally_rules.specs.declared.constituency.Entry.TheVariants.{Double}
+use Rattle.tally_setup.specs.Constituency.{Constituency}
+use Rattle.tally_setup.specs.Setup.{constituency_with}
+use Rattle.tally_setup.specs.declared.constituency.Entry.TheVariants.{Double}
 use Rattle.tally_returns.specs.Return.{StationReturn}
 use Rattle.tally_returns.specs.State.{opening}
 use Rattle.tally_returns.specs.declared.returns.Status.TheVariants.{Closed}

@@ -12,7 +12,7 @@ use Rattle.sqlite.specs.Start.{FindsIn}
 use Rattle.tally_keeper.specs.declared.fault.OpenFault.{OpenFault}
 use Rattle.tally_keeper.specs.declared.fault.OpenFault.TheVariants.{Memory, Store}
 use Rattle.tally_returns.specs.State.{State}
-use Rattle.tally_rules.specs.Constituency.{Constituency}
+use Rattle.tally_setup.specs.Constituency.{Constituency}
 use Rattle.tally_steps.specs.LawfulState.{IsLawfulState}
 use Rattle.tally_opening.specs.Office.{HasOfficeSchema, IsWholeOffice}
 use Rattle.tally_opening.specs.Open.{AreOfOneState, IsOpenFault}

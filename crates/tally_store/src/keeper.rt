@@ -8,8 +8,8 @@ ghost use Rattle.tally_keeper.specs.Keeper.{request};
 ghost use Rattle.tally_keeper.specs.Shown.{IsReturnsRefusal, con_with};
 ghost use Rattle.tally_returns.specs.View.{FitsView};
 ghost use Rattle.tally_returns.specs.declared.ask.Ask.TheVariants.{ShowCon};
-ghost use Rattle.tally_rules.specs.Constituency.{Constituency};
-ghost use Rattle.tally_rules.specs.Setup.{constituency_with};
+ghost use Rattle.tally_setup.specs.Constituency.{Constituency};
+ghost use Rattle.tally_setup.specs.Setup.{constituency_with};
 ghost use Rattle.tally_steps.specs.Kinds.{IsReplyTo};
 ghost use Rattle.tally_steps.specs.Runs.{is_act};
 ghost use Rattle.tally_opening.specs.Crash.{IsUnwritten};
@@ -28,7 +28,7 @@ use tally_keeper::{
     Ask, ConView, ImportCount, ImportFault, Keeper, NamedRow, Refusal, Reply, RowSource, StationRow,
 };
 use tally_machine::laws;
-use tally_rules::{Code, Setup};
+use tally_setup::{Code, Setup};
 
 impl<S: Alter> Keeper for Store<S> {
     ghost constituencies = { λ s. s.setup };

@@ -13,17 +13,16 @@ ghost use Rattle.tally_keeper.specs.Shown.{IsReturnsRefusal, con_with};
 ghost use Rattle.tally_steps.specs.Kinds.{IsReplyTo};
 ghost use Rattle.tally_steps.specs.Runs.{is_act};
 ghost use Rattle.tally_steps.specs.Step.{IsNotAccepted};
-ghost use Rattle.tally_rules.specs.Constituency as value;
-ghost use Rattle.tally_rules.specs.Setup.{constituency_with};
+ghost use Rattle.tally_setup.specs.Constituency as value;
+ghost use Rattle.tally_setup.specs.Setup.{constituency_with};
 ghost use Rattle.tally_returns.specs.Named.{BringsCode};
 ghost use Rattle.tally_returns.specs.View.{FitsView};
 ghost use Rattle.tally_returns.specs.declared.ask.Ask.TheVariants.{ShowCon};
 ghost use Rattle.tally_store.specs.Crash.{LeavesAsBefore, LeavesSame, LooksWithoutWriting};
 ghost use Rattle.tally_store.specs.Crash.{WritesOnlyLodgedRows};
-ghost use Rattle.tally_statements.specs.internal.Inside.{StaysInside};
 ghost use Rattle.tally_requests.specs.internal.Inside.{StaysInState};
 ghost use Rattle.tally_requests.specs.internal.Known.{ForgetsNone, known_of};
-ghost use Rattle.tally_requests.specs.internal.Requests.{AnswersIn, LodgesRows, NamesImported};
+ghost use Rattle.tally_requests.specs.internal.Requests.{LodgesRows, NamesImported};
 ghost use Rattle.tally_store.specs.internal.Requests.{Does, DoesImport, DoesName, DoesShow};
 ghost use Rattle.tally_store.specs.internal.Requests.{DoesShowReturns, DoesTry};
 ghost use Rattle.tally_store.specs.internal.Requests.{EndsFrom, EndsImport, EndsRequest};
@@ -42,7 +41,7 @@ use tally_keeper::{
 use tally_requests::{
     answer_in, import_fault_of, see_open, show_con_in, show_returns_in, take_rows,
 };
-use tally_rules::{Code, Setup};
+use tally_setup::{Code, Setup};
 use tally_statements::is_memory;
 use tally_tables::Statuses;
 
@@ -76,7 +75,7 @@ pub(crate) fn answer_request<S: Alter>(
     // Called for what its contract says: a slip that a request brings is a code.
     let _slip = ask.slip();
     let mut tx = conn.transaction();
-    let got = answer_open(alloc, &mut tx, setup, known, ask);
+    let got = answer_in(alloc, &mut tx, setup, known, ask);
     end_request(tx, known, got)
 }
 
@@ -259,23 +258,6 @@ fn see_not_shut<S: Alter>(conn: &mut Connection<S>) -> Result<(), ImportFault>
         Ok(_statement) => Ok(()),
         Err(error) => Err(import_fault_of(&error)),
     }
-}
-
-/// Answers a request and carries it out, where the connection is open.
-fn answer_open<S: Alter>(
-    alloc: Global,
-    tx: &mut Transaction<'_, S>,
-    setup: &Setup,
-    known: &mut BTreeMap<Code, Statuses>,
-    ask: &Ask,
-) -> Result<Result<Reply, Refusal>, Error>
-    ensures stays { StaysInside S.Store tx.old tx.new }
-    ensures was_open { HasCleanDisk (state S.Store tx.new.conn.now) →
-        OnOk result (IsTrue (state S.Store tx.old.conn.now).is_open) }
-    ensures answers { AnswersIn S.Store setup.now ask.now known.old known.new tx.old tx.new result }
-{
-    see_open(tx)?;
-    answer_in(alloc, tx, setup, known, ask)
 }
 
 /// Lodges the rows of a source, where the connection is open.

@@ -22,7 +22,7 @@ use std::marker::Model;
 use tally_keeper::{CreateFault, OpenFault};
 use tally_machine::laws;
 use tally_opening::{create_in, open_in};
-use tally_rules::{Code, Setup};
+use tally_setup::{Code, Setup};
 use tally_tables::Statuses;
 
 /// Keeps the office's state in a database: a connection that is in no transaction, the setup whose

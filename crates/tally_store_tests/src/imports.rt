@@ -1,6 +1,6 @@
 //! Imports into an office in a database, which is opened again after each, and the trial of each
-//! before it. Texts of other forms are tried over an office in memory (`tally_import_tests`), and
-//! what the tables then hold from outside.
+//! before it. Texts of other forms are tried over files (`scripts`), and what the tables then hold
+//! from outside.
 
 use crate::offices::{made, opened};
 use sqlite::Alter;
@@ -10,9 +10,8 @@ use std::test::*;
 use tally_core::{ImportCount, ImportFault, Keeper};
 use tally_import::Sep;
 use tally_scripts::{
-    ALL_LODGED, BAD_RETURNS, CUT_RETURNS, MORE_STATIONS, NONE_LODGED, Pieces, QUOTED_RETURNS,
-    RETURNS, TWIN_TOWN, check_answers, import_count, import_from, text_of_named, text_of_tried,
-    trial_from, with_bad_rows,
+    CUT_RETURNS, MORE_STATIONS, Pieces, RETURNS, TWIN_TOWN, check_answers, import_count,
+    import_from, text_of_named, text_of_tried, trial_from,
 };
 use tally_store::Store;
 
@@ -67,12 +66,6 @@ fn check_imports<S: Alter + Drop>(
         check_answers(alloc, &mut office, case.lines)?;
     }
     Ok(())
-}
-
-/// The same in a new office of three stations.
-fn check_imports_in_new(alloc: Global, cases: &[Case<'_>]) -> Result<(), Fail> {
-    let setup = format!(in alloc; "{TWIN_TOWN}{MORE_STATIONS}")?;
-    check_imports(alloc, made(alloc, setup.as_str())?, cases)
 }
 
 #[test]
@@ -137,72 +130,8 @@ show c1 = open 1 2 0 0 1/3 [10, 20] 0 0 [] []",
             lines: "show c1 = open 1 0 0 0 3/3 [90, 120] 1 2 [] []",
         },
     ];
-    check_imports_in_new(alloc, &cases)
-}
-
-// What is answered in a new office where all but the return of s2 were lodged. 8 is NoReturn.
-const TWO_LODGED: &str = "return s1 = 1 p1 Received [10, 20] 0 0 \n\
-return s2 = refused 8
-return s3 = 1 p3 Received [50, 60] 0 2 \n\
-show c1 = open 1 2 0 0 0/3 [0, 0] 0 0 [] []";
-
-/// The three returns, by reads of so many bytes.
-fn returns_by(piece: usize) -> Case<'static> {
-    Case {
-        text: RETURNS,
-        sep: Sep::Comma,
-        piece,
-        failure: None,
-        want: import_count([3, 0, 0, 0, 0], None),
-        lines: ALL_LODGED,
-    }
-}
-
-#[test]
-fn imports_each_into_a_new_office(rt: HostRuntime) -> Result<(), Fail> {
-    let alloc = rt.alloc();
-    let long = with_bad_rows(alloc, 20_000)?;
-    let cases = [
-        Case {
-            text: QUOTED_RETURNS,
-            sep: Sep::Semicolon,
-            piece: 4_096,
-            failure: None,
-            want: import_count([3, 0, 0, 0, 0], None),
-            lines: ALL_LODGED,
-        },
-        Case {
-            text: BAD_RETURNS,
-            sep: Sep::Comma,
-            piece: 4_096,
-            failure: None,
-            want: import_count([2, 0, 0, 0, 1], Some((2, 0))),
-            lines: TWO_LODGED,
-        },
-        Case {
-            text: "",
-            sep: Sep::Comma,
-            piece: 4_096,
-            failure: None,
-            want: Err(ImportFault::BadHeader),
-            lines: NONE_LODGED,
-        },
-        Case {
-            text: long.as_str(),
-            sep: Sep::Comma,
-            piece: 4_096,
-            failure: None,
-            want: Err(ImportFault::TooLong),
-            lines: NONE_LODGED,
-        },
-        returns_by(1),
-        returns_by(2),
-        returns_by(7),
-    ];
-    for case in cases {
-        check_imports_in_new(alloc, &[case])?;
-    }
-    Ok(())
+    let setup = format!(in alloc; "{TWIN_TOWN}{MORE_STATIONS}")?;
+    check_imports(alloc, made(alloc, setup.as_str())?, &cases)
 }
 
 // A return, another of the same station, one without a number, one of 301 votes at a station of 300

@@ -4,9 +4,9 @@ use Rattle.std.specs.Prelude.{Option, Some, None, option_and_then, option_map}
 use Rattle.std.specs.List.{prefix_len}
 use Rattle.sqlite_value.specs.Order.{Row, column}
 use Rattle.tally_schema.specs.Values.{text_of}
-use Rattle.tally_rules.specs.Code.{code_of}
-use Rattle.tally_rules.specs.Constituency.{Constituency}
-use Rattle.tally_rules.specs.Setup.{constituency_with}
+use Rattle.tally_setup.specs.Code.{code_of}
+use Rattle.tally_setup.specs.Constituency.{Constituency}
+use Rattle.tally_setup.specs.Setup.{constituency_with}
 use Rattle.tally_returns.specs.View.{View}
 use Rattle.tally_tables.specs.Reading.{◌>>=◌, has_text, standing_of, numbers_from, all_gone_of}
 use Rattle.tally_tables.specs.Reading.{sums_of, past_of}

@@ -13,8 +13,8 @@ use sqlite::Row;
 use std::alloc::{AllocError, Global};
 use std::marker::Model;
 use tally_returns::{Counts, Return, Status};
-use tally_rules::{Code, Constituency, Setup, Station};
 use tally_schema::{number_at, text_at};
+use tally_setup::{Code, Constituency, Setup, Station};
 
 /// What a row of `returns` has beside its codes.
 #[derive(Clone, Copy)]

@@ -11,7 +11,7 @@ use crate::sums::sums_in;
 use sqlite::Row;
 use std::alloc::{AllocError, Global};
 use tally_returns::ConView;
-use tally_rules::Constituency;
+use tally_setup::Constituency;
 
 /// How many stations a constituency has, and how many of their returns are in each status.
 #[derive(Clone, Copy)]

@@ -6,7 +6,7 @@ use Rattle.tally_contest.specs.declared.won.WonSeat.{WonSeat}
 use Rattle.tally_law.specs.DivisorAllotment.{IsDivisorAllotment}
 use Rattle.tally_law.specs.Poll.{Poll}
 use Rattle.tally_contest.specs.internal.Terms.{IsProperLot, placed_divisor_race}
-use Rattle.tally_rules.specs.declared.profile.LotRule.{LotRule}
+use Rattle.tally_setup.specs.declared.profile.LotRule.{LotRule}
 use Rattle.tally_contest.specs.internal.WonSeat.{AreWon}
 
 -- Under whichever proper lot the seats are the allotment and were won so, these are its awards.

@@ -1,6 +1,6 @@
 -- How the codes of a group are written one after the other.
 use Rattle.std.specs.Prelude.{ℕ, Bool, true, false, List, [], ◌∷◌}
-use Rattle.tally_rules.specs.Constituency.{ListEntry}
+use Rattle.tally_setup.specs.Constituency.{ListEntry}
 use Rattle.tally_answer.specs.Outcome.{quoted_code, next_code}
 
 -- whether any list has come

@@ -1,6 +1,6 @@
 -- Why the constituency of a code is not found.
 use Rattle.std.specs.Prelude.{◌≡◌, Option, Some, None}
-use Rattle.tally_rules.specs.Constituency.{Constituency}
+use Rattle.tally_setup.specs.Constituency.{Constituency}
 use Rattle.tally_commands.specs.declared.trouble.Trouble.{Trouble}
 use Rattle.tally_commands.specs.declared.trouble.Trouble.TheVariants.{NoConstituency, Memory}
 

@@ -4,8 +4,8 @@ use Rattle.std.specs.Prelude.{ℕ, ◌+◌, ◌-◌, ◌%◌, ◌==◌, ◌&&◌
 use Rattle.std.specs.Prelude.{if◌then◌else◌}
 use Rattle.tally_frac.specs.Limits.{most_lists}
 use Rattle.tally_frac.specs.Rank.{Pair}
-use Rattle.tally_rules.specs.declared.profile.LotRule.{LotRule}
-use Rattle.tally_rules.specs.declared.profile.LotRule.TheVariants.{Fixed, Alternating}
+use Rattle.tally_setup.specs.declared.profile.LotRule.{LotRule}
+use Rattle.tally_setup.specs.declared.profile.LotRule.TheVariants.{Fixed, Alternating}
 use Rattle.tally_law.specs.Lot.{is_named, place_of}
 use Rattle.tally_law.specs.Poll.{Poll, votes_of}
 

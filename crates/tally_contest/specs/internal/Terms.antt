@@ -4,9 +4,9 @@ use Rattle.std.specs.Prelude.{ℕ, ◌≡◌, ◌+◌, ◌≤◌, ◌↔◌, Lis
 use Rattle.std.specs.Prelude.{slice_index_or, map, sum, if◌then◌else◌}
 use Rattle.tally_frac.specs.Limits.{most_lists, most_seats}
 use Rattle.tally_frac.specs.Rank.{Pair, RanksAbove, RanksAboveByVotes}
-use Rattle.tally_rules.specs.Threshold.{is_eligible}
-use Rattle.tally_rules.specs.declared.profile.LotRule.{LotRule}
-use Rattle.tally_rules.specs.declared.profile.LotRule.TheVariants.{Fixed}
+use Rattle.tally_setup.specs.Threshold.{is_eligible}
+use Rattle.tally_setup.specs.declared.profile.LotRule.{LotRule}
+use Rattle.tally_setup.specs.declared.profile.LotRule.TheVariants.{Fixed}
 use Rattle.tally_law.specs.Poll.{Poll, IsEligible, votes_of}
 use Rattle.tally_contest.specs.internal.Pairs.{pair_of}
 use Rattle.tally_law.specs.HareAllotment.{whole_quotas, claim_of, ClaimsAbove, ClaimsAboveByVotes}

@@ -7,7 +7,7 @@ ghost use Rattle.tally_keeper.specs.internal.Held.{moves_return};
 ghost use Rattle.tally_keeper.specs.Kept.{state_in, with_no_lot};
 ghost use Rattle.tally_returns.specs.Named.{station_named};
 ghost use Rattle.tally_steps.specs.Step.{answer, reply_seen};
-ghost use Rattle.tally_rules.specs.Setup.{constituency_with};
+ghost use Rattle.tally_setup.specs.Setup.{constituency_with};
 ghost use Rattle.tally_returns.specs.declared.ask.Ask.TheVariants.{ShowReturn};
 ghost use Rattle.tally_returns.specs.declared.refusal.Refusal.TheVariants.{Memory};
 
@@ -17,7 +17,7 @@ use tally_keeper::Ledger;
 use tally_machine::{
     Ask, Change, Counts, LodgeReply, Refusal, Reply, Return, decide_at, decide_lodge,
 };
-use tally_rules::Code;
+use tally_setup::Code;
 
 /// Answers a request and carries it out. What can fail is done before anything is changed.
 pub(super) fn answer_in(alloc: Global, ledger: &mut Ledger, ask: &Ask) -> Result<Reply, Refusal>

@@ -9,7 +9,7 @@ ghost use Rattle.tally_returns.specs.declared.refusal.Refusal.TheVariants.{Memor
 use std::alloc::Global;
 use tally_keeper::Ledger;
 use tally_machine::{Ask, Change, Refusal, Reply, decide_con};
-use tally_rules::Code;
+use tally_setup::Code;
 
 /// Answers a command on the constituency of a code, and carries it out.
 pub(super) fn answer_on_con(

@@ -10,7 +10,7 @@ ghost use Rattle.tally_keeper.specs.NamedRows.{NamesRows, named_row};
 ghost use Rattle.tally_keeper.specs.declared.import.Row.{Row};
 ghost use Rattle.tally_keeper.specs.declared.source.ImportFault.TheVariants.{Store};
 ghost use Rattle.tally_keeper.specs.Kept.{state_in};
-ghost use Rattle.tally_rules.specs.Code.{is_code};
+ghost use Rattle.tally_setup.specs.Code.{is_code};
 
 use super::answers::decide_first;
 use std::alloc::{AllocError, Global};
@@ -18,7 +18,7 @@ use tally_keeper::{
     Ask, Counts, ImportCount, ImportFault, Ledger, LodgeReply, NamedRow, ROW_LIMIT, Refusal,
     Return, Row, RowSource, name_bad, name_refused,
 };
-use tally_rules::Code;
+use tally_setup::Code;
 
 /// Lodges the rows of a source, and adds the stations that were lodged to a list, so that a fault
 /// or a trial can be undone.

@@ -8,7 +8,7 @@ ghost use Rattle.tally_returns.specs.declared.refusal.Refusal.TheVariants.{Store
 
 use std::alloc::{AllocError, Global};
 use tally_keeper::{Ledger, Refusal, StationRow};
-use tally_rules::{Code, Station};
+use tally_setup::{Code, Station};
 
 /// The stations of the constituency of a code, in the setup's order, each with a copy of its return
 /// where it has one.

@@ -1,7 +1,7 @@
 -- What functions of the desk give, and what the office is asked to show as they take it.
 use Rattle.std.specs.Prelude.{◌≡◌, ℕ, List, Option, Some, None, Vec, Result, Ok, Err}
 use Rattle.std.specs.declared.alloc.Global.{Global}
-use Rattle.tally_rules.specs.Constituency.{Constituency, ListEntry}
+use Rattle.tally_setup.specs.Constituency.{Constituency, ListEntry}
 use Rattle.tally_returns.specs.Return.{StationReturn}
 use Rattle.tally_returns.specs.State.{State}
 use Rattle.tally_returns.specs.declared.ask.Ask.{Ask}

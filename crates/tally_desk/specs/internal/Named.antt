@@ -1,8 +1,8 @@
 -- The lists of what a command is on, or none.
 use Rattle.std.specs.Prelude.{List, []}
 use Rattle.std.specs.Option.{option_map_or}
-use Rattle.tally_rules.specs.Constituency.{Constituency, ListEntry}
-use Rattle.tally_rules.specs.Setup.{constituency_with, station_with}
+use Rattle.tally_setup.specs.Constituency.{Constituency, ListEntry}
+use Rattle.tally_setup.specs.Setup.{constituency_with, station_with}
 use Rattle.tally_desk.specs.declared.named.Subject.{Subject}
 use Rattle.tally_desk.specs.declared.named.Subject.TheVariants as on
 

@@ -8,9 +8,9 @@ use Rattle.sqlite.specs.declared.error.Error.{Error}
 use Rattle.sqlite.specs.State.{State as Seen, HasCleanDisk}
 use Rattle.tally_schema.specs.Rows.{AreRowsOf}
 use Rattle.tally_frac.specs.Limits.{most_lists}
-use Rattle.tally_rules.specs.Code.{code_cmp}
-use Rattle.tally_rules.specs.Constituency.{Constituency}
-use Rattle.tally_rules.specs.Setup.{constituency_with}
+use Rattle.tally_setup.specs.Code.{code_cmp}
+use Rattle.tally_setup.specs.Constituency.{Constituency}
+use Rattle.tally_setup.specs.Setup.{constituency_with}
 use Rattle.tally_returns.specs.Counts.{VoteCounts}
 use Rattle.tally_returns.specs.GoneCandidate.{GoneCandidate}
 use Rattle.tally_returns.specs.PastSeats.{PastSeats}

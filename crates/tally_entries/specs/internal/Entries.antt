@@ -10,7 +10,7 @@ use Rattle.sqlite.specs.Held.{state}
 use Rattle.sqlite.specs.State.{State as Seen, HasCleanDisk, IsUnchanged}
 use Rattle.tally_schema.specs.Rows.{AreRowsOf, others}
 use Rattle.tally_frac.specs.Limits.{most_lists}
-use Rattle.tally_rules.specs.Constituency.{Constituency}
+use Rattle.tally_setup.specs.Constituency.{Constituency}
 use Rattle.tally_returns.specs.Return.{StationReturn, Returns}
 use Rattle.tally_schema.specs.Tables.{setup_tree}
 use Rattle.tally_statements.specs.declared.table.KeyedTable.{KeyedTable}

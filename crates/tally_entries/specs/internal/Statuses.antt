@@ -1,6 +1,6 @@
 -- How many returns of stations are in each status.
 use Rattle.std.specs.Prelude.{List, length}
-use Rattle.tally_rules.specs.declared.constituency.Station.{Station}
+use Rattle.tally_setup.specs.declared.constituency.Station.{Station}
 use Rattle.tally_returns.specs.Progress.{is_received, is_queried, is_corrected, is_closed}
 use Rattle.tally_returns.specs.Progress.{count_with_status}
 use Rattle.tally_returns.specs.Return.{Returns}

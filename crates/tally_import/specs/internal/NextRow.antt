@@ -1,6 +1,6 @@
 -- What the parts of a call for the next row answer.
 use Rattle.std.specs.Prelude.{ℕ, List, Option, Result}
-use Rattle.tally_rules.specs.Constituency.{Constituency}
+use Rattle.tally_setup.specs.Constituency.{Constituency}
 use Rattle.tally_keeper.specs.declared.import.Row.{Row}
 use Rattle.tally_keeper.specs.declared.source.ImportFault.{ImportFault}
 use Rattle.tally_records.specs.declared.separator.Sep.{Sep}

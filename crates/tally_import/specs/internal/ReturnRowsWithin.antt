@@ -2,7 +2,7 @@
 use Rattle.std.proofs.Common.{◌≤◌, ℕ, zero, suc, List, [], ◌∷◌, Bool, true, false, Option, Some}
 use Rattle.std.proofs.Common.{None, length, take, map, arith, length-drop}
 use Rattle.std.specs.Prelude.{◌≢◌, if◌then◌else◌, nat_lt, option_map, IfSome}
-use Rattle.tally_rules.specs.Constituency.{Constituency, list_codes}
+use Rattle.tally_setup.specs.Constituency.{Constituency, list_codes}
 use Rattle.tally_keeper.specs.Source.{IsWithinRowLimit, row_limit}
 use Rattle.tally_keeper.specs.declared.source.ImportFault.{ImportFault}
 use Rattle.tally_keeper.specs.declared.source.ImportFault.TheVariants as cause

@@ -8,7 +8,7 @@ use Rattle.std.specs.declared.cmp.Ordering.{Ordering}
 use Rattle.sqlite_value.specs.Order.{Row}
 use Rattle.tally_keeper.specs.Kept.{Kept, opening_kept}
 use Rattle.tally_schema.specs.Rows.{text_cmp}
-use Rattle.tally_rules.specs.Constituency.{Constituency}
+use Rattle.tally_setup.specs.Constituency.{Constituency}
 use Rattle.tally_returns.specs.Lawful.{IsLawful}
 use Rattle.tally_returns.specs.Lodge.{StationLimits}
 use Rattle.tally_returns.specs.Return.{StationReturn, Returns}

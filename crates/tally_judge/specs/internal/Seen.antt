@@ -7,8 +7,8 @@ use Rattle.tally_steps.specs.Outcome.{rule_in}
 use Rattle.tally_returns.specs.Lawful.{is_note_or_empty}
 use Rattle.tally_returns.specs.State.{last_edition}
 use Rattle.tally_returns.specs.View.{View, FitsView}
-use Rattle.tally_rules.specs.Constituency.{Constituency}
-use Rattle.tally_rules.specs.Limits.{most_stations}
+use Rattle.tally_setup.specs.Constituency.{Constituency}
+use Rattle.tally_setup.specs.Limits.{most_stations}
 
 -- the stations, the edition and the note are within their limits
 abbrev pub is_in_range : View → Bool

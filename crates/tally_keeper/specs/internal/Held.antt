@@ -6,10 +6,10 @@ use Rattle.std.specs.FinMap.{get, remove}
 use Rattle.std.specs.Option.{ForSome}
 use Rattle.tally_keeper.specs.Kept.{AreEarlier, Kept, state_in, view_in, with_change}
 use Rattle.tally_keeper.specs.internal.KeptCode.{state_code}
-use Rattle.tally_rules.specs.Constituency.{Constituency}
-use Rattle.tally_rules.specs.Limits.{IsSetup}
-use Rattle.tally_rules.specs.Setup.{constituency_with}
-use Rattle.tally_rules.specs.contracts.setup.Setup.{the_row as setup_row}
+use Rattle.tally_setup.specs.Constituency.{Constituency}
+use Rattle.tally_setup.specs.Limits.{IsSetup}
+use Rattle.tally_setup.specs.Setup.{constituency_with}
+use Rattle.tally_setup.specs.contracts.setup.Setup.{the_row as setup_row}
 use Rattle.tally_steps.specs.Step.{ConChange, IsView, con_change, gone_for_good, Answer}
 use Rattle.tally_steps.specs.Step.{answer_seen, edition_now, vacated, IsConStep, IsStep, reply_seen}
 use Rattle.tally_steps.specs.Step.{lodge_reply, move_reply, after_return, change_in_state}

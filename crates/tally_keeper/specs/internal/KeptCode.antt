@@ -2,9 +2,9 @@
 use Rattle.std.specs.Prelude.{ℕ, List, Bool, refl}
 use Rattle.std.specs.Coded.{Coded, code_by, coded×, coded_list, coded_bool, coded_ℕ}
 use Rattle.std.specs.FinMap.{FinMap, code}
-use Rattle.tally_rules.specs.Code.{code_cmp}
-use Rattle.tally_rules.specs.Constituency.{Constituency}
-use Rattle.tally_rules.specs.contracts.setup.Setup.{the_row as setup_row}
+use Rattle.tally_setup.specs.Code.{code_cmp}
+use Rattle.tally_setup.specs.Constituency.{Constituency}
+use Rattle.tally_setup.specs.contracts.setup.Setup.{the_row as setup_row}
 use Rattle.tally_returns.specs.Return.{Returns}
 use Rattle.tally_returns.specs.State.{State, ConState, GoneCandidates, PastRecords}
 use Rattle.tally_returns.specs.contracts.returns.Return.{the_row as return_row}

@@ -2,7 +2,7 @@
 use Rattle.std.specs.Prelude.{◌≡◌, ◌≤◌, ◌<◌, if◌then◌else◌, ℕ, Bool, true, List, map, slice_index}
 use Rattle.std.specs.Prelude.{length}
 use Rattle.std.specs.List.{range_with_len}
-use Rattle.tally_rules.specs.Limits.{most_stations}
+use Rattle.tally_setup.specs.Limits.{most_stations}
 use Rattle.tally_returns.specs.Counts.{VoteCounts}
 use Rattle.tally_returns.specs.Progress.{is_received, is_queried, is_corrected, is_closed}
 use Rattle.tally_returns.specs.Return.{StationReturn}

@@ -9,7 +9,7 @@ use Rattle.sqlite.specs.State.{State as Seen, HasCleanDisk}
 use Rattle.sqlite_trees.specs.Tree.{Trees}
 use Rattle.sqlite_schema.specs.declared.schema.Schema.{Schema}
 use Rattle.tally_keeper.specs.declared.fault.CreateFault.{CreateFault}
-use Rattle.tally_rules.specs.Constituency.{Constituency}
+use Rattle.tally_setup.specs.Constituency.{Constituency}
 use Rattle.tally_rules.specs.Reading.{setup_of_text}
 use Rattle.tally_returns.specs.Counts.{VoteCounts}
 use Rattle.tally_returns.specs.State.{opening}

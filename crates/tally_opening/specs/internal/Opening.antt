@@ -11,7 +11,7 @@ use Rattle.sqlite.specs.State.{State as Seen, HasCleanDisk}
 use Rattle.sqlite_schema.specs.declared.schema.Schema.{Schema}
 use Rattle.sqlite_trees.specs.declared.store.Store.{Ghosts}
 use Rattle.sqlite_trees.specs.Tree.{Trees}
-use Rattle.tally_rules.specs.Constituency.{Constituency}
+use Rattle.tally_setup.specs.Constituency.{Constituency}
 use Rattle.tally_returns.specs.State.{State}
 use Rattle.tally_steps.specs.LawfulState.{IsLawfulState}
 use Rattle.tally_statements.specs.declared.table.KeyedTable.TheVariants.{Returns, Counts, Cons}

@@ -1,8 +1,8 @@
 -- What `show` and `import` come to over an office that is open. No contract knows the bytes of a
 -- file.
 use Rattle.std.specs.Prelude.{◌≡◌, ◌⊎◌, ℕ, Bool, true, is_some, List, Option, Some, None}
-use Rattle.tally_rules.specs.Constituency.{Constituency}
-use Rattle.tally_rules.specs.Setup.{constituency_with}
+use Rattle.tally_setup.specs.Constituency.{Constituency}
+use Rattle.tally_setup.specs.Setup.{constituency_with}
 use Rattle.tally_returns.specs.State.{State}
 use Rattle.tally_overview.specs.declared.shown.Shown.{Shown}
 use Rattle.tally_overview.specs.declared.shown.Shown.TheVariants as shown

@@ -1,7 +1,7 @@
 -- The awards that a report prints.
 use Rattle.std.specs.Prelude.{◌≤◌, length}
 use Rattle.tally_allot.specs.declared.award.Award.{Award}
-use Rattle.tally_rules.specs.Constituency.{Constituency}
+use Rattle.tally_setup.specs.Constituency.{Constituency}
 
 -- an award to a list of this constituency, with its divisor
 pub record IsAwardIn (con : Constituency) (award : Award) : Type 0 where

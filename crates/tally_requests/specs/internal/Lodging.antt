@@ -4,7 +4,7 @@ use Rattle.std.specs.Prelude.{◌≡◌, ◌≤◌, false, ℕ, List, length, Re
 use Rattle.sqlite.specs.declared.error.Error.{Error}
 use Rattle.sqlite.specs.State.{State as Seen, HasCleanDisk, IsUnchanged}
 use Rattle.tally_frac.specs.Limits.{most_lists}
-use Rattle.tally_rules.specs.Constituency.{Constituency}
+use Rattle.tally_setup.specs.Constituency.{Constituency}
 use Rattle.tally_returns.specs.Counts.{VoteCounts}
 use Rattle.tally_returns.specs.Lodge.{lodge_answer, lodge}
 use Rattle.tally_returns.specs.State.{State, stations_of}

@@ -4,10 +4,10 @@ use Rattle.std.specs.FinMap.{get, insert}
 use Rattle.sqlite.specs.declared.error.Error.{Error}
 use Rattle.sqlite.specs.State.{State as Seen, HasCleanDisk}
 use Rattle.tally_schema.specs.Rows.{AreRowsOf}
-use Rattle.tally_rules.specs.Constituency.{Constituency}
-use Rattle.tally_rules.specs.Limits.{IsSetup}
-use Rattle.tally_rules.specs.Setup.{station_with}
-use Rattle.tally_rules.specs.declared.constituency.Station.{Station}
+use Rattle.tally_setup.specs.Constituency.{Constituency}
+use Rattle.tally_setup.specs.Limits.{IsSetup}
+use Rattle.tally_setup.specs.Setup.{station_with}
+use Rattle.tally_setup.specs.declared.constituency.Station.{Station}
 use Rattle.tally_returns.specs.Counts.{VoteCounts}
 use Rattle.tally_returns.specs.Return.{StationReturn}
 use Rattle.tally_returns.specs.State.{State, con_state}

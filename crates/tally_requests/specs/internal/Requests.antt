@@ -1,12 +1,12 @@
 -- What a request or an import does to the tables of an office, in a transaction.
-use Rattle.std.specs.Prelude.{◌≡◌, false, ℕ, List, Some, Result, IfErr, IfOk, OnOk}
+use Rattle.std.specs.Prelude.{◌≡◌, false, ℕ, List, Some, Result, IfErr, IfOk, IsTrue, OnOk}
 use Rattle.std.specs.BTreeMap.{BTreeMap}
 use Rattle.sqlite_trees.specs.declared.store.Store.{Ghosts}
 use Rattle.sqlite.specs.declared.error.Error.{Error}
 use Rattle.sqlite.specs.declared.transaction.Transaction.{Transaction}
 use Rattle.sqlite.specs.Held.{state}
 use Rattle.sqlite.specs.State.{State as Seen, HasCleanDisk, IsUnchanged}
-use Rattle.tally_rules.specs.Constituency.{Constituency}
+use Rattle.tally_setup.specs.Constituency.{Constituency}
 use Rattle.tally_returns.specs.State.{State}
 use Rattle.tally_returns.specs.declared.ask.Ask.{Ask}
 use Rattle.tally_returns.specs.declared.refusal.Refusal.{Refusal}
@@ -60,6 +60,10 @@ KeepsKnown setup before after ask old new result =
     → AreTables setup text s old.now.trees → IsAnswered setup s ask r t
     → AreKnown setup t.returns after)
 
+-- where something was answered, the connection was open
+abbrev pub WasOpen : {X : Type 0} → Seen → Seen → Result X Error → Type 0
+WasOpen old new result = HasCleanDisk new → OnOk result (IsTrue old.is_open)
+
 -- A request that is refused, that repeats what is recorded or that shows something writes nothing
 -- on a connection that is open: no row is written again as it was, since that would be counted as a
 -- change.
@@ -68,7 +72,8 @@ WritesOnlyActs old new result =
     HasCleanDisk new → IsOpenInside old → IfOk result (λ r. is_act r ≡ false → IsUnchanged old new)
 
 -- What a call does that answers a request on the tables of an office. The reply is of the request's
--- kind, whatever the tables are. With an answer, nothing is forgotten of what was known.
+-- kind, whatever the tables are. With an answer, the connection was open, and nothing is forgotten
+-- of what was known.
 pub record AnswersIn {S : Type 0} (g : Ghosts S) (setup : List Constituency) (ask : Ask)
     (before after : BTreeMap (List ℕ) Statuses) (old new : Transaction S)
     (result : Result (Result Reply Refusal) Error) : Type 0 where
@@ -77,6 +82,7 @@ pub record AnswersIn {S : Type 0} (g : Ghosts S) (setup : List Constituency) (as
   pub known : InDatabase g (KeepsKnown setup (known_of before) (known_of after) ask) old new result
   pub forgets : OnOk result (ForgetsNone (known_of before) (known_of after))
   pub unwritten : InDatabase g WritesOnlyActs old new result
+  pub answered_open : InDatabase g WasOpen old new result
 
 -- All rows that a source gave were lodged as in this state, and the tables are those of the state
 -- after that.

@@ -1,7 +1,7 @@
 -- What is found of a constituency that is shown without its certificates on record.
 use Rattle.std.specs.Prelude.{ℕ, List, Result}
 use Rattle.sqlite.specs.State.{State as Seen}
-use Rattle.tally_rules.specs.Constituency.{Constituency}
+use Rattle.tally_setup.specs.Constituency.{Constituency}
 use Rattle.tally_returns.specs.PastSeats.{PastSeats}
 use Rattle.tally_returns.specs.State.{State}
 use Rattle.tally_returns.specs.View.{View}

@@ -2,8 +2,8 @@
 use Rattle.std.specs.Prelude.{◌≡◌, ℕ, List, map, Some, Vec, Result}
 use Rattle.std.specs.declared.alloc.Global.{Global}
 use Rattle.sqlite.specs.State.{State as Seen}
-use Rattle.tally_rules.specs.Constituency.{Constituency}
-use Rattle.tally_rules.specs.declared.constituency.Station.{Station}
+use Rattle.tally_setup.specs.Constituency.{Constituency}
+use Rattle.tally_setup.specs.declared.constituency.Station.{Station}
 use Rattle.tally_returns.specs.State.{State}
 use Rattle.tally_returns.specs.StationRows.{station_row}
 use Rattle.tally_returns.specs.declared.refusal.Refusal.{Refusal}

@@ -5,11 +5,11 @@ ghost use Rattle.std.specs.Prelude.{OnOk, length, map, string_bytes, true};
 ghost use Rattle.std.specs.List.{list_all};
 ghost use Rattle.toml.specs.View.{view};
 ghost use Rattle.tally_frac.specs.Limits.{most_lists};
-ghost use Rattle.tally_rules.specs.Code.{is_code};
-ghost use Rattle.tally_rules.specs.Codes.{AreDistinct};
-ghost use Rattle.tally_rules.specs.Constituency.{list_codes, station_codes};
-ghost use Rattle.tally_rules.specs.Limits.{IsConstituency, IsListEntry, IsStation};
-ghost use Rattle.tally_rules.specs.Limits.{most_candidates, most_stations};
+ghost use Rattle.tally_setup.specs.Code.{is_code};
+ghost use Rattle.tally_setup.specs.Codes.{AreDistinct};
+ghost use Rattle.tally_setup.specs.Constituency.{list_codes, station_codes};
+ghost use Rattle.tally_setup.specs.Limits.{IsConstituency, IsListEntry, IsStation};
+ghost use Rattle.tally_setup.specs.Limits.{most_candidates, most_stations};
 ghost use Rattle.tally_rules.specs.internal.Found.{first_found, key_name, IsFoundIn, is_kind};
 ghost use Rattle.tally_rules.specs.internal.Found.{IsPlacedIn};
 ghost use Rattle.tally_rules.specs.Place.{in_entry};
@@ -18,13 +18,9 @@ ghost use Rattle.tally_rules.specs.Reading.{first_station, list_entry, next_code
 ghost use Rattle.tally_rules.specs.Reading.{read_candidates, read_lists, read_stations};
 ghost use Rattle.tally_rules.specs.Reading.{rest_of_constituency, rest_of_list, rest_of_station};
 ghost use Rattle.tally_rules.specs.Reading.{station_entry, station_way};
-ghost use Rattle.tally_rules.specs.Setup.{all_station_codes, constituency_codes};
-ghost use Rattle.tally_rules.specs.Text.{IsName};
+ghost use Rattle.tally_setup.specs.Setup.{all_station_codes, constituency_codes};
+ghost use Rattle.tally_setup.specs.Text.{IsName};
 
-use crate::code::Code;
-use crate::codes::Codes;
-use crate::constituency::{Constituency, ListEntry, Station};
-use crate::limits::{MOST_CANDIDATES, MOST_ELECTORS, MOST_STATIONS};
 use crate::place::{Holder, Place, SetupArray, Way};
 use crate::read::fault::{Key, KeyFault, PlacedFault, in_entry};
 use crate::read::key::{
@@ -33,6 +29,9 @@ use crate::read::key::{
 use crate::read::profile::Profiles;
 use std::alloc::Global;
 use tally_frac::{MOST_LISTS, MOST_SEATS};
+use tally_setup::{
+    Code, Codes, Constituency, ListEntry, MOST_CANDIDATES, MOST_ELECTORS, MOST_STATIONS, Station,
+};
 use toml::Value;
 
 /// What the items of an array have to be.
@@ -125,7 +124,8 @@ pub(super) fn next_code(
     array: &SetupArray,
     taken: &mut Codes,
 ) -> Result<Code, PlacedFault>
-    ensures code { IfOk result (λ code. next_code array.now taken.old (view entry.now) ≡ Ok code) }
+    ensures code { IfOk result (λ code.
+        next_code array.now taken.old (view entry.now) ≡ Ok code) }
     ensures is_code { IfOk result (λ code. is_code code ≡ true) }
     ensures taken { IfOk result (λ code. taken.new ≡ taken.old ++ code ∷ []) }
     ensures distinct { OnOk result (AreDistinct taken.new) }
@@ -342,7 +342,8 @@ fn list_entry(
     con: &Holder,
     taken: &mut Codes,
 ) -> Result<ListEntry, PlacedFault>
-    ensures list { IfOk result (λ list. list_entry con.now taken.old (view entry.now) ≡ Ok list) }
+    ensures list { IfOk result (λ list.
+        list_entry con.now taken.old (view entry.now) ≡ Ok list) }
     ensures taken { IfOk result (λ list. taken.new ≡ taken.old ++ list.code ∷ []) }
     ensures distinct { OnOk result (AreDistinct taken.new) }
     ensures limits { IfOk result IsListEntry }
@@ -390,7 +391,8 @@ fn rest_of_constituency(
     ensures constituency { IfOk result (λ c.
         rest_of_constituency profiles.now before.now con.now (view entry.now) ≡ Ok c) }
     ensures code { IfOk result (λ c. c.code ≡ con.now.code) }
-    ensures stations { IfOk result (λ c. stations.new ≡ stations.old ++ station_codes c.stations) }
+    ensures stations { IfOk result (λ c.
+        stations.new ≡ stations.old ++ station_codes c.stations) }
     ensures distinct { OnOk result (AreDistinct stations.new) }
     ensures limits { IfOk result IsConstituency }
     ensures fault { IfErr result

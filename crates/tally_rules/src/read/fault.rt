@@ -9,10 +9,10 @@ ghost use Rattle.tally_rules.specs.declared.place.Place.{Place};
 ghost use Rattle.tally_rules.specs.declared.place.Place.TheVariants.{Entry};
 ghost use Rattle.tally_rules.specs.declared.fault.SetupFault.TheVariants.{NotToml};
 
-use crate::code::Code;
 use crate::fault::SetupFault;
 use crate::place::{Place, Way};
 use std::alloc::{AllocError, AllocFailed};
+use tally_setup::Code;
 
 /// The keys of a setup.
 #[derive(Clone, Copy)]

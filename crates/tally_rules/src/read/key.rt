@@ -3,23 +3,19 @@
 ghost use Rattle.std.specs.Prelude.{◌≡◌, ◌≢◌, ◌≤◌, ◌++◌, ◌∷◌, [], true, Ok, IfOk, IfErr, OnOk};
 ghost use Rattle.std.specs.Prelude.{string_bytes};
 ghost use Rattle.toml.specs.View.{view};
-ghost use Rattle.tally_rules.specs.Code.{is_code};
-ghost use Rattle.tally_rules.specs.Codes.{AreDistinct};
+ghost use Rattle.tally_setup.specs.Code.{is_code};
+ghost use Rattle.tally_setup.specs.Codes.{AreDistinct};
 ghost use Rattle.tally_rules.specs.internal.Found.{key_name, IsFoundIn};
 ghost use Rattle.tally_rules.specs.Reading.{read_base, read_code, read_entry, read_lot_rule};
 ghost use Rattle.tally_rules.specs.Reading.{read_method};
 ghost use Rattle.tally_rules.specs.Reading.{name_from, read_name, new_code, read_number, number_in};
 ghost use Rattle.tally_rules.specs.Reading.{read_text, read_value};
-ghost use Rattle.tally_rules.specs.Text.{IsName};
+ghost use Rattle.tally_setup.specs.Text.{IsName};
 ghost use Rattle.tally_rules.specs.declared.read.fault.KeyFault.TheVariants.{Memory};
 
-use crate::code::Code;
-use crate::codes::Codes;
-use crate::constituency::Entry;
-use crate::profile::{Base, LotRule, Method};
 use crate::read::fault::{Key, KeyFault};
-use crate::text::good_name;
 use std::alloc::Global;
+use tally_setup::{Base, Code, Codes, Entry, LotRule, Method, good_name};
 use toml::Value;
 
 /// The value of a key.

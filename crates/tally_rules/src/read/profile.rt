@@ -9,17 +9,14 @@ ghost use Rattle.tally_rules.specs.Reading.{profile_entry, profile_with, read_pr
 ghost use Rattle.tally_rules.specs.Reading.{rest_of_profile};
 ghost use Rattle.tally_rules.specs.declared.place.SetupArray.TheVariants.{Profiles as ProfileArray};
 
-use crate::code::Code;
-use crate::codes::Codes;
-use crate::limits::MOST_PROFILES;
 use crate::place::{Place, SetupArray};
-use crate::profile::Profile;
 use crate::read::entry::{Kind, next_code, read_array};
 use crate::read::fault::{Key, KeyFault, PlacedFault};
 use crate::read::key::{read_base, read_lot_rule, read_method, read_number};
 use std::alloc::Global;
 use std::marker::Model;
 use tally_frac::WHOLE_BASE;
+use tally_setup::{Code, Codes, MOST_PROFILES, Profile};
 use toml::Value;
 
 /// The profiles by their codes, in order. Each threshold is at most 10,000.
@@ -31,9 +28,9 @@ pub(super) struct Profiles {
 
 impl Model for Profiles {
     ghost use Rattle.std.specs.Prelude.{◌≡◌, ℕ, All, List};
-    ghost use Rattle.tally_rules.specs.Limits.{IsProfile};
+    ghost use Rattle.tally_setup.specs.Limits.{IsProfile};
     ghost use Rattle.tally_rules.specs.Reading.{profile_codes};
-    ghost use Rattle.tally_rules.specs.declared.profile.Profile as declared;
+    ghost use Rattle.tally_setup.specs.declared.profile.Profile as declared;
 
     ghost Value = { List (List ℕ × declared.Profile) };
 

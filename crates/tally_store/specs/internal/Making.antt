@@ -1,7 +1,7 @@
 -- What a store is made of, and what its content is then. No public contract speaks of this.
 use Rattle.std.specs.Prelude.{◌≡◌, List, IsTrue, Some}
 use Rattle.sqlite.specs.State.{State as Seen, HasCleanDisk}
-use Rattle.tally_rules.specs.Constituency.{Constituency}
+use Rattle.tally_setup.specs.Constituency.{Constituency}
 use Rattle.tally_returns.specs.State.{State}
 use Rattle.tally_steps.specs.LawfulState.{IsLawfulState}
 use Rattle.tally_opening.specs.Office.{IsOffice}

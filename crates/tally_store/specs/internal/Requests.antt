@@ -7,7 +7,7 @@ use Rattle.sqlite.specs.State.{State as Seen, HasCleanDisk, IsRolledBack, KeepsC
 use Rattle.sqlite.specs.State.{Survives}
 use Rattle.sqlite.specs.declared.error.Error.{Error}
 use Rattle.sqlite_trees.specs.Tree.{Trees}
-use Rattle.tally_rules.specs.Constituency.{Constituency}
+use Rattle.tally_setup.specs.Constituency.{Constituency}
 use Rattle.tally_steps.specs.LawfulState.{IsLawfulState}
 use Rattle.tally_steps.specs.Step.{IsAnswered}
 use Rattle.tally_returns.specs.State.{State}

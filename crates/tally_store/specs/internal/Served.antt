@@ -1,7 +1,7 @@
 -- What a store knows of its constituencies, beside what it holds.
 use Rattle.std.specs.Prelude.{List, ℕ, IsTrue}
 use Rattle.sqlite.specs.State.{State as Seen, HasCleanDisk}
-use Rattle.tally_rules.specs.Constituency.{Constituency}
+use Rattle.tally_setup.specs.Constituency.{Constituency}
 use Rattle.tally_returns.specs.State.{State}
 use Rattle.tally_steps.specs.LawfulState.{IsLawfulState}
 use Rattle.tally_requests.specs.internal.Known.{AreKnown, Known}

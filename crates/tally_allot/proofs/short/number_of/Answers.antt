@@ -1,5 +1,5 @@
 use Rattle.std.proofs.Common.{◌-◌, ◌<◌, length, get_or, sym, ◌∙◌, subst, arith}
-use Rattle.tally_rules.specs.declared.profile.LotRule.TheVariants.{Fixed}
+use Rattle.tally_setup.specs.declared.profile.LotRule.TheVariants.{Fixed}
 use Rattle.tally_contest.specs.internal.KeptPoll.{kept_poll}
 use Rattle.tally_law.specs.Allotment.{divisors}
 use Rattle.tally_law.specs.Poll.{Poll, IsEligible}

@@ -1,6 +1,6 @@
 use Rattle.std.proofs.Common.{◌≡◌, ◌++◌, ◌||◌, Bool, List, ℕ, suc, ap, sym, ◌∙◌, append_assoc, arith, take, get_or, slice_index_or, false}
 use Rattle.tally_frac.specs.ListSet.{has_place}
-use Rattle.tally_rules.specs.Constituency.{ListEntry}
+use Rattle.tally_setup.specs.Constituency.{ListEntry}
 use Rattle.tally_answer.specs.Outcome.{marked_lists, quoted_codes}
 use Rattle.tally_answer.specs.internal.Group.{is_begun, code_in_group}
 use Rattle.tally_answer.proofs.GroupLemmas.{written_next, begun_by}

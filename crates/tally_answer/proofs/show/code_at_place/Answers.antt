@@ -1,8 +1,8 @@
 use Rattle.std.proofs.Common.{◌≡◌, ◌-◌, ◌∙◌, Some, ap, sym, arith}
 use Rattle.std.specs.List.{slice_get}
 use Rattle.std.specs.Option.{option_copied}
-use Rattle.tally_rules.specs.Constituency.{ListEntry}
-use Rattle.tally_rules.proofs.SetupLemmas.{slice_get-lookup}
+use Rattle.tally_setup.specs.Constituency.{ListEntry}
+use Rattle.tally_setup.proofs.SetupLemmas.{slice_get-lookup}
 use Rattle.tally_answer.proofs.ShownLemmas.{code_at_place-some}
 use Rattle.tally_answer.proofs.show.code_at_place.Goals as goal
 

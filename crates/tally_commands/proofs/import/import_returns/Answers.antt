@@ -1,5 +1,5 @@
 use Rattle.std.proofs.Common.{◌≡◌, subst}
-use Rattle.tally_rules.specs.Setup.{constituency_with}
+use Rattle.tally_setup.specs.Setup.{constituency_with}
 use Rattle.tally_commands.specs.Imported.{IsTroubleIn}
 use Rattle.tally_commands.proofs.ImportLemmas.{find-no-read, find-trouble}
 use Rattle.tally_commands.specs.declared.trouble.Trouble.TheVariants.{Read}

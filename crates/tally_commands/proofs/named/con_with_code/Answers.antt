@@ -1,5 +1,5 @@
 use Rattle.std.proofs.Common.{◌≡◌, ◌∙◌, None, ap, sym}
-use Rattle.tally_rules.specs.Code.{code_of}
+use Rattle.tally_setup.specs.Code.{code_of}
 use Rattle.tally_commands.proofs.NamedLemmas.{no-con}
 use Rattle.tally_commands.proofs.named.con_with_code.Goals as goal
 

@@ -1,6 +1,6 @@
 use Rattle.std.proofs.Common.{◌≡◌, ◌∙◌, List, ap, subst, string_bytes}
 use Rattle.std.proofs.lemmas.Result.{IfOk-weaker}
-use Rattle.tally_rules.specs.Constituency.{Constituency}
+use Rattle.tally_setup.specs.Constituency.{Constituency}
 use Rattle.tally_overview.specs.CountryText.{country_text}
 use Rattle.tally_desk.specs.Shown.{ShowsAll}
 use Rattle.tally_commands.specs.Show.{IsCountryShown}

@@ -1,5 +1,5 @@
 use Rattle.std.proofs.Common.{◌≡◌, take}
-use Rattle.tally_rules.specs.Setup.{constituency_codes}
+use Rattle.tally_setup.specs.Setup.{constituency_codes}
 use Rattle.tally_desk.proofs.country.codes_of.Given as goal
 
 abbrev pub invariant-loop-con : goal.invariant-loop-con

@@ -4,7 +4,7 @@ use Rattle.tally_answer.specs.declared.status.AnswerStatus.TheVariants.{Done}
 use Rattle.tally_answer.specs.declared.status.BodyType.TheVariants.{Text}
 use Rattle.tally_overview.specs.CountryText.{country_text}
 use Rattle.tally_returns.specs.View.{View}
-use Rattle.tally_rules.specs.Constituency.{Constituency}
+use Rattle.tally_setup.specs.Constituency.{Constituency}
 use Rattle.tally_desk.specs.Requests.{ShowsCountry}
 use Rattle.tally_desk.specs.Shown.{ShowsAll}
 use Rattle.tally_desk.proofs.DeskLemmas.{gives}

@@ -1,6 +1,6 @@
 use Rattle.std.proofs.Common.{◌≡◌, Some, Ok, arith, subst, sym}
-use Rattle.tally_rules.specs.Constituency.{Constituency}
-use Rattle.tally_rules.specs.Setup.{constituency_with}
+use Rattle.tally_setup.specs.Constituency.{Constituency}
+use Rattle.tally_setup.specs.Setup.{constituency_with}
 use Rattle.tally_keeper.specs.Shown.{AnswersShowCon}
 use Rattle.tally_keeper.proofs.StaysLemmas.{stays-then}
 use Rattle.tally_desk.proofs.CountryLemmas.{all-refused, at-first, con-at, fits-more, shown-more}

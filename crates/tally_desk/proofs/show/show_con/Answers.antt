@@ -4,8 +4,8 @@ use Rattle.tally_answer.specs.Answer.{answer_text}
 use Rattle.tally_answer.specs.Shown.{shown_con}
 use Rattle.tally_answer.specs.declared.status.AnswerStatus.TheVariants as status
 use Rattle.tally_answer.specs.declared.status.BodyType.TheVariants as body
-use Rattle.tally_rules.specs.Constituency.{Constituency}
-use Rattle.tally_rules.specs.Setup.{constituency_with}
+use Rattle.tally_setup.specs.Constituency.{Constituency}
+use Rattle.tally_setup.specs.Setup.{constituency_with}
 use Rattle.tally_returns.specs.declared.reply.Reply.TheVariants as reply
 use Rattle.tally_keeper.specs.Shown.{AnswersShowCon}
 use Rattle.tally_desk.specs.Requests as desk

@@ -1,5 +1,5 @@
 use Rattle.std.proofs.Common.{◌≡◌, false, rules, subst}
-use Rattle.tally_rules.specs.Limits.{IsSetup}
+use Rattle.tally_setup.specs.Limits.{IsSetup}
 use Rattle.tally_desk.specs.Shown.{is_past}
 use Rattle.tally_desk.proofs.DeskLemmas.{enough-for, shown-bare}
 use Rattle.tally_desk.proofs.shown.view_for.Goals as goal

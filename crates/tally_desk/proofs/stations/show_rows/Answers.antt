@@ -1,6 +1,6 @@
 use Rattle.std.proofs.Common.{◌≡◌, ◌∙◌, Some, List, Ok, Err, ap, subst, sym}
-use Rattle.tally_rules.specs.Constituency.{Constituency}
-use Rattle.tally_rules.specs.Setup.{constituency_with}
+use Rattle.tally_setup.specs.Constituency.{Constituency}
+use Rattle.tally_setup.specs.Setup.{constituency_with}
 use Rattle.tally_keeper.specs.Shown.{ShowsReturns}
 use Rattle.tally_desk.specs.internal.Form.{rows_answer}
 use Rattle.tally_desk.specs.Requests.{AtCon, ShowsRows}

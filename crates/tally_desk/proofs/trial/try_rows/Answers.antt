@@ -1,5 +1,5 @@
 use Rattle.std.proofs.Common.{◌≡◌, ◌∙◌, List, Result, Ok, Err, [], OnOk, ap, subst, sym}
-use Rattle.tally_rules.specs.Constituency.{Constituency, ListEntry, list_codes}
+use Rattle.tally_setup.specs.Constituency.{Constituency, ListEntry, list_codes}
 use Rattle.tally_keeper.specs.Keeper.{Tries}
 use Rattle.tally_keeper.specs.NamedRows.{NamesRows}
 use Rattle.tally_keeper.specs.Source.{Delivery, SourceAt}

@@ -1,6 +1,6 @@
 use Rattle.std.proofs.Common.{◌∙◌, ap, subst}
 use Rattle.sqlite.specs.Held.{state}
-use Rattle.tally_rules.specs.Constituency.{Constituency}
+use Rattle.tally_setup.specs.Constituency.{Constituency}
 use Rattle.tally_entries.specs.internal.Found.{IsStageAmong}
 use Rattle.tally_entries.proofs.StatusLemmas.{finds_row}
 use Rattle.tally_entries.proofs.views.find_progress_row.Goals as goal

@@ -1,8 +1,8 @@
 use Rattle.std.proofs.Common.{◌∙◌, ap, subst, arith}
 use Rattle.sqlite.specs.State.{HasCleanDisk, IsUnchanged}
 use Rattle.sqlite.specs.Held.{state}
-use Rattle.tally_rules.specs.Constituency.{Constituency}
-use Rattle.tally_rules.specs.Limits.{IsConstituency}
+use Rattle.tally_setup.specs.Constituency.{Constituency}
+use Rattle.tally_setup.specs.Limits.{IsConstituency}
 use Rattle.tally_entries.specs.internal.Found.{AreRowsFound}
 use Rattle.tally_entries.proofs.FindLemmas.{inside_still}
 use Rattle.tally_entries.proofs.StatusLemmas.{known_before}

@@ -1,7 +1,7 @@
 use Rattle.std.proofs.Common.{◌≡◌, ◌<◌, ◌+◌, ◌++◌, ◌∷◌, ◌∙◌, [], true, false, length, drop, get_or, sym, ap, arith}
 use Rattle.std.proofs.lemmas.List.{drop_all}
 use Rattle.csv.specs.Records.{fields_of}
-use Rattle.tally_rules.specs.Code.{is_code}
+use Rattle.tally_setup.specs.Code.{is_code}
 use Rattle.tally_import.specs.Header.{header_lists}
 use Rattle.tally_import.proofs.HeaderLemmas.{lists_from, stands_in, lists_from-no_code, lists_from-again, lists_from-next, lists_from-end, header_lists-named, drop-at, code_of-some, code_of-none}
 use Rattle.tally_import.proofs.header.lists_in_header.Goals as goal

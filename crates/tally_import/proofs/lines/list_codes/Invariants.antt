@@ -1,5 +1,5 @@
 use Rattle.std.proofs.Common.{◌≡◌, take}
-use Rattle.tally_rules.specs.Constituency.{list_codes}
+use Rattle.tally_setup.specs.Constituency.{list_codes}
 use Rattle.tally_import.proofs.lines.list_codes.Given as goal
 
 abbrev pub invariant-loop-list : goal.invariant-loop-list

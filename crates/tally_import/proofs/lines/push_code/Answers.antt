@@ -1,5 +1,5 @@
 use Rattle.std.proofs.Common.{◌≡◌, ap, arith, length}
-use Rattle.tally_rules.proofs.CodeLemmas.{length-code}
+use Rattle.tally_setup.proofs.CodeLemmas.{length-code}
 use Rattle.tally_import.proofs.lines.push_code.Goals as goal
 
 pub push-requires : goal.push-requires

@@ -3,7 +3,7 @@ use Rattle.std.specs.Prelude.{◌&&◌}
 use Rattle.std.specs.Cmp.Lexicographic.{pointwise}
 use Rattle.std.proofs.lemmas.List.{length-map}
 use Rattle.csv.specs.Records.{fields_of}
-use Rattle.tally_rules.specs.Constituency.{list_codes}
+use Rattle.tally_setup.specs.Constituency.{list_codes}
 use Rattle.tally_import.specs.Header.{same_text}
 use Rattle.tally_import.proofs.ConstituencyLemmas.{names-at, code-at, not-true, not-false}
 use Rattle.tally_import.proofs.return_rows.is_header.Goals as goal

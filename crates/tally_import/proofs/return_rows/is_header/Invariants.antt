@@ -1,7 +1,7 @@
 use Rattle.std.proofs.Common.{◌≡◌, ◌+◌, drop}
 use Rattle.std.specs.Cmp.Lexicographic.{pointwise}
 use Rattle.csv.specs.Records.{fields_of}
-use Rattle.tally_rules.specs.Constituency.{list_codes}
+use Rattle.tally_setup.specs.Constituency.{list_codes}
 use Rattle.tally_import.specs.Header.{same_text}
 use Rattle.tally_import.specs.ReturnRows.{is_header}
 use Rattle.tally_import.proofs.return_rows.is_header.Given as goal

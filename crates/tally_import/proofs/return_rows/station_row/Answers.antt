@@ -1,6 +1,6 @@
 use Rattle.std.proofs.Common.{◌≡◌, ◌+◌, ℕ, List, [], ◌∷◌, Bool, true, false, Option, Some, None, Result, Ok, Err, length, map, is_some, subst, sym}
 use Rattle.std.specs.Prelude.{◌==◌, IfOk, if◌then◌else◌, not}
-use Rattle.tally_rules.specs.Code.{is_code}
+use Rattle.tally_setup.specs.Code.{is_code}
 use Rattle.csv.specs.Records.{fields_of}
 use Rattle.tally_returns.specs.Counts.{VoteCounts}
 use Rattle.tally_returns.specs.Lodge.{Stations}

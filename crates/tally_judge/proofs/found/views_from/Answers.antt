@@ -2,7 +2,7 @@ use Rattle.std.proofs.Common.{◌≡◌, ◌∙◌, ◌+◌, List, Some, ap, ap�
 use Rattle.sqlite_value.specs.Order.{Row}
 use Rattle.tally_keeper.specs.Kept.{view_in}
 use Rattle.tally_returns.specs.View.{View}
-use Rattle.tally_rules.specs.Constituency.{Constituency}
+use Rattle.tally_setup.specs.Constituency.{Constituency}
 use Rattle.tally_tables.specs.Views.{con_at, view_with_code, in_each, rows_after, rows_of_key, tables_in}
 use Rattle.tally_tables.proofs.FoundLemmas.{Reading, not_found, one_found}
 use Rattle.tally_tables.proofs.ItemLemmas.{map_some}

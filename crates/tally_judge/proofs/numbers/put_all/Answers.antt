@@ -1,8 +1,8 @@
 use Rattle.std.proofs.Common.{◌≡◌, ◌∙◌, Some, arith, ap, subst, sym, take}
 use Rattle.std.specs.Prelude.{All}
-use Rattle.tally_rules.specs.Constituency.{Constituency}
-use Rattle.tally_rules.specs.Limits.{IsSetup}
-use Rattle.tally_rules.specs.Setup.{constituency_with}
+use Rattle.tally_setup.specs.Constituency.{Constituency}
+use Rattle.tally_setup.specs.Limits.{IsSetup}
+use Rattle.tally_setup.specs.Setup.{constituency_with}
 use Rattle.tally_keeper.proofs.SetupLemmas.{Has, con-only, has-at}
 use Rattle.tally_judge.specs.Numbers.{numbers_of}
 use Rattle.tally_judge.specs.internal.Tree.{IsNumbered}

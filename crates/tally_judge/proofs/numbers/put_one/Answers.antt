@@ -3,7 +3,7 @@ use Rattle.std.specs.FinMap.{insert}
 use Rattle.std.specs.Option.{option_copied}
 use Rattle.std.specs.Prelude.{option_map}
 use Rattle.tally_keeper.proofs.TreeLemmas.{tree-insert}
-use Rattle.tally_rules.specs.Setup.{constituency_with}
+use Rattle.tally_setup.specs.Setup.{constituency_with}
 use Rattle.tally_tables.specs.Views.{statuses_of}
 use Rattle.tally_judge.specs.Numbers.{numbers_of}
 use Rattle.tally_judge.specs.internal.Tree.{with_numbers}

@@ -6,8 +6,8 @@ use Rattle.tally_law.specs.Rules.{poll_of, rule_of}
 use Rattle.tally_steps.proofs.CertificationLemmas.{carried}
 use Rattle.tally_steps.specs.Outcome.{poll_in, rule_in}
 use Rattle.tally_returns.specs.View.{View}
-use Rattle.tally_rules.specs.Constituency.{Constituency}
-use Rattle.tally_rules.specs.declared.profile.Profile.{Profile}
+use Rattle.tally_setup.specs.Constituency.{Constituency}
+use Rattle.tally_setup.specs.declared.profile.Profile.{Profile}
 use Rattle.tally_judge.proofs.SeenLemmas.{not_refused}
 use Rattle.tally_judge.proofs.view.is_lot_taken.Goals as goal
 

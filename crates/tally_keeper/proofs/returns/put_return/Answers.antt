@@ -1,8 +1,8 @@
 use Rattle.std.proofs.Common.{◌≡◌, ◌∙◌, Some, List, ℕ, false, true, sym, ap, subst}
 use Rattle.std.specs.FinMap.{get, insert}
 use Rattle.std.specs.Option.{ForSome}
-use Rattle.tally_rules.specs.Constituency.{Constituency}
-use Rattle.tally_rules.specs.Setup.{station_with}
+use Rattle.tally_setup.specs.Constituency.{Constituency}
+use Rattle.tally_setup.specs.Setup.{station_with}
 use Rattle.tally_returns.specs.Decide.{limits_of}
 use Rattle.tally_returns.specs.Lawful.{IsLawful}
 use Rattle.tally_returns.specs.Lodge.{StationLimits}

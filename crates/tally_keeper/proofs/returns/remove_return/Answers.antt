@@ -1,8 +1,8 @@
 use Rattle.std.proofs.Common.{◌≡◌, ◌∙◌, None, List, ℕ, false, sym, ap, subst}
 use Rattle.std.specs.FinMap.{get, remove}
 use Rattle.std.specs.Option.{ForSome}
-use Rattle.tally_rules.specs.Constituency.{Constituency}
-use Rattle.tally_rules.specs.Setup.{station_with}
+use Rattle.tally_setup.specs.Constituency.{Constituency}
+use Rattle.tally_setup.specs.Setup.{station_with}
 use Rattle.tally_keeper.specs.internal.Rows.{IsTallied, cons_of, returns_of, seats_of, views_of, without_former}
 use Rattle.tally_keeper.specs.internal.Sums.{CanCount}
 use Rattle.tally_keeper.proofs.TallyLemmas.{former-can, former-cons, former-seats, no_station-none, removed-none, tallied-former}

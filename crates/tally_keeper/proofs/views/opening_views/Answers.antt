@@ -1,8 +1,8 @@
 use Rattle.std.proofs.Common.{◌≡◌, ◌∙◌, ◌++◌, ◌∷◌, ◌+◌, [], take, sym, ap, subst}
 use Rattle.std.specs.FinMap.{insert}
 use Rattle.std.proofs.lemmas.List.{take_more}
-use Rattle.tally_rules.specs.Constituency.{Constituency}
-use Rattle.tally_rules.specs.Limits.{IsSetup}
+use Rattle.tally_setup.specs.Constituency.{Constituency}
+use Rattle.tally_setup.specs.Limits.{IsSetup}
 use Rattle.tally_keeper.specs.internal.Rows.{opening_views}
 use Rattle.tally_keeper.proofs.OpeningLemmas.{opening_views-more}
 use Rattle.tally_keeper.proofs.TreeLemmas.{tree-insert}

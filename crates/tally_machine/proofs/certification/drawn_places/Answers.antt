@@ -1,5 +1,5 @@
 use Rattle.std.proofs.Common.{◌≡◌, ◌<◌, length, arith, ap}
-use Rattle.tally_rules.specs.Constituency.{Constituency}
+use Rattle.tally_setup.specs.Constituency.{Constituency}
 use Rattle.tally_machine.proofs.DrawLemmas.{too_long}
 use Rattle.tally_machine.proofs.certification.drawn_places.Goals as goal
 

@@ -1,8 +1,8 @@
 use Rattle.std.proofs.Common.{◌∙◌, ℕ, List, IfOk, IfErr, OnOk, ap, sym, subst}
-use Rattle.tally_rules.specs.Constituency.{Constituency}
-use Rattle.tally_rules.specs.Limits.{IsConstituency}
+use Rattle.tally_setup.specs.Constituency.{Constituency}
+use Rattle.tally_setup.specs.Limits.{IsConstituency}
 use Rattle.tally_law.specs.Conditions.{AreLimitsKept}
-use Rattle.tally_rules.specs.declared.profile.Profile.{Profile}
+use Rattle.tally_setup.specs.declared.profile.Profile.{Profile}
 use Rattle.tally_law.specs.Allotment.{IsAllotment}
 use Rattle.tally_law.specs.Poll.{HasEligible}
 use Rattle.tally_allot.specs.AllotFault.{IsFaultOf}

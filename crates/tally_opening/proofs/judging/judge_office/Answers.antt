@@ -2,7 +2,7 @@ use Rattle.std.proofs.Common.{subst}
 use Rattle.std.specs.Prelude.{IsSome}
 use Rattle.std.proofs.lemmas.Result.{IfOk-weaker}
 use Rattle.sqlite.specs.Held.{state}
-use Rattle.tally_rules.specs.Limits.{IsSetup}
+use Rattle.tally_setup.specs.Limits.{IsSetup}
 use Rattle.tally_opening.specs.internal.Opening.{AreReadOf, rows_found}
 use Rattle.tally_opening.proofs.JudgingLemmas.{judged, judged_none, numbers_judged, on_some}
 use Rattle.tally_opening.proofs.judging.judge_office.Goals as goal

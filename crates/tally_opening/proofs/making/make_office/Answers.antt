@@ -2,7 +2,7 @@ use Rattle.std.proofs.Common.{arith, subst, OnOk}
 use Rattle.sqlite.specs.Effect.{IsDatabase}
 use Rattle.sqlite.specs.State.{HasCleanDisk}
 use Rattle.sqlite.specs.Held.{state}
-use Rattle.tally_rules.specs.Limits.{IsSetup}
+use Rattle.tally_setup.specs.Limits.{IsSetup}
 use Rattle.tally_opening.specs.internal.Making.{AddsCons}
 use Rattle.tally_opening.proofs.EmptyLemmas.{empty_inside, setup_empty}
 use Rattle.tally_opening.proofs.OpeningLemmas.{office_last}

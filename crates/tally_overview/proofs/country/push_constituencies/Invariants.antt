@@ -1,6 +1,6 @@
 use Rattle.std.proofs.Common.{◌≡◌, ◌++◌, drop, string_bytes}
 use Rattle.std.specs.BTreeMap.{get}
-use Rattle.tally_rules.specs.Code.{code_cmp}
+use Rattle.tally_setup.specs.Code.{code_cmp}
 use Rattle.tally_overview.specs.CountryText.{all_lists}
 use Rattle.tally_overview.specs.internal.Totals.{lines_left}
 use Rattle.tally_overview.proofs.country.push_constituencies.Given as goal

@@ -1,8 +1,8 @@
 use Rattle.std.proofs.Common.{◌≡◌, Result, Ok, Err, Some, ap, sym, ◌∙◌, string_bytes}
 use Rattle.std.specs.Prelude.{OnOk}
 use Rattle.std.specs.BTreeMap.{get}
-use Rattle.tally_rules.specs.Code.{code_cmp}
-use Rattle.tally_rules.specs.Constituency.{ListEntry}
+use Rattle.tally_setup.specs.Code.{code_cmp}
+use Rattle.tally_setup.specs.Constituency.{ListEntry}
 use Rattle.tally_overview.specs.internal.Totals.{Found, without}
 use Rattle.tally_overview.proofs.TotalLemmas.{line-next, without-is}
 use Rattle.tally_overview.proofs.country.push_list.Goals as goal

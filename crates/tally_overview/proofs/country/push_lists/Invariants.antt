@@ -1,7 +1,7 @@
 use Rattle.std.proofs.Common.{◌≡◌, ◌++◌, List, drop, string_bytes}
 use Rattle.std.specs.BTreeMap.{get}
-use Rattle.tally_rules.specs.Code.{code_cmp}
-use Rattle.tally_rules.specs.Constituency.{ListEntry}
+use Rattle.tally_setup.specs.Code.{code_cmp}
+use Rattle.tally_setup.specs.Constituency.{ListEntry}
 use Rattle.tally_overview.specs.internal.Totals.{lines_left}
 use Rattle.tally_overview.proofs.country.push_lists.Given as goal
 

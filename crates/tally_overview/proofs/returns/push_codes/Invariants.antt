@@ -1,6 +1,6 @@
 use Rattle.std.proofs.Common.{◌≡◌, ◌++◌, take}
 use Rattle.csv.specs.Records.{fields_of}
-use Rattle.tally_rules.specs.Constituency.{list_codes}
+use Rattle.tally_setup.specs.Constituency.{list_codes}
 use Rattle.tally_overview.proofs.returns.push_codes.Given as goal
 
 abbrev pub invariant-loop-list : goal.invariant-loop-list

@@ -3,9 +3,9 @@ use Rattle.tally_allot.specs.AllotFault.{IsFaultOf}
 use Rattle.tally_law.specs.Rules.{poll_of, rule_of}
 use Rattle.tally_steps.specs.Outcome.{poll_in, rule_in}
 use Rattle.tally_returns.specs.View.{View}
-use Rattle.tally_rules.specs.declared.profile.Profile.{Profile}
-use Rattle.tally_rules.specs.Constituency.{Constituency}
-use Rattle.tally_rules.specs.Method.{divisor_rule_of}
+use Rattle.tally_setup.specs.declared.profile.Profile.{Profile}
+use Rattle.tally_setup.specs.Constituency.{Constituency}
+use Rattle.tally_setup.specs.Method.{divisor_rule_of}
 use Rattle.tally_report.proofs.AwardLemmas.{allots, carried, each-in}
 use Rattle.tally_report.proofs.awards.awards_in.Goals as goal
 

@@ -1,8 +1,8 @@
 use Rattle.std.proofs.Common.{◌≡◌, ◌≤◌, ◌∙◌, true, Option, Some, ap, sym, arith}
 use Rattle.tally_frac.specs.declared.divisors.DivisorRule.{DivisorRule}
 use Rattle.tally_returns.specs.View.{View}
-use Rattle.tally_rules.specs.Constituency.{Constituency}
-use Rattle.tally_rules.specs.Method.{divisor_rule_of}
+use Rattle.tally_setup.specs.Constituency.{Constituency}
+use Rattle.tally_setup.specs.Method.{divisor_rule_of}
 use Rattle.tally_law.specs.Rules.{rule_with}
 use Rattle.tally_report.specs.QuotientsText.{quotients_of}
 use Rattle.tally_report.proofs.QuotientLemmas.{IfOk-then, most-lawful}

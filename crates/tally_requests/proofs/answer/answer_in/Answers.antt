@@ -20,4 +20,5 @@ returns-in-ShowReturn-clause-answers g c =
       known = shown-keeps setup known station c.args.ask.now old new shown c.in-ShowReturn.is;
       forgets = forgets-answered shown known known (λ code had. had);
       unwritten = c.show_return.ensures.answers.unwritten;
+      answered_open = c.show_return.ensures.answered_open;
     }

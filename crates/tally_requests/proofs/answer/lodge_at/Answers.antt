@@ -25,6 +25,7 @@ returns-in-Ok-clause-answers g c =
           lodged-known setup s t station slip counts r (Ok c.from.result) before after ensured.limits (ensured.lodged clean inside text s lawful tables).answered seen ensured.known held answered;
       forgets = forgets-lodged setup station r before after ensured.known;
       unwritten = λ clean at acts. ensured.unwritten clean at (ap (λ q. is_act (as_answer q)) c.in-Ok.is ∙ sym (ap (λ q. is_act (Ok q)) c.from.ensures) ∙ acts);
+      answered_open = ensured.answered_open;
     }
 
 pub returns-in-Err-clause-answers : goal.returns-in-Err-clause-answers
@@ -45,4 +46,5 @@ returns-in-Err-clause-answers g c =
           lodged-known setup s t station slip counts r (Err c.in-Err.refusal) before after ensured.limits (ensured.lodged clean inside text s lawful tables).answered seen ensured.known held answered;
       forgets = forgets-lodged setup station r before after ensured.known;
       unwritten = λ clean at acts. ensured.unwritten clean at (ap (λ q. is_act (as_answer q)) c.in-Err.is);
+      answered_open = ensured.answered_open;
     }

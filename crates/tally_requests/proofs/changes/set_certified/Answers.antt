@@ -1,7 +1,7 @@
 use Rattle.std.proofs.Common.{◌≡◌, ◌∙◌, ◌+◌, true, Ok, ap, subst}
 use Rattle.sqlite.specs.Held.{state}
-use Rattle.tally_rules.specs.Constituency.{Constituency}
-use Rattle.tally_rules.specs.Limits.{IsConstituency}
+use Rattle.tally_setup.specs.Constituency.{Constituency}
+use Rattle.tally_setup.specs.Limits.{IsConstituency}
 use Rattle.tally_returns.specs.State.{con_state}
 use Rattle.tally_returns.specs.View.{View, past_records}
 use Rattle.tally_requests.specs.internal.Changes.{HasWrittenSeats}

@@ -1,7 +1,7 @@
 use Rattle.std.proofs.Common.{◌≡◌, ◌∙◌, ◌+◌, Ok, ap, subst}
 use Rattle.sqlite.specs.Held.{state}
-use Rattle.tally_rules.specs.Constituency.{Constituency}
-use Rattle.tally_rules.specs.Limits.{IsConstituency}
+use Rattle.tally_setup.specs.Constituency.{Constituency}
+use Rattle.tally_setup.specs.Limits.{IsConstituency}
 use Rattle.tally_returns.specs.State.{con_state}
 use Rattle.tally_returns.specs.View.{View, past_records}
 use Rattle.tally_entries.specs.internal.Constituencies.{with_past_of}

@@ -1,14 +1,13 @@
-use Rattle.std.proofs.Common.{◌≡◌, ◌∙◌, Some, ap, arith, subst, sym}
+use Rattle.std.proofs.Common.{◌≡◌, ◌∙◌, IsTrue, Some, ap, arith, subst, sym}
 use Rattle.std.specs.FinMap.{get}
 use Rattle.std.specs.Option.{option_copied}
-use Rattle.sqlite.proofs.StateLemmas.{unchanged}
 use Rattle.sqlite.specs.State.{HasCleanDisk}
 use Rattle.sqlite.specs.Held.{state}
-use Rattle.tally_rules.specs.Constituency.{Constituency}
-use Rattle.tally_rules.specs.Setup.{constituency_with}
+use Rattle.tally_setup.specs.Constituency.{Constituency}
+use Rattle.tally_setup.specs.Setup.{constituency_with}
 use Rattle.tally_returns.specs.Return.{Returns}
 use Rattle.tally_returns.proofs.ClosedLemmas.{constituency_with-code, constituency_with-own}
-use Rattle.tally_requests.proofs.AnswerLemmas.{seen-carries, seen-known, still-unchanged, unknown-carried}
+use Rattle.tally_requests.proofs.AnswerLemmas.{on-answer, seen-carries, seen-known, still-state, still-unchanged, unknown-carried}
 use Rattle.tally_requests.specs.internal.Known.{AreKnown, known_of}
 use Rattle.tally_requests.proofs.KnownLemmas.{con-returns, forgets-answered, forgets-remembered}
 use Rattle.tally_requests.proofs.UnwrittenLemmas.{unwritten-then}
@@ -18,14 +17,17 @@ pub returns-in_default-clause-answers : goal.returns-in_default-clause-answers
 returns-in_default-clause-answers g c =
     let setup = c.args.setup.now in
     let old = state g.S.Store c.args.tx.now.conn.now in
+    let new = state g.S.Store c.see_open.new.tx.conn.now in
+    let opened = c.in_ok-see_open.ensures.reads in
     record {
       kind = tt;
       step = λ clean inside text s lawful held tables.
-          unknown-carried setup text s c.args.code c.args.ask.now old c.requires.named (sym c.con.ensures.found ∙ ap option_copied c.in_default.is) (record { inside = inside; tables = tables });
+          unknown-carried setup text s c.args.code c.args.ask.now new c.requires.named (sym c.con.ensures.found ∙ ap option_copied c.in_default.is) (still-state setup text s old new (still-unchanged old new (opened.same clean inside) inside) tables);
       known = λ clean inside text s t lawful held tables answered.
           subst (λ (m : Returns). AreKnown setup m (known_of c.args.known.now)) (sym (con-returns setup s t c.args.ask.now c.args.code _ c.requires.named answered)) held;
       forgets = λ code had. had;
-      unwritten = λ clean at acts. unchanged old at.1;
+      unwritten = λ clean at acts. opened.same clean at.0;
+      answered_open = opened.answered_open;
     }
 
 pub answer_seen-requires-clause-found : goal.answer_seen-requires-clause-found
@@ -64,4 +66,5 @@ returns-clause-answers g c =
           c.in_ok-remember.ensures;
       forgets = forgets-answered c.answer_seen.result before after (forgets-remembered before after code c.statuses_of.result c.in_ok-remember.ensures);
       unwritten = unwritten-then old mid new c.answer_seen.result earlier (λ early inside. c.in_ok-view.ensures.reads.same early inside) c.answer_seen.ensures.answers.unwritten;
+      answered_open = λ clean. on-answer {P = IsTrue old.is_open} c.answer_seen.result (c.in_ok-view.ensures.reads.answered_open (earlier clean));
     }

@@ -7,8 +7,8 @@ use Rattle.tally_returns.specs.Progress.{progress_row}
 use Rattle.tally_returns.specs.State.{State}
 use Rattle.tally_steps.specs.LawfulState.{IsLawfulState}
 use Rattle.tally_tables.specs.TablesOfState.{AreTables}
-use Rattle.tally_rules.specs.Constituency.{Constituency}
-use Rattle.tally_rules.specs.Setup.{constituency_with}
+use Rattle.tally_setup.specs.Constituency.{Constituency}
+use Rattle.tally_setup.specs.Setup.{constituency_with}
 use Rattle.tally_entries.proofs.FindLemmas.{inside_still}
 use Rattle.tally_keeper.proofs.SetupLemmas.{Has, con-only, has-at}
 use Rattle.tally_statements.specs.internal.Inside.{IsOpenInside}
@@ -29,6 +29,7 @@ loop-con-init g c =
       forgets = λ code had. had;
       same = λ clean inside. ensured.reads.same clean inside;
       all = λ clean inside. (ensured.found clean inside).same;
+      was_open = ensured.reads.answered_open;
     }
 
 pub loop-con-preserved : goal.loop-con-preserved
@@ -71,6 +72,7 @@ loop-con-preserved g c =
           let early = before clean in
           unchanged_then old mid new (was.same early inside) (c.in_ok-row.ensures.same clean (at early inside));
       all = λ clean inside. was.all (before clean) inside;
+      was_open = λ clean. was.was_open (before clean);
     }
 
 pub returns-in_err-row-clause-stays : goal.returns-in_err-row-clause-stays
@@ -94,6 +96,9 @@ returns-clause-still g c clean inside =
 
 pub returns-clause-unchanged : goal.returns-clause-unchanged
 returns-clause-unchanged g c clean at = c.loop-con.invariant.same clean at.0
+
+pub returns-clause-answered_open : goal.returns-clause-answered_open
+returns-clause-answered_open g c = c.loop-con.invariant.was_open
 
 pub returns-clause-found : goal.returns-clause-found
 returns-clause-found g c clean inside text s lawful held tables =

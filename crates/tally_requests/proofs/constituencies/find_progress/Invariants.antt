@@ -1,4 +1,4 @@
-use Rattle.std.proofs.Common.{◌≡◌, ℕ, List, map, take}
+use Rattle.std.proofs.Common.{◌≡◌, IsTrue, ℕ, List, map, take}
 use Rattle.sqlite.specs.State.{HasCleanDisk, IsUnchanged}
 use Rattle.sqlite.specs.Held.{state}
 use Rattle.tally_returns.specs.Progress.{progress_row}
@@ -25,4 +25,5 @@ invariant-loop-con g l =
       forgets : ForgetsNone (known_of l.fn.known) (known_of l.known);
       same : HasCleanDisk now → IsInside old → IsUnchanged old now;
       all : HasCleanDisk now → IsInside old → AreCons l.standing.items old;
+      was_open : HasCleanDisk now → IsTrue old.is_open;
     }

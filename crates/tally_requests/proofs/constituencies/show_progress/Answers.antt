@@ -21,4 +21,5 @@ returns-clause-answers g c =
           subst (λ (m : Returns). AreKnown setup m (known_of c.find_progress.new.known)) (sym (progress-returns setup s t _ answered)) (done.known clean inside text s lawful held tables);
       forgets = done.forgets;
       unwritten = λ clean at acts. done.unchanged clean at;
+      answered_open = done.answered_open;
     }

@@ -1,7 +1,7 @@
 use Rattle.std.proofs.Common.{◌≡◌, ◌∙◌, [], ap, subst, arith}
 use Rattle.sqlite.specs.Held.{state}
 use Rattle.sqlite.specs.State.{HasCleanDisk}
-use Rattle.tally_rules.specs.Constituency.{Constituency}
+use Rattle.tally_setup.specs.Constituency.{Constituency}
 use Rattle.tally_statements.specs.declared.table.KeyedTable.TheVariants.{Lots}
 use Rattle.tally_tables.specs.Cells.{lot_rows}
 use Rattle.tally_entries.specs.internal.Constituencies.{HasLot}

@@ -1,16 +1,21 @@
-use Rattle.std.proofs.Common.{◌∙◌, Ok, sym, ap, subst, arith, true≢false}
-use Rattle.sqlite.proofs.StateLemmas.{unchanged}
+use Rattle.std.proofs.Common.{◌∙◌, Ok, Err, refl, sym, ap, subst, arith, true≢false}
 use Rattle.sqlite.specs.State.{HasCleanDisk}
 use Rattle.sqlite.specs.Held.{state}
 use Rattle.tally_keeper.specs.Events.{as_answer}
 use Rattle.tally_steps.specs.Runs.{is_act}
-use Rattle.tally_rules.specs.Constituency.{Constituency}
+use Rattle.tally_setup.specs.Constituency.{Constituency}
+use Rattle.tally_returns.specs.declared.refusal.Refusal.TheVariants.{NoStation}
 use Rattle.tally_requests.specs.internal.Known.{known_of}
 use Rattle.tally_requests.specs.internal.Counting.{known_after_lodge}
 use Rattle.tally_requests.specs.internal.Lodging.{IsLodgeAnswer}
 use Rattle.tally_requests.proofs.KnownLemmas.{lodge-counted}
-use Rattle.tally_requests.proofs.LodgedLemmas.{lodged-first, lodged-refused, lodged-same, still}
+use Rattle.tally_requests.proofs.LodgedLemmas.{answer-nowhere, lodged-first, lodged-refused, lodged-same, still}
 use Rattle.tally_requests.proofs.returns.lodge.Goals as goal
+
+pub returns-in_default-clause-lodged : goal.returns-in_default-clause-lodged
+returns-in_default-clause-lodged g c clean inside text s lawful tables =
+    lodged-refused c.args.setup.now text s c.args.station c.args.slip c.args.counts.now (Err NoStation) NoStation (state g.S.Store c.args.tx.now.conn.now) (state g.S.Store c.see_open.new.tx.conn.now)
+    (λ text s lawful tables. answer-nowhere c.args.setup.now s.returns c.args.station c.args.slip c.args.counts.now (sym c.in_default.ensures.found)) refl (c.in_ok-see_open.ensures.reads.same clean inside) inside lawful tables
 
 pub returns-in_default-answer-clause-lodged : goal.returns-in_default-answer-clause-lodged
 returns-in_default-answer-clause-lodged g c clean inside text s lawful tables =
@@ -50,7 +55,7 @@ returns-clause-known g c =
     (ap (λ (x : Constituency). x.code) c.con.view_is) c.in-Lodged.is c.count_move.ensures
 
 pub returns-in_default-clause-unwritten : goal.returns-in_default-clause-unwritten
-returns-in_default-clause-unwritten g c clean at acts = unchanged (state g.S.Store c.args.tx.now.conn.now) at.1
+returns-in_default-clause-unwritten g c clean at acts = c.in_ok-see_open.ensures.reads.same clean at.0
 
 pub returns-in_default-answer-clause-unwritten : goal.returns-in_default-answer-clause-unwritten
 returns-in_default-answer-clause-unwritten g c clean at acts = c.in_ok-answer.ensures.reads.same clean at.0
@@ -60,3 +65,6 @@ returns-in_default-reply-clause-unwritten g c clean at acts = c.in_ok-answer.ens
 
 pub returns-clause-unwritten : goal.returns-clause-unwritten
 returns-clause-unwritten g c clean at acts = absurd (true≢false (sym (ap (λ r. is_act (as_answer (Ok r))) c.in-Lodged.is) ∙ acts))
+
+pub returns-clause-answered_open : goal.returns-clause-answered_open
+returns-clause-answered_open g c clean = c.in_ok-answer.ensures.reads.answered_open (omega (arith, clean, c.put_first.ensures.stays.survives.clean))

@@ -1,14 +1,13 @@
 use Rattle.std.proofs.Common.{◌≡◌, ◌∙◌, Ok, arith, ap, sym}
-use Rattle.sqlite.proofs.StateLemmas.{unchanged}
 use Rattle.sqlite.specs.State.{HasCleanDisk}
 use Rattle.sqlite.specs.Held.{state}
-use Rattle.tally_rules.specs.Constituency.{Constituency}
+use Rattle.tally_setup.specs.Constituency.{Constituency}
 use Rattle.tally_returns.specs.declared.refusal.Refusal.TheVariants.{NoStation}
 use Rattle.tally_requests.specs.internal.Known.{known_of}
 use Rattle.tally_requests.specs.internal.Counting.{after_command}
 use Rattle.tally_statements.specs.Office.{IsInside}
 use Rattle.tally_statements.proofs.StaysLemmas.{stays-then}
-use Rattle.tally_requests.proofs.AnswerLemmas.{still-unchanged}
+use Rattle.tally_requests.proofs.AnswerLemmas.{still-state, still-unchanged}
 use Rattle.tally_requests.proofs.FoundLemmas.{few-lists, found-carries, move-nowhere}
 use Rattle.tally_requests.proofs.KnownLemmas.{command-known, forgets-commanded, nowhere-known}
 use Rattle.tally_requests.proofs.LodgedLemmas.{found-is}
@@ -20,12 +19,15 @@ returns-in_default-clause-answers g c =
     let setup = c.args.setup.now in
     let ask = c.args.ask.now in
     let old = state g.S.Store c.args.tx.now.conn.now in
+    let new = state g.S.Store c.see_open.new.tx.conn.now in
+    let opened = c.in_ok-see_open.ensures.reads in
     record {
       kind = tt;
-      step = λ clean inside text s lawful held tables. move-nowhere setup text s ask c.args.station old c.requires.named (sym c.in_default.ensures.found) (record { inside = inside; tables = tables });
+      step = λ clean inside text s lawful held tables. move-nowhere setup text s ask c.args.station new c.requires.named (sym c.in_default.ensures.found) (still-state setup text s old new (still-unchanged old new (opened.same clean inside) inside) tables);
       known = λ clean inside text s t lawful held tables answered. nowhere-known setup s t ask NoStation (known_of c.args.known.now) c.requires.moves held answered;
       forgets = λ code had. had;
-      unwritten = λ clean at acts. unchanged old at.1;
+      unwritten = λ clean at acts. opened.same clean at.0;
+      answered_open = opened.answered_open;
     }
 
 pub find_lawful-requires : goal.find_lawful-requires
@@ -82,4 +84,5 @@ returns-clause-answers g c =
       forgets = forgets-commanded code ask status c.is_ok.result known after c.count_command.ensures;
       unwritten = unwritten-then old mid new (Ok answer) earlier (λ early inside. c.in_ok-found.ensures.reads.same early inside)
           (unwritten-then mid last new (Ok answer) later (λ early inside. c.in_ok-certified.ensures.reads.same early inside) c.in_ok-answer.ensures.answers.unwritten);
+      answered_open = λ clean. c.in_ok-found.ensures.reads.answered_open (earlier clean);
     }

@@ -1,5 +1,4 @@
 use Rattle.std.proofs.Common.{◌∙◌, Ok, Err, rules, sym}
-use Rattle.sqlite.proofs.StateLemmas.{unchanged}
 use Rattle.sqlite.specs.Held.{state}
 use Rattle.tally_returns.specs.declared.refusal.Refusal.TheVariants.{NoReturn, NoStation}
 use Rattle.tally_returns.specs.declared.reply.Reply.TheVariants.{Return}
@@ -11,11 +10,13 @@ returns-then-is_none-clause-answers g c =
     let setup = c.args.setup.now in
     let station = c.args.station in
     let old = state g.S.Store c.args.tx.now.conn.now in
+    let new = state g.S.Store c.see_open.new.tx.conn.now in
+    let opened = c.in_ok-see_open.ensures.reads in
     let none = mapped-none (λ place. (place.0.now, place.1.now)) c.station.result _ c.is_none.result c.station.ensures.found c.is_none.ensures c.if-is_none.true in
     record {
       kind = tt;
-      step = λ clean inside text s lawful tables. shown-carried setup text s station (Err NoStation) old (shown-nowhere setup s station none) (record { inside = inside; tables = tables });
-      unwritten = λ clean at acts. unchanged old at.1;
+      step = λ clean inside text s lawful tables. shown-carried setup text s station (Err NoStation) new (shown-nowhere setup s station none) (still setup text s old new (opened.same clean inside) inside tables);
+      unwritten = λ clean at acts. opened.same clean at.0;
     }
 
 pub returns-in_default-clause-answers : goal.returns-in_default-clause-answers

@@ -2,8 +2,8 @@ use Rattle.std.proofs.Common.{◌≡◌, ◌∙◌, Some, Ok, ap, subst, sym}
 use Rattle.std.specs.FinMap.{get}
 use Rattle.std.specs.Option.{option_copied}
 use Rattle.sqlite.specs.Held.{state}
-use Rattle.tally_rules.specs.Constituency.{Constituency}
-use Rattle.tally_rules.specs.Setup.{constituency_with}
+use Rattle.tally_setup.specs.Constituency.{Constituency}
+use Rattle.tally_setup.specs.Setup.{constituency_with}
 use Rattle.tally_returns.specs.View.{View}
 use Rattle.tally_requests.specs.internal.Known.{known_of}
 use Rattle.tally_requests.specs.internal.Shown.{FindsShown}

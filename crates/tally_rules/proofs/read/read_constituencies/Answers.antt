@@ -3,13 +3,13 @@ use Rattle.std.proofs.lemmas.List.{map-append}
 use Rattle.std.proofs.lemmas.List.Elements.{All-push}
 use Rattle.std.proofs.lemmas.Result.{err_from_is_err_and}
 use Rattle.toml.specs.View.{view}
-use Rattle.tally_rules.specs.Constituency.{Constituency, station_codes}
-use Rattle.tally_rules.specs.Limits.{IsConstituency}
+use Rattle.tally_setup.specs.Constituency.{Constituency, station_codes}
+use Rattle.tally_setup.specs.Limits.{IsConstituency}
 use Rattle.tally_rules.specs.Place.{nowhere}
 use Rattle.tally_rules.specs.Reading.{read_constituencies, constituency_entry}
-use Rattle.tally_rules.specs.Setup.{constituency_codes, all_station_codes}
+use Rattle.tally_setup.specs.Setup.{constituency_codes, all_station_codes}
 use Rattle.tally_rules.proofs.ReadLemmas.{read-more, array-fault, array-end, IsFoundAt-same}
-use Rattle.tally_rules.proofs.SetupLemmas.{all_station_codes-push}
+use Rattle.tally_setup.proofs.SetupLemmas.{all_station_codes-push}
 use Rattle.tally_rules.proofs.read.read_constituencies.Goals as goal
 
 pub returns-in_err-con-clause-fault : goal.returns-in_err-con-clause-fault

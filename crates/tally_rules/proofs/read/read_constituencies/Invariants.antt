@@ -1,8 +1,8 @@
 use Rattle.std.proofs.Common.{◌≡◌, All}
-use Rattle.tally_rules.specs.Codes.{AreDistinct}
-use Rattle.tally_rules.specs.Limits.{IsConstituency}
+use Rattle.tally_setup.specs.Codes.{AreDistinct}
+use Rattle.tally_setup.specs.Limits.{IsConstituency}
 use Rattle.tally_rules.specs.Reading.{constituency_entry}
-use Rattle.tally_rules.specs.Setup.{constituency_codes, all_station_codes}
+use Rattle.tally_setup.specs.Setup.{constituency_codes, all_station_codes}
 use Rattle.tally_rules.proofs.ReadLemmas.{IsReadTo}
 use Rattle.tally_rules.proofs.read.read_constituencies.Given as goal
 

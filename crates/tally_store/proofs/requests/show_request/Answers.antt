@@ -5,8 +5,8 @@ use Rattle.tally_keeper.specs.Shown.{con_with}
 use Rattle.tally_requests.specs.internal.Known.{AreKnown, known_of}
 use Rattle.tally_returns.specs.View.{FitsView}
 use Rattle.tally_returns.specs.declared.ask.Ask.TheVariants.{ShowCon}
-use Rattle.tally_rules.specs.Constituency.{Constituency}
-use Rattle.tally_rules.specs.Setup.{constituency_with}
+use Rattle.tally_setup.specs.Constituency.{Constituency}
+use Rattle.tally_setup.specs.Setup.{constituency_with}
 use Rattle.tally_store.specs.internal.Requests.{EndsTransaction}
 use Rattle.tally_store.proofs.EndLemmas.{Asked, answer_is, done, ends_request, forgets, knows, shut, unwritten}
 use Rattle.tally_store.proofs.ShownLemmas.{shown_got}

@@ -1,6 +1,6 @@
 use Rattle.std.proofs.Common.{◌≡◌, rules, arith, ap, ap₂, sym, ◌∙◌, ◌+◌, length, take, drop}
-use Rattle.tally_rules.specs.Constituency.{Constituency}
-use Rattle.tally_rules.specs.declared.constituency.Station.{Station}
+use Rattle.tally_setup.specs.Constituency.{Constituency}
+use Rattle.tally_setup.specs.declared.constituency.Station.{Station}
 use Rattle.tally_tables.specs.Reading.{entry_of}
 use Rattle.tally_tables.proofs.EntryLemmas.{Reading, one_entry}
 use Rattle.tally_tables.proofs.returns.entries_in.Goals as goal

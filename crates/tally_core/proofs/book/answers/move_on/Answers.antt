@@ -1,6 +1,6 @@
 use Rattle.std.proofs.Common.{◌≡◌, ◌∙◌, Some, Ok, Err, true, false, ap, sym, subst, rules}
-use Rattle.tally_rules.specs.Constituency.{Constituency}
-use Rattle.tally_rules.specs.Setup.{constituency_with, station_with}
+use Rattle.tally_setup.specs.Constituency.{Constituency}
+use Rattle.tally_setup.specs.Setup.{constituency_with, station_with}
 use Rattle.tally_returns.specs.View.{View}
 use Rattle.std.specs.Option.{option_copied}
 use Rattle.tally_keeper.specs.internal.Held.{IsMoved, is_query}

@@ -1,6 +1,6 @@
 use Rattle.std.proofs.Common.{◌≡◌, ◌∙◌, Some, Err, ap, subst, sym, rules}
 use Rattle.std.specs.Option.{option_copied}
-use Rattle.tally_rules.specs.Setup.{constituency_with}
+use Rattle.tally_setup.specs.Setup.{constituency_with}
 use Rattle.tally_returns.specs.View.{View}
 use Rattle.tally_returns.proofs.ClosedLemmas.{constituency_with-code}
 use Rattle.tally_steps.proofs.CertificationLemmas.{refused-lawful}

@@ -1,7 +1,7 @@
 use Rattle.std.proofs.Common.{◌≡◌, ◌∙◌, ◌++◌, ◌∷◌, [], sym, ap, subst, Ok}
 use Rattle.std.specs.FinMap.{insert}
 use Rattle.std.specs.Option.{option_copied}
-use Rattle.tally_rules.specs.declared.constituency.Entry.TheVariants.{Single}
+use Rattle.tally_setup.specs.declared.constituency.Entry.TheVariants.{Single}
 use Rattle.tally_returns.specs.Lodge.{limits_for}
 use Rattle.tally_returns.proofs.CountsLemmas.{are_counts-lodged, length-counts}
 use Rattle.tally_returns.specs.declared.reply.LodgeReply.TheVariants.{Lodged}

@@ -2,7 +2,7 @@ use Rattle.std.proofs.Common.{◌≡◌, ◌≤◌, ◌∙◌, [], length, refl,
 use Rattle.std.specs.List.{list_any}
 use Rattle.std.specs.Str.{bytes_eq}
 use Rattle.csv.specs.Records.{fields_of}
-use Rattle.tally_rules.specs.Constituency.{list_codes, station_codes}
+use Rattle.tally_setup.specs.Constituency.{list_codes, station_codes}
 use Rattle.tally_keeper.specs.declared.source.ImportFault.TheVariants as cause
 use Rattle.tally_records.specs.Input.{AreAll}
 use Rattle.tally_import.specs.ReturnRows.{IsNext, is_header, text_coming}

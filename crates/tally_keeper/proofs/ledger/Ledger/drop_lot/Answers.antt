@@ -1,6 +1,6 @@
 use Rattle.std.proofs.Common.{◌∙◌, sym, ap, subst}
 use Rattle.std.specs.Prelude.{IsSome}
-use Rattle.tally_rules.specs.Setup.{constituency_with}
+use Rattle.tally_setup.specs.Setup.{constituency_with}
 use Rattle.tally_keeper.specs.Kept.{Kept, with_no_lot}
 use Rattle.tally_keeper.specs.internal.Rows.{IsTallied, returns_of, views_of}
 use Rattle.tally_keeper.proofs.ChangeLemmas.{kept, without-kept, without-seen, tallied-changed, without_lot}

@@ -2,7 +2,7 @@ use Rattle.std.proofs.Common.{◌≡◌, ◌∙◌, ◌++◌, ◌∷◌, ◌+◌
 use Rattle.std.specs.Prelude.{is_some}
 use Rattle.std.specs.FinMap.{get}
 use Rattle.std.proofs.lemmas.List.{map-append, take_more}
-use Rattle.tally_rules.specs.Constituency.{Constituency}
+use Rattle.tally_setup.specs.Constituency.{Constituency}
 use Rattle.tally_returns.specs.Progress.{progress_row}
 use Rattle.tally_keeper.specs.Kept.{Kept, state_in}
 use Rattle.tally_keeper.specs.internal.Rows.{returns_of, progress_row_of, views_of}

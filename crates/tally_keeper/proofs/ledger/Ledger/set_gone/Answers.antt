@@ -1,7 +1,7 @@
 use Rattle.std.proofs.Common.{◌≡◌, ◌∙◌, None, Result, Ok, Err, sym, ap, subst}
 use Rattle.std.specs.Prelude.{IsSome, OnErr, OnOk}
 use Rattle.std.specs.FinMap.{get}
-use Rattle.tally_rules.specs.Setup.{constituency_with}
+use Rattle.tally_setup.specs.Setup.{constituency_with}
 use Rattle.tally_steps.specs.Step.{gone_for_good}
 use Rattle.tally_returns.specs.State.{con_state}
 use Rattle.tally_keeper.specs.Kept.{Kept, state_in, with_change}

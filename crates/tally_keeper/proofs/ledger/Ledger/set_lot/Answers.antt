@@ -1,6 +1,6 @@
 use Rattle.std.proofs.Common.{◌<◌, ◌+◌, ◌^◌, ◌∙◌, sym, ap, subst}
 use Rattle.std.specs.Prelude.{IsSome}
-use Rattle.tally_rules.specs.Setup.{constituency_with}
+use Rattle.tally_setup.specs.Setup.{constituency_with}
 use Rattle.tally_steps.specs.Step.{lot_set}
 use Rattle.tally_returns.specs.State.{con_state}
 use Rattle.tally_keeper.specs.Kept.{Kept, state_in, with_change}

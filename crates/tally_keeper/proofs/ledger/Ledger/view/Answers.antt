@@ -1,6 +1,6 @@
 use Rattle.std.proofs.Common.{◌∙◌, ap}
 use Rattle.std.specs.Prelude.{option_map}
-use Rattle.tally_rules.specs.Setup.{constituency_with}
+use Rattle.tally_setup.specs.Setup.{constituency_with}
 use Rattle.tally_keeper.specs.Kept.{Kept, view_in}
 use Rattle.tally_keeper.specs.internal.Rows.{returns_of, views_of}
 use Rattle.tally_keeper.proofs.ChangeLemmas.{view-is}

@@ -6,7 +6,7 @@ use Rattle.toml.specs.Data.{Data}
 use Rattle.toml.specs.View.{view}
 use Rattle.tally_rules.specs.Fault.{Placed}
 use Rattle.tally_rules.specs.Reading.{read_candidates, candidate}
-use Rattle.tally_rules.specs.Text.{IsName}
+use Rattle.tally_setup.specs.Text.{IsName}
 use Rattle.tally_rules.specs.declared.place.Holder.{Holder}
 use Rattle.tally_rules.proofs.ReadLemmas.{read-more, array-fault, array-end, IsFoundAt-same}
 use Rattle.tally_rules.proofs.read.entry.read_candidates.Goals as goal

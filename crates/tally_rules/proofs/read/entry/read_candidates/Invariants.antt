@@ -1,6 +1,6 @@
 use Rattle.std.proofs.Common.{◌+◌, length, map, string_bytes, All}
 use Rattle.tally_rules.specs.Reading.{candidate}
-use Rattle.tally_rules.specs.Text.{IsName}
+use Rattle.tally_setup.specs.Text.{IsName}
 use Rattle.tally_rules.proofs.ReadLemmas.{IsReadTo}
 use Rattle.tally_rules.proofs.read.entry.read_candidates.Given as goal
 

@@ -4,9 +4,9 @@ use Rattle.std.proofs.lemmas.List.Elements.{All-push}
 use Rattle.std.proofs.lemmas.Result.{err_from_is_err_and}
 use Rattle.toml.specs.Data.{Data}
 use Rattle.toml.specs.View.{view}
-use Rattle.tally_rules.specs.Constituency.{ListEntry, list_codes}
+use Rattle.tally_setup.specs.Constituency.{ListEntry, list_codes}
 use Rattle.tally_rules.specs.Fault.{Placed}
-use Rattle.tally_rules.specs.Limits.{IsListEntry}
+use Rattle.tally_setup.specs.Limits.{IsListEntry}
 use Rattle.tally_rules.specs.declared.place.Holder.{Holder}
 use Rattle.tally_rules.specs.Reading.{read_lists, list_entry}
 use Rattle.tally_rules.proofs.ReadLemmas.{read-more, array-fault, array-end, IsFoundAt-same}

@@ -1,7 +1,7 @@
 use Rattle.std.proofs.Common.{◌≡◌, All}
-use Rattle.tally_rules.specs.Codes.{AreDistinct}
-use Rattle.tally_rules.specs.Limits.{IsListEntry}
-use Rattle.tally_rules.specs.Constituency.{list_codes}
+use Rattle.tally_setup.specs.Codes.{AreDistinct}
+use Rattle.tally_setup.specs.Limits.{IsListEntry}
+use Rattle.tally_setup.specs.Constituency.{list_codes}
 use Rattle.tally_rules.specs.Reading.{list_entry}
 use Rattle.tally_rules.proofs.ReadLemmas.{IsReadTo}
 use Rattle.tally_rules.proofs.read.entry.read_lists.Given as goal

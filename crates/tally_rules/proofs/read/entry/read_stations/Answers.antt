@@ -3,11 +3,11 @@ use Rattle.toml.specs.View.{view}
 use Rattle.std.proofs.lemmas.List.{map-append}
 use Rattle.std.proofs.lemmas.List.Elements.{All-push}
 use Rattle.std.proofs.lemmas.Result.{err_from_is_err_and}
-use Rattle.tally_rules.specs.Limits.{IsStation}
-use Rattle.tally_rules.specs.Constituency.{station_codes}
+use Rattle.tally_setup.specs.Limits.{IsStation}
+use Rattle.tally_setup.specs.Constituency.{station_codes}
 use Rattle.tally_rules.specs.Reading.{read_stations, station_entry}
-use Rattle.tally_rules.specs.Setup.{all_station_codes}
-use Rattle.tally_rules.specs.declared.constituency.Station.{Station}
+use Rattle.tally_setup.specs.Setup.{all_station_codes}
+use Rattle.tally_setup.specs.declared.constituency.Station.{Station}
 use Rattle.tally_rules.proofs.ReadLemmas.{read-more, array-fault, array-end, IsFoundAt-same}
 use Rattle.tally_rules.proofs.read.entry.read_stations.Goals as goal
 

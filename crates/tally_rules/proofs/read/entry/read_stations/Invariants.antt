@@ -1,9 +1,9 @@
 use Rattle.std.proofs.Common.{◌≡◌, ◌++◌, All}
-use Rattle.tally_rules.specs.Codes.{AreDistinct}
-use Rattle.tally_rules.specs.Limits.{IsStation}
-use Rattle.tally_rules.specs.Constituency.{station_codes}
+use Rattle.tally_setup.specs.Codes.{AreDistinct}
+use Rattle.tally_setup.specs.Limits.{IsStation}
+use Rattle.tally_setup.specs.Constituency.{station_codes}
 use Rattle.tally_rules.specs.Reading.{station_entry}
-use Rattle.tally_rules.specs.Setup.{all_station_codes}
+use Rattle.tally_setup.specs.Setup.{all_station_codes}
 use Rattle.tally_rules.proofs.ReadLemmas.{IsReadTo}
 use Rattle.tally_rules.proofs.read.entry.read_stations.Given as goal
 

@@ -5,10 +5,10 @@ use Rattle.std.proofs.lemmas.Result.{err_from_is_err_and}
 use Rattle.toml.specs.Data.{Data}
 use Rattle.toml.specs.View.{view}
 use Rattle.tally_rules.specs.Fault.{Placed}
-use Rattle.tally_rules.specs.Limits.{IsProfile}
+use Rattle.tally_setup.specs.Limits.{IsProfile}
 use Rattle.tally_rules.specs.Place.{nowhere}
 use Rattle.tally_rules.specs.Reading.{read_profiles, profile_entry, profile_codes}
-use Rattle.tally_rules.specs.declared.profile.Profile.{Profile}
+use Rattle.tally_setup.specs.declared.profile.Profile.{Profile}
 use Rattle.tally_rules.proofs.ReadLemmas.{read-more, array-fault, array-end, IsFoundAt-same}
 use Rattle.tally_rules.proofs.read.profile.read_profiles.Goals as goal
 

@@ -1,6 +1,6 @@
 use Rattle.std.proofs.Common.{◌≡◌, ℕ, List, All}
-use Rattle.tally_rules.specs.Limits.{IsProfile}
-use Rattle.tally_rules.specs.declared.profile.Profile.{Profile}
+use Rattle.tally_setup.specs.Limits.{IsProfile}
+use Rattle.tally_setup.specs.declared.profile.Profile.{Profile}
 use Rattle.tally_rules.specs.Reading.{profile_codes, profile_entry}
 use Rattle.tally_rules.proofs.ReadLemmas.{IsReadTo}
 use Rattle.tally_rules.proofs.read.profile.read_profiles.Given as goal

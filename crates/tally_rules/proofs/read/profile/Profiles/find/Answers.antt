@@ -1,11 +1,11 @@
 use Rattle.std.proofs.Common.{◌≡◌, Option, Some, None, ap, ◌∙◌, sym, option_copied, option_map, ℕ, List}
 use Rattle.std.specs.List.{slice_get}
 use Rattle.std.specs.Option.{option_and_then}
-use Rattle.tally_rules.specs.Codes.{index_of}
+use Rattle.tally_setup.specs.Codes.{index_of}
 use Rattle.tally_rules.specs.Reading.{profile_with, profile_codes}
-use Rattle.tally_rules.specs.declared.profile.Profile.{Profile}
+use Rattle.tally_setup.specs.declared.profile.Profile.{Profile}
 use Rattle.tally_rules.proofs.ProfileLemmas.{lookup-index_of}
-use Rattle.tally_rules.proofs.SetupLemmas.{slice_get-lookup}
+use Rattle.tally_setup.proofs.SetupLemmas.{slice_get-lookup}
 use Rattle.tally_rules.proofs.read.profile.Profiles.find.Goals as goal
 
 abbrev found_at : List (List ℕ × Profile) → Option ℕ → Option Profile

@@ -1,0 +1,4 @@
+pub mod CodeLemmas
+pub mod TextLemmas
+pub mod CodesLemmas
+pub mod SetupLemmas

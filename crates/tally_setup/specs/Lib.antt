@@ -1,0 +1,9 @@
+pub mod internal
+pub mod Code
+pub mod Codes
+pub mod Constituency
+pub mod Limits
+pub mod Method
+pub mod Setup
+pub mod Text
+pub mod Threshold

@@ -1,0 +1,2 @@
+-- Words of private contracts and of proofs. No promise to a caller speaks of them.
+pub mod Index
