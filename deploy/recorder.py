@@ -52,7 +52,7 @@ TRIES = 5
 STATION_COMMANDS, STATION_SECONDS = 20, 15
 # One of the staff sends so many bytes at once, and then so many a second, each command as if it had
 # so many more.
-STAFF_BYTES, STAFF_RATE, COMMAND_BYTES = 64 << 20, 20_000, 1000
+STAFF_BYTES, STAFF_RATE, COMMAND_BYTES = 32 << 20, 20_000, 1000
 # A history has the last lines, so many of what was done and as many of what was not, and of one
 # that is longer not what was sent.
 LINES, LONGEST = 200, 65_536

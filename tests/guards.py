@@ -211,7 +211,8 @@ def test_who_lets_the_proxy_wait():
 
 @needs("nginx", "openssl")
 def test_what_is_large_stays_in_memory():
-    """The longest import and a table of half a megabyte are in no file, however late its reader takes it; the desk is not held."""
+    """The longest command, the longest import and a table of half a megabyte are in no file, however late its reader takes it; the desk is
+    not held."""
     taken = []
     table = "x" * 480_000
 
@@ -220,6 +221,7 @@ def test_what_is_large_stays_in_memory():
         return answer_of(table)
 
     with desk_with(answered) as port, proxy(port) as front:
+        same(front.ask("POST", "/station/s1/lodge", b"x" * 16_384, "clara").status, 200)
         same(front.ask("POST", "/con/c1/import", b"x" * 1_048_576, "clara").status, 200)
         # Of which the system takes little in the place of a reader who does not read.
         there = socket.socket()
@@ -228,7 +230,7 @@ def test_what_is_large_stays_in_memory():
         there.connect(("127.0.0.1", front.port))
         with front.tls.wrap_socket(there, server_hostname=NAME) as late:
             late.sendall(f"GET /now/con/c1 HTTP/1.1\r\nHost: {NAME}\r\nAuthorization: {front.authorization('clara')}\r\n\r\n".encode())
-            until(lambda: len(taken) == 2)
+            until(lambda: len(taken) == 3)
             time.sleep(0.5)
             same(front.ask("GET", "/now/con/c1", name="berta").body.decode(), table)
         same(errors(front), "")
@@ -604,15 +606,15 @@ def test_what_a_station_may_give():
 
 
 def test_what_one_of_the_staff_may_send():
-    """Whoever has a clerk's password fills no disk, and does not keep the office with trials, which are not recorded: 64 MB at once, and then
+    """Whoever has a clerk's password fills no disk, and does not keep the office with trials, which are not recorded: 32 MB at once, and then
     72 MB an hour, which is a file of 1 MB each minute. Every name has its own."""
     recorder = loaded("recorder.py")
     clock = [1000.0]
     recorder.time = type("Time", (), {"monotonic": staticmethod(lambda: clock[0])})
     limit = recorder.Limit()
     sent = lambda name, length: next(n for n in range(100_000) if limit.is_over(name, "clerk", length))
-    same((sent("clara", 1_048_576), sent("bruno", 1_048_576), sent("berta", 0)), (63, 63, 67_108))
-    for seconds, wanted in ((3, 0), (1, 1), (53, 1), (3600, 63)):
+    same((sent("clara", 1_048_576), sent("bruno", 1_048_576), sent("berta", 0)), (31, 31, 33_554))
+    for seconds, wanted in ((1, 0), (1, 1), (53, 1), (3600, 31)):
         clock[0] += seconds
         same((seconds, sent("clara", 1_048_576)), (seconds, wanted))
     for _ in range(600):

@@ -48,18 +48,29 @@ pub(crate) fn answer(alloc: Global, line: &str) -> Result<String, AllocError> {
     Ok(text)
 }
 
-fn check<K: Keeper>(alloc: Global, office: &mut K, line: &str) -> Result<(), Fail> {
-    let (said, want) = cut(line, " = ");
-    let message = message(alloc, said)?;
-    let want = answer(alloc, want)?;
+/// What is answered to the message of a line.
+fn answered<K: Keeper>(alloc: Global, office: &mut K, line: &str) -> Result<String, Fail> {
+    let message = message(alloc, line)?;
     let (_, got) = exchange(alloc, office, message.as_str(), None, ROOM)?;
+    Ok(got)
+}
+
+/// Fails where a text is not the answer of a line.
+fn check_answer(alloc: Global, got: String, line: &str) -> Result<(), Fail> {
+    let want = answer(alloc, line)?;
     if got.as_str() == want.as_str() {
         return Ok(());
     }
-    Err(Fail::from(format!(in alloc; "{line}, and not {got}")?))
+    Err(Fail::from(got))
 }
 
-/// Fails at the first of these lines, a message and its answer, whose answer is another.
+fn check<K: Keeper>(alloc: Global, office: &mut K, line: &str) -> Result<(), Fail> {
+    let (said, want) = cut(line, " = ");
+    check_answer(alloc, answered(alloc, office, said)?, want)
+}
+
+/// Fails at the first of these lines, a message and its answer, whose answer is another, with that
+/// answer.
 pub(crate) fn check_each<K: Keeper>(
     alloc: Global,
     office: &mut K,

@@ -15,7 +15,6 @@ use Rattle.sqlite_keyed.proofs.ListLemmas.{all-append, all_weaker, all_map, filt
 use Rattle.sqlite.specs.declared.error.Error.{Error}
 use Rattle.sqlite.specs.State.{State}
 use Rattle.tally_schema.specs.Rows.{has_key, others, AreRowsOf}
-use Rattle.tally_schema.proofs.RisingRowidLemmas.{int_less}
 use Rattle.tally_schema.proofs.RowsLemmas.{partitioned_rows, put_rows}
 use Rattle.tally_setup.specs.Constituency.{Constituency}
 use Rattle.tally_returns.specs.Counts.{VoteCounts}
@@ -26,7 +25,7 @@ use Rattle.tally_statements.specs.Office.{rows_in, IsInside, HasRows, item_cells
 use Rattle.tally_tables.specs.Cells.{item_row, items_of, numbers_with_places, spoiled_item, return_row, return_rows, count_rows, constituency_of}
 use Rattle.tally_entries.specs.internal.Entries.{AreReturnsIn, PutsReturn, stored_in}
 use Rattle.tally_entries.specs.internal.Written.{HasCounts, HasItems}
-use Rattle.tally_entries.proofs.FindLemmas.{above, below}
+use Rattle.tally_entries.proofs.FindLemmas.{all_above, all_below, int_less}
 use Rattle.tally_entries.proofs.ReturnLemmas.{heads_keyed, counts_keyed, counts_apart, heads_apart}
 use Rattle.tally_entries.proofs.RowLemmas.{numbered_then}
 
@@ -115,9 +114,9 @@ vote_at t key c xs o n ys rest old mid new few none was sets =
     let item : ℕ = length xs + 1 in
     let front : List (ℕ × ℕ) = (0, c.blank) ∷ numbers_with_places 1 xs in
     let back : List (ℕ × ℕ) = numbers_with_places (length xs + 2) ys ++ (spoiled_item, c.spoiled) ∷ [] in
-    let low : AllByRecursion (IsApart item) front = (lower item (0, c.blank) (omega arith), all_weaker _ (IsApart item) (lower item) (numbers_with_places 1 xs) (below item 1 xs (omega arith))) in
+    let low : AllByRecursion (IsApart item) front = (lower item (0, c.blank) (omega arith), all_weaker _ (IsApart item) (lower item) (numbers_with_places 1 xs) (all_below item 1 xs (omega arith))) in
     let high : AllByRecursion (IsApart item) back =
-    all-append (IsApart item) (numbers_with_places (length xs + 2) ys) ((spoiled_item, c.spoiled) ∷ []) (all_weaker _ (IsApart item) (higher item) (numbers_with_places (length xs + 2) ys) (above item (length xs + 2) ys (omega arith))) (higher item (spoiled_item, c.spoiled) (omega (arith, few)), tt) in
+    all-append (IsApart item) (numbers_with_places (length xs + 2) ys) ((spoiled_item, c.spoiled) ∷ []) (all_weaker _ (IsApart item) (higher item) (numbers_with_places (length xs + 2) ys) (all_above item (length xs + 2) ys (omega arith))) (higher item (spoiled_item, c.spoiled) (omega (arith, few)), tt) in
     let held : IsPermutation (map (item_row key) (front ++ (item, o) ∷ back) ++ rest) (rows_in t mid) = subst (λ l. IsPermutation (map (item_row key) l ++ rest) (rows_in t mid)) (items_at c.blank c.spoiled xs o ys) was.rows in
     subst (λ l. HasRows t (map (item_row key) l ++ rest) old new) (sym (items_at c.blank c.spoiled xs n ys))
     (back_again t key front back item rest n _ old mid new was (sets (more t key front back item rest) (lacks t key front back item rest low high none) (at_first t key front back item rest o mid held)))
@@ -149,14 +148,14 @@ pub blank_set : (t : KeyedTable) (key : List ℕ) (c : VoteCounts) (n : ℕ) (re
     → HasItems t key (record c { blank = n }) rest old new
 blank_set t key c n rest old new inside none held sets =
     let back : List (ℕ × ℕ) = numbers_with_places 1 c.votes ++ (spoiled_item, c.spoiled) ∷ [] in
-    let high : AllByRecursion (IsApart 0) back = all-append (IsApart 0) (numbers_with_places 1 c.votes) ((spoiled_item, c.spoiled) ∷ []) (all_weaker _ (IsApart 0) (higher 0) (numbers_with_places 1 c.votes) (above 0 1 c.votes (omega arith))) (higher 0 (spoiled_item, c.spoiled) (omega arith), tt) in
+    let high : AllByRecursion (IsApart 0) back = all-append (IsApart 0) (numbers_with_places 1 c.votes) ((spoiled_item, c.spoiled) ∷ []) (all_weaker _ (IsApart 0) (higher 0) (numbers_with_places 1 c.votes) (all_above 0 1 c.votes (omega arith))) (higher 0 (spoiled_item, c.spoiled) (omega arith), tt) in
     back_again t key [] back 0 rest n (rows_in t old) old old new (record { inside = inside; rows = IsPermutation-refl _; others = λ u apart. refl; setup = refl })
     (sets (more t key [] back 0 rest) (lacks t key [] back 0 rest tt high none) (at_first t key [] back 0 rest c.blank old held))
 
 pub spoiled_set : (t : KeyedTable) (key : List ℕ) (c : VoteCounts) (n : ℕ) (rest : List Row) (old mid new : State) → length c.votes ≤ 60 → filter (has_key key) rest ≡ [] → HasItems t key c rest old mid → SetsFrom t key spoiled_item c.spoiled n mid new → HasItems t key (record c { spoiled = n }) rest old new
 spoiled_set t key c n rest old mid new few none was sets =
     let front : List (ℕ × ℕ) = (0, c.blank) ∷ numbers_with_places 1 c.votes in
-    let low : AllByRecursion (IsApart spoiled_item) front = (lower spoiled_item (0, c.blank) (omega arith), all_weaker _ (IsApart spoiled_item) (lower spoiled_item) (numbers_with_places 1 c.votes) (below spoiled_item 1 c.votes (omega (arith, few)))) in
+    let low : AllByRecursion (IsApart spoiled_item) front = (lower spoiled_item (0, c.blank) (omega arith), all_weaker _ (IsApart spoiled_item) (lower spoiled_item) (numbers_with_places 1 c.votes) (all_below spoiled_item 1 c.votes (omega (arith, few)))) in
     back_again t key front [] spoiled_item rest n _ old mid new was (sets (more t key front [] spoiled_item rest) (lacks t key front [] spoiled_item rest low tt none) (at_first t key front [] spoiled_item rest c.spoiled mid was.rows))
 
 pub spoiled_after : (t : KeyedTable) (key : List ℕ) (c : VoteCounts) (n : ℕ) (rest : List Row) (old mid new : State) (r : Result Unit Error) → length c.votes ≤ 60 → filter (has_key key) rest ≡ [] → HasItems t key c rest old mid

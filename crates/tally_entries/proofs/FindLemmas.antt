@@ -1,5 +1,6 @@
 -- The rows of the return of a station, as a SELECT finds them.
-use Rattle.std.proofs.Common.{◌≡◌, ℕ, T, ◌+◌, ◌<◌, ◌≤◌, pos, List, [], ◌∷◌, ◌++◌, map, filter, length, Option, None, Some, Ok, Err, Result, IfOk, IfSome, true, Less, Equal, refl, sym, ap, subst, ◌∙◌, arith, append-nil}
+use Rattle.std.proofs.Common.{◌≡◌, ℕ, ℤ, T, ◌+◌, ◌<◌, ◌≤◌, pos, List, [], ◌∷◌, ◌++◌, map, filter, length, Option, None, Some, Ok, Err, Result, IfOk, IfSome, true, Less, Equal, refl, sym, ap, subst, ◌∙◌, arith, append-nil}
+use Rattle.std.specs.Prelude.{◌<ℤ◌}
 use Rattle.std.specs.FinMap.{get}
 use Rattle.std.specs.Option.{option_to_list}
 use Rattle.std.specs.List.{AllByRecursion, flat_map}
@@ -7,16 +8,16 @@ use Rattle.std.specs.List.Sorted.{IsPermutation}
 use Rattle.std.specs.Ordering.{ordering_then}
 use Rattle.std.proofs.lemmas.Bool.{lt-ltb}
 use Rattle.std.proofs.lemmas.Cmp.{tied_itself}
-use Rattle.sqlite_value.specs.declared.value.Value.TheVariants.{Text}
+use Rattle.sqlite_keyed.proofs.KeyedLemmas.{Less-from_lt}
+use Rattle.sqlite_value.specs.declared.value.Value.TheVariants.{Int, Text}
 use Rattle.sqlite_value.specs.Order.{Row, value_cmp, row_cmp}
-use Rattle.sqlite_value.proofs.OrderLemmas.{value_cmp_total}
+use Rattle.sqlite_value.proofs.OrderLemmas.{value_cmp-Int, value_cmp_total}
 use Rattle.sqlite_trees.specs.Tree.{IsAscending}
 use Rattle.sqlite_keyed.proofs.ListLemmas.{all-append, all_weaker, ascending-append, ascending-map, ascending_weaker}
 use Rattle.sqlite.specs.declared.error.Error.{Error}
 use Rattle.sqlite.specs.Effect.{IsDatabase}
 use Rattle.sqlite.specs.State.{State, IsUnchanged}
 use Rattle.tally_schema.specs.Rows.{cells, has_key, HaveDistinctRowids}
-use Rattle.tally_schema.proofs.RisingRowidLemmas.{int_less}
 use Rattle.tally_schema.proofs.RowsLemmas.{rows_of_key}
 use Rattle.tally_setup.specs.Code.{is_code}
 use Rattle.tally_setup.specs.Constituency.{Constituency}
@@ -35,26 +36,29 @@ use Rattle.tally_entries.proofs.ReturnLemmas.{heads_keyed, counts_keyed}
 
 -- ---- the items of counts rise
 
-pub above : (m first : ℕ) (ns : List ℕ) → m < first → AllByRecursion (λ (b : ℕ × ℕ). m < b.0) (numbers_with_places first ns)
-above m first [] h = tt
-above m first (n ∷ ns) h = (h, above m (first + 1) ns (omega (arith, h)))
+pub all_above : (m first : ℕ) (ns : List ℕ) → m < first → AllByRecursion (λ (b : ℕ × ℕ). m < b.0) (numbers_with_places first ns)
+all_above m first [] h = tt
+all_above m first (n ∷ ns) h = (h, all_above m (first + 1) ns (omega (arith, h)))
 
-pub below : (m first : ℕ) (ns : List ℕ) → first + length ns ≤ m → AllByRecursion (λ (b : ℕ × ℕ). b.0 < m) (numbers_with_places first ns)
-below m first [] h = tt
-below m first (n ∷ ns) h = (omega (arith, h), below m (first + 1) ns (omega (arith, h)))
+pub all_below : (m first : ℕ) (ns : List ℕ) → first + length ns ≤ m → AllByRecursion (λ (b : ℕ × ℕ). b.0 < m) (numbers_with_places first ns)
+all_below m first [] h = tt
+all_below m first (n ∷ ns) h = (omega (arith, h), all_below m (first + 1) ns (omega (arith, h)))
 
 pub numbered_rise : (first : ℕ) (ns : List ℕ) → IsAscending (λ (a b : ℕ × ℕ). a.0 < b.0) (numbers_with_places first ns)
 numbered_rise first [] = tt
-numbered_rise first (n ∷ ns) = (above first (first + 1) ns (omega arith), numbered_rise (first + 1) ns)
+numbered_rise first (n ∷ ns) = (all_above first (first + 1) ns (omega arith), numbered_rise (first + 1) ns)
 
 pub items_rise : (c : VoteCounts) → length c.votes ≤ 60 → IsAscending (λ (a b : ℕ × ℕ). a.0 < b.0) (items_of c)
 items_rise c few =
     let last : List (ℕ × ℕ) = (spoiled_item, c.spoiled) ∷ [] in
-    let low = below spoiled_item 1 c.votes (omega (arith, few)) in (
-      all-append (λ (b : ℕ × ℕ). 0 < b.0) (numbers_with_places 1 c.votes) last (above 0 1 c.votes (omega arith)) (omega arith, tt),
+    let low = all_below spoiled_item 1 c.votes (omega (arith, few)) in (
+      all-append (λ (b : ℕ × ℕ). 0 < b.0) (numbers_with_places 1 c.votes) last (all_above 0 1 c.votes (omega arith)) (omega arith, tt),
       ascending-append (λ (a b : ℕ × ℕ). a.0 < b.0) (numbers_with_places 1 c.votes) last (numbered_rise 1 c.votes) (tt, tt)
           (all_weaker _ (λ (a : ℕ × ℕ). AllByRecursion (λ (b : ℕ × ℕ). a.0 < b.0) last) (λ a h. (h, tt)) (numbers_with_places 1 c.votes) low),
     )
+
+pub int_less : (m n : ℤ) → m <ℤ n → value_cmp (Int m) (Int n) ≡ Less
+int_less m n h = value_cmp-Int m n ∙ Less-from_lt m n h
 
 row_less : (key : List ℕ) (a b : ℕ × ℕ) → a.0 < b.0 → row_cmp (key_cells Counts (item_row key a)) (key_cells Counts (item_row key b)) ≡ Less
 row_less key a b h =

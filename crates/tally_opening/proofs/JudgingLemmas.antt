@@ -1,12 +1,10 @@
 -- From what queries answered of the tables to the judgement of them.
-use Rattle.std.proofs.Common.{◌≡◌, ◌∙◌, List, ℕ, map, [], ◌∷◌, Option, None, Some, Result, Ok, Err, OnOk, refl, sym, ap, subst, arith}
+use Rattle.std.proofs.Common.{◌≡◌, ◌∙◌, List, ℕ, Option, None, Some, Result, Ok, Err, OnOk, refl, sym, ap, subst, arith}
 use Rattle.std.specs.Prelude.{OnSome}
 use Rattle.std.specs.BTreeMap.{BTreeMap}
 use Rattle.std.specs.List.Sorted.{IsPermutation}
-use Rattle.std.proofs.lemmas.List.Sorted.{IsPermutation-sym}
 use Rattle.sqlite_value.specs.Order.{Row}
 use Rattle.sqlite_trees.specs.declared.store.Store.{Ghosts}
-use Rattle.sqlite_trees.specs.Tree.{rowid}
 use Rattle.tally_tables.specs.declared.views.Statuses.{Statuses}
 use Rattle.sqlite.specs.Effect.{Database, IsDatabase}
 use Rattle.sqlite.specs.declared.error.Error.{Error}
@@ -14,9 +12,7 @@ use Rattle.sqlite.specs.declared.transaction.Transaction.{Transaction}
 use Rattle.sqlite.specs.Held.{state}
 use Rattle.sqlite.specs.State.{State as Seen, HasCleanDisk, IsUnchanged}
 use Rattle.sqlite.proofs.Callers.{unchanged_then}
-use Rattle.tally_schema.specs.Rows.{HaveDistinctRowids, cells}
-use Rattle.tally_schema.proofs.RisingRowidLemmas.{distinct_shown}
-use Rattle.tally_schema.proofs.RowidLemmas.{distinct_permuted}
+use Rattle.tally_schema.specs.Rows.{cells}
 use Rattle.tally_setup.specs.Constituency.{Constituency}
 use Rattle.tally_setup.specs.Limits.{IsSetup}
 use Rattle.tally_judge.specs.Numbers.{HasNumbersOfRows, numbers_of}
@@ -25,17 +21,10 @@ use Rattle.tally_statements.specs.declared.table.KeyedTable.{KeyedTable}
 use Rattle.tally_statements.specs.declared.table.KeyedTable.TheVariants.{Returns, Counts, Cons, Lots, Seats, Gone, Totals, Past}
 use Rattle.tally_statements.specs.internal.Inside.{OnlyReadsFrom}
 use Rattle.tally_statements.proofs.StaysLemmas.{stays-then}
-use Rattle.tally_statements.specs.Office.{HasTables, ShowsRowids, ShowsTable, rows_in, tree_of}
-use Rattle.tally_opening.specs.internal.Opening.{AreReadOf, AreTablesOfNone, CountsTables, HasDistinctRows, IsJudged, IsReadOf, ShowsOffice, trees_with}
+use Rattle.tally_statements.specs.Office.{HasTables, ShowsTable, rows_in, tree_of}
+use Rattle.tally_opening.specs.internal.Opening.{AreTablesOfNone, CountsTables, IsJudged, ShowsOffice, trees_with}
 use Rattle.tally_opening.proofs.JudgedLemmas.{accepted, refused}
 use Rattle.tally_opening.proofs.TableLemmas.{rows_of_tables}
-
--- rowids that were answered and rise are those of the table
-pub rowids_differ : (t : KeyedTable) (seen : Seen) (answer : List Row) → ShowsRowids t seen answer → HaveDistinctRowids answer → HasDistinctRows seen.now t
-rowids_differ t seen answer shown rise = distinct_shown (seen.now.trees (tree_of t)) (distinct_permuted answer (map (λ r. rowid r ∷ []) (seen.now.trees (tree_of t))) (IsPermutation-sym _ _ shown) rise)
-
-distinct_before : (t : KeyedTable) (old new : Seen) → IsUnchanged old new → HasDistinctRows new.now t → HasDistinctRows old.now t
-distinct_before t old new same h = subst (λ d. HasDistinctRows d t) same.0.now_is h
 
 pub tables_still : (old new : Seen) → HasTables old → IsUnchanged old new → HasTables new
 tables_still old new has same = record {
@@ -73,30 +62,6 @@ shows_before t old new answer same shown = record {
   in_order = λ rows order perm. shown.in_order rows order (subst (λ (d : Database). IsPermutation rows (cells (d.trees (tree_of t)))) (sym same.0.now_is) perm);
 }
 
--- what was read later, of tables that are as they were
-pub read_before : (t : KeyedTable) (old new : Seen) (answer : List Row) → IsUnchanged old new → IsReadOf t new answer → IsReadOf t old answer
-read_before t old new answer same read = record { shown = shows_before t old new answer same read.shown; distinct = distinct_before t old new same read.distinct }
-
--- all tables, each of which was read
-pub all_read : (seen : Seen) (returns counts cons totals lots seats gone past : List Row)
-    → IsReadOf Returns seen returns → IsReadOf Counts seen counts → IsReadOf Cons seen cons → IsReadOf Totals seen totals
-    → IsReadOf Lots seen lots → IsReadOf Seats seen seats → IsReadOf Gone seen gone → IsReadOf Past seen past
-    → AreReadOf seen (record { returns = returns; counts = counts; cons = cons; tables = record { lots = lots; seats = seats; gone = gone; totals = totals; past = past } })
-all_read seen returns counts cons totals lots seats gone past r n c t l s g p = record {
-  shown = record { returns = r.shown; counts = n.shown; cons = c.shown; lots = l.shown; seats = s.shown; gone = g.shown; totals = t.shown; past = p.shown };
-  distinct = each;
-}
-  where
-    each : (table : KeyedTable) → HasDistinctRows seen.now table
-    each Returns = r.distinct
-    each Counts = n.distinct
-    each Cons = c.distinct
-    each Lots = l.distinct
-    each Seats = s.distinct
-    each Gone = g.distinct
-    each Totals = t.distinct
-    each Past = p.distinct
-
 -- one read after the other, each of which changed nothing
 both_unchanged : {X E : Type 0} (a b c : Seen) (r : Result X E) → IsUnchanged a b → OnOk r (IsUnchanged b c) → OnOk r (IsUnchanged a c)
 both_unchanged a b c (Ok x) first second = unchanged_then a b c first second
@@ -123,11 +88,8 @@ look_as g a b x r one = record {
   answered_open = λ clean. so_answered r (one.answered_open clean);
 }
 
-pub judged : (setup : List Constituency) (seen : Seen) (rows : RowsInOrder) → IsSetup setup → ShowsOffice seen rows → ((t : KeyedTable) → HasDistinctRows seen.now t) → AreRowsOfOneState setup rows → IsJudged setup seen.now
-judged setup seen rows limits shown distinct one = record {
-  distinct = distinct;
-  one = λ text. accepted setup text (with_setup text seen) rows limits (office_with text seen rows shown) refl one;
-}
+pub judged : (setup : List Constituency) (seen : Seen) (rows : RowsInOrder) → IsSetup setup → ShowsOffice seen rows → AreRowsOfOneState setup rows → IsJudged setup seen.now
+judged setup seen rows limits shown one text = accepted setup text (with_setup text seen) rows limits (office_with text seen rows shown) refl one
 
 pub judged_none : (setup : List Constituency) (seen : Seen) (rows : RowsInOrder) → IsSetup setup → ShowsOffice seen rows → (AreLawfulRows setup rows → ⊥) → AreTablesOfNone setup seen.now
 judged_none setup seen rows limits shown none text = refused setup (with_setup text seen) rows limits (office_with text seen rows shown) none text

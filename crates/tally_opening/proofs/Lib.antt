@@ -13,3 +13,4 @@ pub mod StoredLemmas
 pub mod OpenedLemmas
 pub mod TakeoverLemmas
 pub mod UnwrittenLemmas
+pub mod LawLemmas

@@ -24,7 +24,7 @@ use Rattle.tally_tables.specs.declared.views.Statuses.{Statuses}
 use Rattle.tally_opening.specs.Create.{IsAsBefore}
 use Rattle.tally_opening.specs.internal.Ending.{IsSettled}
 use Rattle.tally_opening.specs.Open.{AreFormerTables, CountsFound, HasSetup, IsOfKnownVersion, IsOpenFault, IsOpened, LacksTable}
-use Rattle.tally_opening.specs.internal.Opening.{AreOfNoStored, CountsFormer, CountsTables, HasSetupRow, HasStoredRow, IsJudged, IsTodayFault, Lacks, trees_with}
+use Rattle.tally_opening.specs.internal.Opening.{AreOfNoStored, CountsFormer, CountsTables, HasDistinctRows, HasSetupRow, HasStoredRow, IsJudged, IsTodayFault, Lacks, trees_with}
 use Rattle.tally_keeper.specs.declared.fault.OpenFault.{OpenFault}
 use Rattle.tally_keeper.specs.declared.fault.OpenFault.TheVariants.{BadTables, Memory, NoTables, Setup, Store}
 
@@ -87,17 +87,17 @@ stored_same : (db : Trees) (text : List ℕ) → HasSetup version text db → Ar
 stored_same db text row = record { setup = row; tables = λ t. sym (beside_setup text db t) }
 
 pub opened_today : (setup : List Constituency) (old new : Seen) → old.now.schema ≡ office_schema → HasSetupRow version setup old.now → IsJudged setup old.now → (IsTrue old.is_open → IsDatabase old.now) → IsSettled old → (IsTrue new.is_open → IsTrue old.is_open)
-    → (IsTrue new.is_open → IsAsBefore old new) → IsOpened setup old new
-opened_today setup old new schema stored judged sound settled was_open before = record {
-  state = (judged.one stored.text).state;
+    → (IsTrue new.is_open → IsAsBefore old new) → (IsTrue old.is_open → (t : KeyedTable) → HasDistinctRows old.now t) → IsOpened setup old new
+opened_today setup old new schema stored judged sound settled was_open before distinct = record {
+  state = (judged stored.text).state;
   text = stored.text;
-  found = record { lawful = (judged.one stored.text).lawful; found = (stored.reads, inl (schema, tables)); alone = λ other lawful found. alone other lawful found.1 };
+  found = record { lawful = (judged stored.text).lawful; found = (stored.reads, inl (schema, tables)); alone = λ other lawful found. alone other lawful found.1 };
   left = λ now. inl (schema, ap (λ (d : Database). d.trees) (before now).now);
   has = λ now. record {
-    tables = subst (λ (d : Database). AreTables setup stored.text (judged.one stored.text).state d.trees) (sym (before now).now) tables;
+    tables = subst (λ (d : Database). AreTables setup stored.text (judged stored.text).state d.trees) (sym (before now).now) tables;
     schema = ap (λ (d : Database). d.schema) (before now).now ∙ schema;
     sound = subst IsDatabase (sym (before now).now) (sound (was_open now));
-    distinct = λ t. subst (λ (d : Database). HaveDistinctRowids (d.trees (tree_of t))) (sym (before now).now) (judged.distinct t);
+    distinct = λ t. subst (λ (d : Database). HaveDistinctRowids (d.trees (tree_of t))) (sym (before now).now) (distinct (was_open now) t);
     settled = (before now).committed ∙ sym (settled (was_open now)) ∙ sym (before now).now;
   };
 }
@@ -105,13 +105,13 @@ opened_today setup old new schema stored judged sound settled was_open before = 
     same : AreSame (trees_with stored.text old.now.trees) old.now.trees
     same = stored_same old.now.trees stored.text stored.row
 
-    tables : AreTables setup stored.text (judged.one stored.text).state old.now.trees
-    tables = same_tables setup stored.text (judged.one stored.text).state _ _ same (judged.one stored.text).tables
+    tables : AreTables setup stored.text (judged stored.text).state old.now.trees
+    tables = same_tables setup stored.text (judged stored.text).state _ _ same (judged stored.text).tables
 
     alone : (other : State) → IsLawfulState setup other
         → ((old.now.schema ≡ office_schema) × AreTables setup stored.text other old.now.trees) ⊎ ((old.now.schema ≡ former_schema) × AreFormerTables setup stored.text other old.now.trees)
-        → other ≡ (judged.one stored.text).state
-    alone other lawful (inl found) = (judged.one stored.text).alone other lawful (same_tables setup stored.text other _ _ (same_back _ _ same) found.1)
+        → other ≡ (judged stored.text).state
+    alone other lawful (inl found) = (judged stored.text).alone other lawful (same_tables setup stored.text other _ _ (same_back _ _ same) found.1)
     alone other lawful (inr found) = absurd (forms_differ (sym schema ∙ found.0))
 
 -- why today's tables are not opened
@@ -170,6 +170,7 @@ numbers_former setup old known schema ensured text s lawful found = go found.1
 -- ---- what calls answered
 
 pub today_each : (r : Result (List Constituency) OpenFault) (old new : Seen) → old.now.schema ≡ office_schema → (IsTrue old.is_open → IsDatabase old.now) → IsSettled old → (IsTrue new.is_open → IsTrue old.is_open)
-    → (IsTrue new.is_open → IsAsBefore old new) → IfOk r (λ setup. HasSetupRow version setup old.now) → IfOk r (λ setup. IsJudged setup old.now) → IfOk r (λ setup. IsOpened setup old new)
-today_each (Ok setup) old new schema sound settled was_open before stored judged = opened_today setup old new schema stored judged sound settled was_open before
-today_each (Err fault) old new schema sound settled was_open before stored judged = tt
+    → (IsTrue new.is_open → IsAsBefore old new) → (IsTrue old.is_open → (t : KeyedTable) → HasDistinctRows old.now t) → IfOk r (λ setup. HasSetupRow version setup old.now) → IfOk r (λ setup. IsJudged setup old.now)
+    → IfOk r (λ setup. IsOpened setup old new)
+today_each (Ok setup) old new schema sound settled was_open before distinct stored judged = opened_today setup old new schema stored judged sound settled was_open before distinct
+today_each (Err fault) old new schema sound settled was_open before distinct stored judged = tt

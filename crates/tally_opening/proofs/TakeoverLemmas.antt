@@ -1,5 +1,5 @@
 -- The tables of version 1, and what becomes of them as they are taken over.
-use Rattle.std.proofs.Common.{◌≡◌, ◌∙◌, ◌⊎◌, List, ℕ, inl, inr, refl, sym, ap, subst, Result, Ok, Err, OnOk}
+use Rattle.std.proofs.Common.{◌≡◌, ◌∙◌, ◌⊎◌, List, ℕ, inl, inr, refl, sym, ap, subst, Result, Ok, Err, OnOk, IsTrue}
 use Rattle.std.specs.Prelude.{IfErr, IfOk}
 use Rattle.std.specs.BTreeMap.{BTreeMap}
 use Rattle.sqlite.specs.declared.error.Error.{Error}
@@ -19,7 +19,7 @@ use Rattle.tally_statements.specs.Office.{PutsSetup as SetsSetup, IsInside, tree
 use Rattle.tally_tables.specs.TablesOfState.{AreTables, version}
 use Rattle.tally_opening.specs.Crash.{LeavesTakenOver}
 use Rattle.tally_opening.specs.Open.{AreFormerTables, HasSetup, IsOpened, IsTakenOver, former_version, tables_taken_over}
-use Rattle.tally_opening.specs.internal.Opening.{AddsPast, AreFormerOfNone, AreOfNoStored, CountsFormer, CountsTables, HasSetupRow, HasStoredRow, IsFormerFault, IsJudged, IsJudgedFault, IsReady, IsTablesFault, AreTablesTakenOver, trees_with}
+use Rattle.tally_opening.specs.internal.Opening.{AddsPast, AreFormerOfNone, AreOfNoStored, CountsFormer, CountsTables, HasSetupRow, HasFormerTables, HasStoredRow, IsFormerFault, IsJudged, IsJudgedFault, IsReady, IsTablesFault, AreTablesTakenOver, trees_with}
 use Rattle.tally_keeper.specs.declared.fault.OpenFault.{OpenFault}
 use Rattle.tally_opening.proofs.JudgingLemmas.{tables_still}
 use Rattle.tally_opening.proofs.OpenedLemmas.{AreSame, beside_setup, forms_differ, same_back, same_tables}
@@ -54,8 +54,9 @@ past_still old mid new past same = record {
   each = λ text t. ap (λ (d : Database). d.trees (tree_of t)) same.0.now_is ∙ past.each text t;
 }
 
-pub ready : (setup : List Constituency) (old mid new : Seen) → AddsPast old mid → IsUnchanged mid new → HasSetupRow former_version setup mid.now → IsJudged setup mid.now → IsReady setup old new
-ready setup old mid new past same stored judged = record {
+pub ready : (setup : List Constituency) (old mid new : Seen) → IsTrue old.is_open → AddsPast old mid → IsUnchanged mid new → HasSetupRow former_version setup mid.now → IsJudged setup mid.now → IsReady setup old new
+ready setup old mid new was_open past same stored judged = record {
+  was_open = was_open;
   stored = record { text = stored.text; reads = stored.reads; row = sym past.setup ∙ stored.row };
   judged = subst (IsJudged setup) (sym same.0.now_is) judged;
   past = past_still old mid new past same;
@@ -94,30 +95,35 @@ fault_judged old mid fault past ensured =
 
 -- ---- the version
 
-pub ready_inside : (setup : List Constituency) (old new : Seen) → IsReady setup old new → IsInside new
-ready_inside setup old new ready = record { schema = ready.past.has.schema; sound = ready.past.sound; distinct = ready.judged.distinct; inside = ready.past.has.inside }
+pub ready_inside : (setup : List Constituency) (old new : Seen) → HasFormerTables old → IsReady setup old new → IsInside new
+ready_inside setup old new has ready = record {
+  schema = ready.past.has.schema;
+  sound = ready.past.sound;
+  distinct = λ t. subst HaveDistinctRowids (sym (ready.past.each ready.stored.text t)) (has.distinct ready.was_open ready.stored.text t);
+  inside = ready.past.has.inside;
+}
 
 pub ready_row : (setup : List Constituency) (old new : Seen) (h : IsReady setup old new) → HasSetup former_version h.stored.text new.now.trees
 ready_row setup old new h = h.past.setup ∙ h.stored.row
 
 pub taken : (setup : List Constituency) (old mid new : Seen) (h : IsReady setup old mid) → SetsSetup version h.stored.text mid new → AreTablesTakenOver setup old new
 taken setup old mid new h set = record {
-  state = (h.judged.one h.stored.text).state;
+  state = (h.judged h.stored.text).state;
   text = h.stored.text;
-  lawful = (h.judged.one h.stored.text).lawful;
+  lawful = (h.judged h.stored.text).lawful;
   reads = h.stored.reads;
   former = (h.stored.row, found);
-  alone = λ other lawful tables. (h.judged.one h.stored.text).alone other lawful (same_tables setup h.stored.text other _ _ (same_back _ _ over) tables.1);
+  alone = λ other lawful tables. (h.judged h.stored.text).alone other lawful (same_tables setup h.stored.text other _ _ (same_back _ _ over) tables.1);
   inside = set.inside;
   left = record { setup = set.setup; tables = λ t. set.others t ∙ h.past.each h.stored.text t };
-  tables = same_tables setup h.stored.text (h.judged.one h.stored.text).state _ _ (record { setup = set.setup; tables = λ t. set.others t ∙ h.past.each h.stored.text t }) found;
+  tables = same_tables setup h.stored.text (h.judged h.stored.text).state _ _ (record { setup = set.setup; tables = λ t. set.others t ∙ h.past.each h.stored.text t }) found;
 }
   where
     over : AreSame (trees_with h.stored.text mid.now.trees) (tables_taken_over h.stored.text old.now.trees)
     over = over_same h.stored.text old mid h.past
 
-    found : AreTables setup h.stored.text (h.judged.one h.stored.text).state (tables_taken_over h.stored.text old.now.trees)
-    found = same_tables setup h.stored.text (h.judged.one h.stored.text).state _ _ over (h.judged.one h.stored.text).tables
+    found : AreTables setup h.stored.text (h.judged h.stored.text).state (tables_taken_over h.stored.text old.now.trees)
+    found = same_tables setup h.stored.text (h.judged h.stored.text).state _ _ over (h.judged h.stored.text).tables
 
 -- ---- the commit
 
@@ -154,11 +160,11 @@ leaves_taken setup old last db schema h is = record {
 
 -- ---- what calls answered
 
-pub ready_each : (r : Result (Result (List Constituency) OpenFault) Error) (old mid new : Seen) → AddsPast old mid → OnOk r (IsUnchanged mid new) → IfOk r (λ ensured. IfOk ensured (λ setup. HasSetupRow former_version setup mid.now))
+pub ready_each : (r : Result (Result (List Constituency) OpenFault) Error) (old mid new : Seen) → OnOk r (IsTrue old.is_open) → AddsPast old mid → OnOk r (IsUnchanged mid new) → IfOk r (λ ensured. IfOk ensured (λ setup. HasSetupRow former_version setup mid.now))
     → IfOk r (λ ensured. IfOk ensured (λ setup. IsJudged setup mid.now)) → IfOk r (λ ensured. IfOk ensured (λ setup. IsReady setup old new))
-ready_each (Ok (Ok setup)) old mid new past same stored judged = ready setup old mid new past same stored judged
-ready_each (Ok (Err fault)) old mid new past same stored judged = tt
-ready_each (Err e) old mid new past same stored judged = tt
+ready_each (Ok (Ok setup)) old mid new was_open past same stored judged = ready setup old mid new was_open past same stored judged
+ready_each (Ok (Err fault)) old mid new was_open past same stored judged = tt
+ready_each (Err e) old mid new was_open past same stored judged = tt
 
 pub fault_each : (r : Result (Result (List Constituency) OpenFault) Error) (old mid : Seen) → AddsPast old mid → IfOk r (λ ensured. IfErr ensured (IsJudgedFault former_version mid.now)) → IfOk r (λ ensured. IfErr ensured (IsFormerFault old.now))
 fault_each (Ok (Ok setup)) old mid past ensured = tt

@@ -1,6 +1,6 @@
 //! Opening a database of version 1: its tables are taken over.
 
-ghost use Rattle.std.specs.Prelude.{◌≡◌, false};
+ghost use Rattle.std.specs.Prelude.{◌≡◌, false, IsTrue};
 ghost use Rattle.sqlite.specs.Held.{state};
 ghost use Rattle.tally_schema.specs.Made.{HasFirstTables};
 ghost use Rattle.tally_schema.specs.Tables.{former_schema};
@@ -9,8 +9,9 @@ ghost use Rattle.tally_opening.specs.Calls.{Accepts, OnDisk, Rejects, Yields};
 ghost use Rattle.tally_opening.specs.Crash.{EndsWhole, LeavesTakenOver};
 ghost use Rattle.tally_opening.specs.Open.{IsOpened};
 ghost use Rattle.tally_opening.specs.internal.Ending.{IsSettled};
-ghost use Rattle.tally_opening.specs.internal.Opening.{CountsFormer, IsFormerFault, IsReady};
-ghost use Rattle.tally_opening.specs.internal.Opening.{AreTablesTakenOver, SeesFormer};
+ghost use Rattle.tally_opening.specs.internal.Opening.{AreTablesTakenOver, CountsFormer};
+ghost use Rattle.tally_opening.specs.internal.Opening.{HasFormerRowids, IsFormerFault, IsReady};
+ghost use Rattle.tally_opening.specs.internal.Opening.{SeesFormer};
 
 use crate::making::VERSION;
 use crate::opening::{judge_stored, open_fault_of};
@@ -69,6 +70,8 @@ pub(crate) fn open_former<S: Alter>(
 ) -> Result<Setup, OpenFault>
     requires autocommit { conn.old.in_transaction ≡ false }
     requires schema { (state S.Store conn.old).now.schema ≡ former_schema }
+    requires rowids { IsTrue (state S.Store conn.old).is_open →
+        HasFormerRowids (state S.Store conn.old).now }
     requires settled { IsSettled (state S.Store conn.old) }
     ensures ends { EndsWhole S.Store LeavesTakenOver conn.old conn.new result }
     ensures opened { OnDisk S.Store (Yields IsOpened) conn.old conn.new result }

@@ -4,18 +4,17 @@ ghost use Rattle.std.specs.Prelude.{◌≡◌, IfOk, IfSome, IsSome, OnSome};
 ghost use Rattle.tally_judge.specs.Numbers.{HasNumbersOfRows, numbers_of};
 ghost use Rattle.tally_judge.specs.OfficeRows.{AreLawfulRows, AreRowsOfOneState};
 ghost use Rattle.tally_statements.specs.internal.Inside.{OnlyReadsFrom};
-ghost use Rattle.tally_statements.specs.Office.{HasTables};
-ghost use Rattle.tally_opening.specs.internal.Opening.{AreReadOf, AreTablesOfNone, CountsTables};
-ghost use Rattle.tally_opening.specs.internal.Opening.{HasDistinctRows, IsJudged, IsReadOf, Sees};
-ghost use Rattle.tally_opening.specs.internal.Opening.{WhereNone, WhereSome, rows_found};
+ghost use Rattle.tally_statements.specs.Office.{HasTables, ShowsTable};
+ghost use Rattle.tally_opening.specs.internal.Opening.{AreTablesOfNone, CountsTables, IsJudged};
+ghost use Rattle.tally_opening.specs.internal.Opening.{Sees, ShowsOffice, WhereNone, WhereSome};
+ghost use Rattle.tally_opening.specs.internal.Opening.{rows_found};
 
 use sqlite::{Alter, Error, ErrorCode, Row, Transaction};
 use std::alloc::Global;
 use std::collections::BTreeMap;
 use tally_judge::{OfficeRows, accept_rows};
-use tally_schema::rowids_rise;
 use tally_setup::{Code, Setup};
-use tally_statements::{KeyedTable, all_rows, rowids};
+use tally_statements::{KeyedTable, all_rows};
 use tally_tables::{ConTables, Statuses};
 
 /// The rows of all tables but `setup`.
@@ -31,46 +30,27 @@ pub(crate) struct FoundRows {
     pub(crate) past: Vec<Row>,
 }
 
-/// Checks that no two rows of a table have the same rowid. They never do.
-fn check_rowids<S: Alter>(tx: &mut Transaction<'_, S>, table: KeyedTable) -> Result<(), Error>
-    ensures reads { OnlyReadsFrom HasTables S.Store tx.old tx.new result }
-    ensures distinct { Sees S.Store (λ s _ _. HasDistinctRows s.now table) tx.old tx.new result }
-{
-    let ids = rowids(tx, table)?;
-    if !rowids_rise(&ids) {
-        return Err(Error::SqliteFailure(ErrorCode::DatabaseCorrupt));
-    }
-    Ok(())
-}
-
-/// All rows of a table, whose rowids differ.
-fn read_table<S: Alter>(tx: &mut Transaction<'_, S>, table: KeyedTable) -> Result<Vec<Row>, Error>
-    ensures reads { OnlyReadsFrom HasTables S.Store tx.old tx.new result }
-    ensures shown { Sees S.Store (λ s _ rows. IsReadOf table s rows.items) tx.old tx.new result }
-{
-    check_rowids(tx, table)?;
-    all_rows(tx, table)
-}
-
-/// The same of two tables. It takes calls out of a function that has more than the prover follows.
+/// All rows of two tables. It takes calls out of a function that has more than the prover follows.
 fn read_two<S: Alter>(
     tx: &mut Transaction<'_, S>,
     first: KeyedTable,
     second: KeyedTable,
 ) -> Result<(Vec<Row>, Vec<Row>), Error>
     ensures reads { OnlyReadsFrom HasTables S.Store tx.old tx.new result }
-    ensures first { Sees S.Store (λ s _ rows. IsReadOf first s rows.0.items) tx.old tx.new result }
-    ensures second { Sees S.Store (λ s _ rows. IsReadOf second s rows.1.items)
+    ensures first { Sees S.Store (λ s _ rows. ShowsTable first s rows.0.items)
+        tx.old tx.new result }
+    ensures second { Sees S.Store (λ s _ rows. ShowsTable second s rows.1.items)
         tx.old tx.new result }
 {
-    let rows = read_table(tx, first)?;
-    Ok((rows, read_table(tx, second)?))
+    let rows = all_rows(tx, first)?;
+    Ok((rows, all_rows(tx, second)?))
 }
 
 /// All rows of all tables but `setup`.
 fn read_rows<S: Alter>(tx: &mut Transaction<'_, S>) -> Result<FoundRows, Error>
     ensures reads { OnlyReadsFrom HasTables S.Store tx.old tx.new result }
-    ensures shown { Sees S.Store (λ s _ rows. AreReadOf s (rows_found rows)) tx.old tx.new result }
+    ensures shown { Sees S.Store (λ s _ rows. ShowsOffice s (rows_found rows))
+        tx.old tx.new result }
 {
     let (returns, counts) = read_two(tx, KeyedTable::Returns, KeyedTable::Counts)?;
     let (cons, totals) = read_two(tx, KeyedTable::Cons, KeyedTable::Totals)?;

@@ -6,7 +6,7 @@ ghost use Rattle.tally_opening.specs.Calls.{Accepts, OnDisk, Rejects, Yields};
 ghost use Rattle.tally_opening.specs.Crash.{CountsNothing, EndsWhole, IsUnwrittenToday};
 ghost use Rattle.tally_opening.specs.Crash.{LeavesTakenOver};
 ghost use Rattle.tally_opening.specs.Open.{CountsFound, IsOpenFault, IsOpened};
-ghost use Rattle.tally_opening.specs.internal.Opening.{IsFormerSchema, IsSchemaFault};
+ghost use Rattle.tally_opening.specs.internal.Opening.{HasRowids, IsFormerSchema, IsSchemaFault};
 ghost use Rattle.tally_opening.specs.internal.Opening.{IsTodaySchema};
 
 use crate::former::open_former;
@@ -45,12 +45,13 @@ fn is_of_today(alloc: Global, schema: &Schema) -> Result<bool, OpenFault>
 
 /// The setup of an office whose tables are those of a lawful state. Tables of version 1 are taken
 /// over. The numbers of its returns are put into a tree.
-pub fn open_in<S: Alter>(
+fn open_with_rowids<S: Alter>(
     alloc: Global,
     conn: &mut Connection<S>,
     known: &mut BTreeMap<Code, Statuses>,
 ) -> Result<Setup, OpenFault>
     requires autocommit { conn.old.in_transaction ≡ false }
+    requires rowids { HasRowids (state S.Store conn.old) }
     ensures ends { EndsWhole S.Store LeavesTakenOver conn.old conn.new result }
     ensures opened { OnDisk S.Store (Yields IsOpened) conn.old conn.new result }
     ensures fault { OnDisk S.Store (Rejects IsOpenFault) conn.old conn.new result }
@@ -67,4 +68,24 @@ pub fn open_in<S: Alter>(
         Ok(false) => open_former(alloc, conn, known),
         Err(fault) => Err(fault),
     }
+}
+
+/// The same of a connection that comes as a whole: so the prover knows that the store of one that
+/// is open is not broken, and that the rowids of a table differ. It is given back.
+pub fn open_in<S: Alter>(
+    alloc: Global,
+    conn: Connection<S>,
+    known: &mut BTreeMap<Code, Statuses>,
+) -> (Connection<S>, Result<Setup, OpenFault>)
+    requires autocommit { conn.in_transaction ≡ false }
+    ensures ends { EndsWhole S.Store LeavesTakenOver conn result.0 result.1 }
+    ensures opened { OnDisk S.Store (Yields IsOpened) conn result.0 result.1 }
+    ensures fault { OnDisk S.Store (Rejects IsOpenFault) conn result.0 result.1 }
+    ensures unwritten { IsUnwrittenToday (state S.Store conn) (state S.Store result.0) }
+    ensures counts { OnOk result.1 (CountsNothing (state S.Store conn) (state S.Store result.0)) }
+    ensures numbers { OnDisk S.Store (Accepts (CountsFound known.new)) conn result.0 result.1 }
+{
+    let mut conn = conn;
+    let opened = open_with_rowids(alloc, &mut conn, known);
+    (conn, opened)
 }

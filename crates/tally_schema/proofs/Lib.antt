@@ -9,6 +9,5 @@ pub mod UpdateLemmas
 pub mod DeleteLemmas
 pub mod CreateLemmas
 pub mod ReadLemmas
-pub mod RisingRowidLemmas
 pub mod ColumnLemmas
 pub mod TextLemmas

@@ -1,14 +1,9 @@
--- Rows whose rowids differ still do after a row is put in or taken out, and in any order.
-use Rattle.std.proofs.Common.{◌≡◌, ◌≤◌, ℕ, length, arith, inl, inr, Bool, true, false, cond, ◌||◌, List, [], ◌∷◌, filter, Ordering, Less, Equal, Greater, refl, sym, ap, subst, ◌∙◌, true≢false, IsTrue}
-use Rattle.std.specs.List.{AllByRecursion}
-use Rattle.std.specs.List.Sorted.{IsPermutation}
-use Rattle.std.proofs.lemmas.Cmp.{tied_itself}
-use Rattle.std.proofs.lemmas.List.Elements.{recursion_from_All, All-from_recursion}
-use Rattle.sqlite_keyed.proofs.ListLemmas.{all_weaker, IsPermutation-filter}
+-- Rows whose rowids differ still do after a row is put in or taken out.
+use Rattle.std.proofs.Common.{◌≡◌, inl, inr, Bool, true, false, cond, List, [], ◌∷◌, filter, Ordering, Less, Equal, Greater, refl, sym, ap, subst, ◌∙◌, true≢false, IsTrue}
 use Rattle.std.specs.Ordering.{is_eq, match_ordering}
 use Rattle.std.specs.Cmp.{eq_by_cmp_equiv}
 use Rattle.std.proofs.lemmas.Bool.{or_parts, or_from}
-use Rattle.std.proofs.lemmas.List.Sorted.{list_any-IsPermutation, length_permutation, All-permutation}
+use Rattle.std.proofs.lemmas.List.Sorted.{list_any-IsPermutation}
 use Rattle.sqlite_value.specs.Order.{Row, value_cmp}
 use Rattle.sqlite_value.proofs.OrderLemmas.{value_cmp_total}
 use Rattle.sqlite_trees.specs.Tree.{rowid, put_row}
@@ -17,9 +12,6 @@ use Rattle.sqlite_rules.specs.Edit.{is_taken}
 use Rattle.sqlite_rules.specs.Lists.{Has}
 use Rattle.tally_schema.specs.Rows.{HaveDistinctRowids}
 use Rattle.tally_schema.proofs.StatementLemmas.{put_adds}
-
-abbrev pub tied : Row → Row → Bool
-tied a b = is_eq (value_cmp (rowid a) (rowid b))
 
 tied_symmetric : (a b : Row) → is_eq (value_cmp (rowid a) (rowid b)) ≡ is_eq (value_cmp (rowid b) (rowid a))
 tied_symmetric a b = (eq_by_cmp_equiv value_cmp_total).symm (rowid a) (rowid b)
@@ -70,60 +62,3 @@ pub all_int : (rows : List Row) (r : Row) → HaveDistinctRowids rows → Has ro
 all_int [] r apart h = absurd h
 all_int (x ∷ rows) r apart (inl same) = subst (λ y. IsTrue (is_int (rowid y))) (sym same) apart.0
 all_int (x ∷ rows) r apart (inr later) = all_int rows r apart.2 later
-
--- ---- rows in another order
-
--- how many rows have this rowid
-abbrev pub tied_to : List Row → Row → ℕ
-tied_to rows r = length (filter (λ x. tied x r) rows)
-
-abbrev pub AreOnce : List Row → List Row → Type 0
-AreOnce all = AllByRecursion (λ r. IsTrue (is_int (rowid r)) × (tied_to all r ≤ 1))
-
-not_again : (xs : List Row) (r : Row) → tied_to xs r ≡ 0 → is_taken xs r ≡ false
-not_again [] r none = refl
-not_again (x ∷ xs) r none = go (tied x r) none (not_again xs r)
-  where
-    go : (b : Bool) → length (cond b (x ∷ filter (λ x. tied x r) xs) (filter (λ x. tied x r) xs)) ≡ 0 → (tied_to xs r ≡ 0 → is_taken xs r ≡ false) → (b || is_taken xs r) ≡ false
-    go true some later = absurd (omega (arith, some))
-    go false is later = later is
-
-again_none : (xs : List Row) (r : Row) → is_taken xs r ≡ false → tied_to xs r ≡ 0
-again_none [] r free = refl
-again_none (x ∷ xs) r free = ap (λ b. length (cond b (x ∷ filter (λ x. tied x r) xs) (filter (λ x. tied x r) xs))) (or_parts _ _ free).0 ∙ again_none xs r (or_parts _ _ free).1
-
-self_tied : (r : Row) → tied r r ≡ true
-self_tied r = ap is_eq (tied_itself value_cmp_total (rowid r))
-
-fewer_tied : (x : Row) (xs : List Row) (r : Row) → tied_to xs r ≤ tied_to (x ∷ xs) r
-fewer_tied x xs r = elim (tied x r) as (λ b. tied_to xs r ≤ length (cond b (x ∷ filter (λ x. tied x r) xs) (filter (λ x. tied x r) xs))) [ true ↦ omega arith | false ↦ omega arith ]
-
--- each of these rows has its rowid once among all of them
-distinct_from_once : (rows : List Row) → AreOnce rows rows → HaveDistinctRowids rows
-distinct_from_once [] h = tt
-distinct_from_once (r ∷ rows) h = (
-  h.0.0,
-  not_again rows r (omega (arith, subst (λ b. length (cond b (r ∷ filter (λ x. tied x r) rows) (filter (λ x. tied x r) rows)) ≤ 1) (self_tied r) h.0.1)),
-  distinct_from_once rows (all_weaker _ (λ q. IsTrue (is_int (rowid q)) × (tied_to rows q ≤ 1)) (λ q once. (once.0, omega (arith, once.1, fewer_tied r rows q))) rows h.1),
-)
-
-once_more : (r : Row) (rows some : List Row) → is_taken some r ≡ false → AreOnce rows some → AreOnce (r ∷ rows) some
-once_more r rows [] free h = tt
-once_more r rows (x ∷ some) free h = (
-  (h.0.0, subst (λ b. length (cond b (r ∷ filter (λ y. tied y x) rows) (filter (λ y. tied y x) rows)) ≤ 1) (sym (tied_symmetric r x ∙ (or_parts _ _ free).0)) h.0.1),
-  once_more r rows some (or_parts _ _ free).1 h.1,
-)
-
-once_from_distinct : (rows : List Row) → HaveDistinctRowids rows → AreOnce rows rows
-once_from_distinct [] h = tt
-once_from_distinct (r ∷ rows) h = (
-  (h.0, subst (λ b. length (cond b (r ∷ filter (λ x. tied x r) rows) (filter (λ x. tied x r) rows)) ≤ 1) (sym (self_tied r)) (omega (arith, again_none rows r h.1))),
-  once_more r rows rows h.1 (once_from_distinct rows h.2),
-)
-
--- rows whose rowids differ do so in any order
-pub distinct_permuted : (xs ys : List Row) → IsPermutation xs ys → HaveDistinctRowids xs → HaveDistinctRowids ys
-distinct_permuted xs ys same h =
-    let P : Row → Type 0 = λ r. IsTrue (is_int (rowid r)) × (tied_to ys r ≤ 1) in
-    let once : AllByRecursion P xs = all_weaker _ P (λ r o. (o.0, omega (arith, o.1, length_permutation _ _ (IsPermutation-filter (λ x. tied x r) xs ys same)))) xs (once_from_distinct xs h) in
-    distinct_from_once ys (recursion_from_All P ys (All-permutation P xs ys same (All-from_recursion P xs once)))

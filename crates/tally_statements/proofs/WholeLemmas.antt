@@ -1,15 +1,13 @@
 -- What the SELECTs of whole tables answer.
-use Rattle.std.proofs.Common.{◌≡◌, ℕ, List, [], ◌∷◌, None, map, drop, filter, codes, true, false, Less, refl, sym, ap, ap₂, subst, ◌∙◌}
+use Rattle.std.proofs.Common.{◌≡◌, ℕ, List, [], ◌∷◌, None, map, drop, filter, true, false, Less, refl, sym, ap, ap₂, subst, ◌∙◌}
 use Rattle.std.specs.List.{AllByRecursion}
 use Rattle.std.specs.List.Sorted.{IsPermutation}
 use Rattle.std.proofs.lemmas.Bool.{and_parts}
 use Rattle.sqlite_value.specs.declared.value.Value.TheVariants.{Null}
-use Rattle.sqlite_value.specs.declared.keys.Collation.TheVariants.{Binary}
 use Rattle.sqlite_value.specs.declared.keys.Key.{Key}
-use Rattle.sqlite_value.specs.Keys.{ascending}
 use Rattle.sqlite_value.specs.Order.{Row}
 use Rattle.sqlite_trees.specs.Tree.{Trees}
-use Rattle.sqlite_sql.specs.Term.{Term, col}
+use Rattle.sqlite_sql.specs.Term.{Term}
 use Rattle.sqlite_sql.specs.Query.{IsAnswer, output_cmp}
 use Rattle.sqlite_sql.specs.Program.{overlay}
 use Rattle.sqlite_schema.specs.declared.command.Command.TheVariants.{Select}
@@ -31,8 +29,8 @@ use Rattle.tally_schema.proofs.ReadLemmas.{shown_open}
 use Rattle.tally_schema.specs.Tables.{office_schema}
 use Rattle.tally_statements.specs.declared.table.KeyedTable.{KeyedTable}
 use Rattle.tally_statements.specs.declared.table.KeyedTable.TheVariants.{Returns, Counts, Cons, Lots, Seats, Gone, Totals, Past}
-use Rattle.tally_statements.specs.Office.{table_of, tree_of, HasTables, ShowsTable, ShowsRowids}
-use Rattle.tally_statements.specs.internal.Texts.{all_rows_text, rowids_text}
+use Rattle.tally_statements.specs.Office.{table_of, tree_of, HasTables, ShowsTable}
+use Rattle.tally_statements.specs.internal.Texts.{all_rows_text}
 use Rattle.tally_statements.proofs.WriteLemmas.{Means}
 use Rattle.tally_statements.proofs.SelectLemmas.{columns_of, order_of, names_of, plain, out_of, outputs_at, compared_at, shown_whole}
 
@@ -114,28 +112,6 @@ all_unlisted Gone = refl
 all_unlisted Totals = refl
 all_unlisted Past = refl
 
-pub rowids_mean : (t : KeyedTable) → Means (rowids_text t) (Select (record { lets = []; body = from_table (tree_of t) [] (col 1 0 ∷ []) ((col 1 0, ascending Binary) ∷ []) }) (codes "rowid" ∷ []))
-unfolding understood everything
-rowids_mean Returns = record { command = refl; plain = (refl, refl) }
-rowids_mean Counts = record { command = refl; plain = (refl, refl) }
-rowids_mean Cons = record { command = refl; plain = (refl, refl) }
-rowids_mean Lots = record { command = refl; plain = (refl, refl) }
-rowids_mean Seats = record { command = refl; plain = (refl, refl) }
-rowids_mean Gone = record { command = refl; plain = (refl, refl) }
-rowids_mean Totals = record { command = refl; plain = (refl, refl) }
-rowids_mean Past = record { command = refl; plain = (refl, refl) }
-
-rowids_unlisted : (t : KeyedTable) → reads_listing office_schema (rowids_text t) ≡ false
-unfolding understood everything
-rowids_unlisted Returns = refl
-rowids_unlisted Counts = refl
-rowids_unlisted Cons = refl
-rowids_unlisted Lots = refl
-rowids_unlisted Seats = refl
-rowids_unlisted Gone = refl
-rowids_unlisted Totals = refl
-rowids_unlisted Past = refl
-
 -- ---- with no WHERE all rows are shown
 
 all_there : (rows : List Row) → filter (λ x. true) rows ≡ rows
@@ -145,11 +121,6 @@ all_there (r ∷ rows) = ap (λ l. r ∷ l) (all_there rows)
 pub all_shown : (t : ℕ) (project : List Term) (order : List (Term × Key)) (db : Trees) (rows : List Row) → IsAnswer (from_table t [] project order) (overlay db []) [] rows → overlay db [] t ≡ db t
     → IsPermutation (map (shows [] project) (db t)) rows
 all_shown t project order db rows a same = subst (λ l. IsPermutation (map (shows [] project) l) rows) (all_there (db t)) (answer_is [] [] t project order db rows a same)
-
-pub shows_rowids : (t : KeyedTable) (old new : State) (answer : List Row) → HasTables old → Shown (rowids_text t) [] old new answer → ShowsRowids t old answer
-shows_rowids t old new answer has shown =
-    let read = reads_as (rowids_text t) [] old new office_schema has.schema _ (rowids_mean t).command (rowids_mean t).plain (rowids_unlisted t) answer shown in
-    all_shown (tree_of t) (col 1 0 ∷ []) ((col 1 0, ascending Binary) ∷ []) old.now.trees answer (read.answer Null) (plain t old.now.trees)
 
 pub shows_table : (t : KeyedTable) (old new : State) (answer : List Row) → HasTables old → Shown (all_rows_text t) [] old new answer → ShowsTable t old answer
 unfolding out_of

@@ -8,7 +8,7 @@ use Rattle.std.specs.declared.cmp.Ordering.TheVariants.{Less}
 use Rattle.sqlite_value.specs.declared.value.Value.{Value}
 use Rattle.sqlite_value.specs.declared.value.Value.TheVariants.{Null, Int, Text}
 use Rattle.sqlite_value.specs.Order.{Row, column, value_cmp, row_cmp}
-use Rattle.sqlite_trees.specs.Tree.{IsAscending, rowid}
+use Rattle.sqlite_trees.specs.Tree.{IsAscending}
 use Rattle.sqlite_schema.specs.declared.schema.Table.{Table}
 use Rattle.sqlite.specs.declared.error.Error.{Error}
 use Rattle.sqlite.specs.Effect.{IsDatabase}
@@ -204,19 +204,10 @@ pub record ShowsTable (t : KeyedTable) (s : Seen) (answer : List Row) : Type 0 w
   pub in_order : (rows : List Row) → AreInOrder t rows → IsPermutation rows (rows_in t s)
       → answer ≡ rows
 
--- the answer has the rowids of a table
-abbrev pub ShowsRowids : KeyedTable → Seen → List Row → Type 0
-ShowsRowids t s answer = IsPermutation (map (λ r. rowid r ∷ []) (s.now.trees (tree_of t))) answer
-
 -- the whole table was answered, where the disk returned what was written
 abbrev pub ShowsAllRows : KeyedTable → Seen → Seen → Result (Vec Row Global) Error → Type 0
 ShowsAllRows t old new result =
     HasCleanDisk new → HasTables old → IfOk result (λ rows. ShowsTable t old rows.items)
-
--- its rowids were answered
-abbrev pub ShowsAllRowids : KeyedTable → Seen → Seen → Result (Vec Row Global) Error → Type 0
-ShowsAllRowids t old new result =
-    HasCleanDisk new → HasTables old → IfOk result (λ rows. ShowsRowids t old rows.items)
 
 -- ---- the table `setup`
 

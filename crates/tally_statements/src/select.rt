@@ -2,8 +2,8 @@
 
 ghost use Rattle.std.specs.Prelude.{◌≡◌};
 ghost use Rattle.tally_statements.specs.internal.Inside.{InDatabase, OnlyReads, OnlyReadsFrom};
-ghost use Rattle.tally_statements.specs.Office.{FindsRows, HasTables, ShowsAllRowids, ShowsAllRows};
-ghost use Rattle.tally_statements.specs.internal.Texts.{rows_of_text, all_rows_text, rowids_text};
+ghost use Rattle.tally_statements.specs.Office.{FindsRows, HasTables, ShowsAllRows};
+ghost use Rattle.tally_statements.specs.internal.Texts.{rows_of_text, all_rows_text};
 
 use crate::table::KeyedTable;
 use sqlite::{Alter, Error, Row, Transaction, params};
@@ -69,27 +69,4 @@ pub fn all_rows<S: Alter>(tx: &mut Transaction<'_, S>, table: KeyedTable) -> Res
     ensures shown { InDatabase S.Store (ShowsAllRows table) tx.old tx.new result }
 {
     tx.query_all(all_rows_text(table), &[])
-}
-
-fn rowids_text(table: KeyedTable) -> &'static str
-    ensures { result.now ≡ rowids_text table }
-{
-    match table {
-        KeyedTable::Returns => "SELECT rowid FROM returns ORDER BY rowid",
-        KeyedTable::Counts => "SELECT rowid FROM counts ORDER BY rowid",
-        KeyedTable::Cons => "SELECT rowid FROM cons ORDER BY rowid",
-        KeyedTable::Lots => "SELECT rowid FROM lots ORDER BY rowid",
-        KeyedTable::Seats => "SELECT rowid FROM seats ORDER BY rowid",
-        KeyedTable::Gone => "SELECT rowid FROM gone ORDER BY rowid",
-        KeyedTable::Totals => "SELECT rowid FROM totals ORDER BY rowid",
-        KeyedTable::Past => "SELECT rowid FROM past ORDER BY rowid",
-    }
-}
-
-/// The rowids of a table, in order.
-pub fn rowids<S: Alter>(tx: &mut Transaction<'_, S>, table: KeyedTable) -> Result<Vec<Row>, Error>
-    ensures reads { OnlyReadsFrom HasTables S.Store tx.old tx.new result }
-    ensures shown { InDatabase S.Store (ShowsAllRowids table) tx.old tx.new result }
-{
-    tx.query_all(rowids_text(table), &[])
 }

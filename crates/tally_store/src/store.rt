@@ -106,10 +106,7 @@ impl<S: Alter> Store<S> {
     /// Takes a database whose tables are those of a lawful state. Tables of version 1 are taken
     /// over, in one transaction. Where there is a table `past`, nothing is written. Otherwise the
     /// connection comes back with its tables as they were.
-    pub fn open(
-        alloc: Global,
-        mut conn: Connection<S>,
-    ) -> Result<Store<S>, (Connection<S>, OpenFault)>
+    pub fn open(alloc: Global, conn: Connection<S>) -> Result<Store<S>, (Connection<S>, OpenFault)>
         requires autocommit { conn.in_transaction ≡ false }
         ensures setup { IfOk result (λ store. HasCleanDisk (state S.Store store.conn) →
             IsSetupOf (state S.Store conn).now store.setup) }
@@ -126,7 +123,8 @@ impl<S: Alter> Store<S> {
             CountsNothing (state S.Store conn) (state S.Store store.conn)) }
     {
         let mut known = BTreeMap::new(alloc);
-        match open_in(alloc, &mut conn, &mut known) {
+        let (conn, opened) = open_in(alloc, conn, &mut known);
+        match opened {
             Ok(setup) => Ok(store_over(alloc, conn, setup, known)),
             Err(fault) => Err((conn, fault)),
         }

@@ -1,7 +1,7 @@
 -- What the steps of an opening see in a transaction. No public contract speaks of this.
 use Rattle.std.specs.Prelude.{◌≡◌, ◌≢◌, ◌⊎◌, ◌==◌, if◌then◌else◌, List, [], ◌∷◌, ℕ, Option, None}
-use Rattle.std.specs.Prelude.{Some, Result, Ok, IfOk, OnSome, codes, false, length, option_and_then}
-use Rattle.std.specs.Prelude.{option_map, slice_index_or, true}
+use Rattle.std.specs.Prelude.{Some, Result, Ok, IfOk, IsTrue, OnSome, codes, false, length}
+use Rattle.std.specs.Prelude.{option_and_then, option_map, slice_index_or, true}
 use Rattle.std.specs.BTreeMap.{BTreeMap}
 use Rattle.sqlite.specs.declared.error.Error.{Error}
 use Rattle.sqlite.specs.declared.transaction.Transaction.{Transaction}
@@ -48,12 +48,34 @@ Sees g Saw old new result =
     HasCleanDisk (state g new.conn.now) → HasTables (state g old.conn.now)
     → IfOk result (Saw (state g old.conn.now) (state g new.conn.now))
 
+-- the rows of a table have rowids that differ
+abbrev pub HasDistinctRows : Database → KeyedTable → Type 0
+HasDistinctRows db t = HaveDistinctRowids (db.trees (tree_of t))
+
+-- so do those of each table of version 1 once it is taken over
+abbrev pub HasFormerRowids : Database → Type 0
+HasFormerRowids db =
+    (text : List ℕ) (t : KeyedTable)
+    → HaveDistinctRowids (tables_taken_over text db.trees (tree_of t))
+
+-- The tables of version 1 are there in a transaction. On a connection that is open, no two rows of
+-- one of them have the same rowid.
+pub record HasFormerTables (s : Seen) : Type 0 where
+  pub first : HasFirstTables 8 s
+  pub distinct : IsTrue s.is_open → HasFormerRowids s.now
+
 -- the same of the tables of version 1
 abbrev pub SeesFormer : {S X : Type 0} (g : Ghosts S)
     → (Seen → Seen → X → Type 0) → Transaction S → Transaction S → Result X Error → Type 0
 SeesFormer g Saw old new result =
-    HasCleanDisk (state g new.conn.now) → HasFirstTables 8 (state g old.conn.now)
+    HasCleanDisk (state g new.conn.now) → HasFormerTables (state g old.conn.now)
     → IfOk result (Saw (state g old.conn.now) (state g new.conn.now))
+
+-- On a connection that is open, the rowids of tables of today's form, or of version 1, differ.
+pub record HasRowids (s : Seen) : Type 0 where
+  pub today : IsTrue s.is_open → s.now.schema ≡ office_schema
+      → (t : KeyedTable) → HasDistinctRows s.now t
+  pub former : IsTrue s.is_open → s.now.schema ≡ former_schema → HasFormerRowids s.now
 
 -- what is so where something is found, or nothing, by what was there
 abbrev pub WhereSome : {X : Type 0} → (Database → Type 0) → Seen → Seen → Option X → Type 0
@@ -83,20 +105,6 @@ pub record AreOfOne (setup : List Constituency) (text : List ℕ) (db : Trees) :
   pub alone : (other : State) → IsLawfulState setup other
       → AreTables setup text other db → other ≡ state
 
--- the rows of a table have rowids that differ
-abbrev pub HasDistinctRows : Database → KeyedTable → Type 0
-HasDistinctRows db t = HaveDistinctRowids (db.trees (tree_of t))
-
--- these are the rows of a table, and their rowids differ
-pub record IsReadOf (t : KeyedTable) (seen : Seen) (rows : List Row) : Type 0 where
-  pub shown : ShowsTable t seen rows
-  pub distinct : HasDistinctRows seen.now t
-
--- the same of all tables
-pub record AreReadOf (seen : Seen) (rows : RowsInOrder) : Type 0 where
-  pub shown : ShowsOffice seen rows
-  pub distinct : (t : KeyedTable) → HasDistinctRows seen.now t
-
 -- the rows that were read of all tables
 abbrev pub rows_found : FoundRows → RowsInOrder
 rows_found rows = record {
@@ -116,11 +124,9 @@ rows_found rows = record {
 abbrev pub trees_with : List ℕ → Trees → Trees
 trees_with text db tree = if tree == setup_tree then setup_row version text ∷ [] else db tree
 
--- No two rows of a table have the same rowid, and the tables are, with whatever text, those of one
--- lawful state.
-pub record IsJudged (setup : List Constituency) (db : Database) : Type 0 where
-  pub distinct : (t : KeyedTable) → HasDistinctRows db t
-  pub one : (text : List ℕ) → AreOfOne setup text (trees_with text db.trees)
+-- the tables are, with whatever text, those of one lawful state
+abbrev pub IsJudged : List Constituency → Database → Type 0
+IsJudged setup db = (text : List ℕ) → AreOfOne setup text (trees_with text db.trees)
 
 -- the tables are those of no lawful state over this setup, with whatever text
 abbrev pub AreTablesOfNone : List Constituency → Database → Type 0
@@ -244,8 +250,10 @@ pub record AddsPast (old new : Seen) : Type 0 where
   pub each : (text : List ℕ) (t : KeyedTable)
       → new.now.trees (tree_of t) ≡ tables_taken_over text old.now.trees (tree_of t)
 
--- The tables of version 1 are those of one lawful state, and `past` is there.
+-- The tables of version 1 are those of one lawful state, and `past` is there. The connection was
+-- open.
 pub record IsReady (setup : List Constituency) (old new : Seen) : Type 0 where
+  pub was_open : IsTrue old.is_open
   pub stored : HasSetupRow former_version setup old.now
   pub judged : IsJudged setup new.now
   pub past : AddsPast old new

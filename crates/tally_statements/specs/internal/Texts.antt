@@ -117,18 +117,6 @@ all_rows_text Gone = codes "SELECT con, list, place, note FROM gone ORDER BY con
 all_rows_text Totals = codes "SELECT con, item, n FROM totals ORDER BY con, item"
 all_rows_text Past = codes "SELECT con, edition, list, n FROM past ORDER BY con, edition, list"
 
--- ---- SELECT of all rowids
-
-abbrev pub rowids_text : KeyedTable → List ℕ
-rowids_text Returns = codes "SELECT rowid FROM returns ORDER BY rowid"
-rowids_text Counts = codes "SELECT rowid FROM counts ORDER BY rowid"
-rowids_text Cons = codes "SELECT rowid FROM cons ORDER BY rowid"
-rowids_text Lots = codes "SELECT rowid FROM lots ORDER BY rowid"
-rowids_text Seats = codes "SELECT rowid FROM seats ORDER BY rowid"
-rowids_text Gone = codes "SELECT rowid FROM gone ORDER BY rowid"
-rowids_text Totals = codes "SELECT rowid FROM totals ORDER BY rowid"
-rowids_text Past = codes "SELECT rowid FROM past ORDER BY rowid"
-
 -- ---- SELECT of the rows of `setup`
 
 abbrev pub all_setup_text : List ℕ

@@ -13,7 +13,7 @@ returns-clause-taken g c clean first =
     let new = state g.S.Store c.update_version.new.tx.conn.now in
     let early : HasCleanDisk mid = omega (arith, c.update_version.ensures.stays.survives.clean) in
     let h : IsReady c.in-Ok.setup old mid = rw c.in-Ok.is at (c.in_ok-setup.ensures.ready early first) in
-    let set = c.in_ok-update_version.ensures.updated clean (ready_inside c.in-Ok.setup old mid h) former_version h.stored.text (ready_row c.in-Ok.setup old mid h) in
+    let set = c.in_ok-update_version.ensures.updated clean (ready_inside c.in-Ok.setup old mid first h) former_version h.stored.text (ready_row c.in-Ok.setup old mid h) in
     taken c.in-Ok.setup old mid new h set
 
 pub returns-clause-numbers : goal.returns-clause-numbers

@@ -3,7 +3,7 @@ use Rattle.sqlite.specs.State.{HasCleanDisk, IsUnchanged}
 use Rattle.sqlite.specs.Held.{state}
 use Rattle.tally_statements.specs.Office.{HasTables}
 use Rattle.tally_statements.specs.declared.table.KeyedTable.TheVariants.{Cons, Lots, Seats, Gone, Totals, Past}
-use Rattle.tally_opening.proofs.JudgingLemmas.{all_read, look_as, look_then, read_before, tables_still}
+use Rattle.tally_opening.proofs.JudgingLemmas.{look_as, look_then, shows_before, tables_still}
 use Rattle.tally_opening.proofs.judging.read_rows.Goals as goal
 
 pub returns-in_err-gone-clause-reads : goal.returns-in_err-gone-clause-reads
@@ -36,8 +36,13 @@ returns-clause-shown g c clean has =
     let has_first : HasTables first = tables_still old first has same_first in
     let has_second : HasTables second = tables_still old second has same_second in
     let has_third : HasTables third = tables_still old third has same_third in
-    all_read old _ _ _ _ _ _ _ _
-    (c.in_ok-returns.ensures.first clean_first has) (c.in_ok-returns.ensures.second clean_first has)
-    (read_before Cons old first _ same_first (c.in_ok-cons.ensures.first clean_second has_first)) (read_before Totals old first _ same_first (c.in_ok-cons.ensures.second clean_second has_first))
-    (read_before Lots old second _ same_second (c.in_ok-lots.ensures.first clean_third has_second)) (read_before Seats old second _ same_second (c.in_ok-lots.ensures.second clean_third has_second))
-    (read_before Gone old third _ same_third (c.in_ok-gone.ensures.first clean has_third)) (read_before Past old third _ same_third (c.in_ok-gone.ensures.second clean has_third))
+    record {
+      returns = c.in_ok-returns.ensures.first clean_first has;
+      counts = c.in_ok-returns.ensures.second clean_first has;
+      cons = shows_before Cons old first _ same_first (c.in_ok-cons.ensures.first clean_second has_first);
+      totals = shows_before Totals old first _ same_first (c.in_ok-cons.ensures.second clean_second has_first);
+      lots = shows_before Lots old second _ same_second (c.in_ok-lots.ensures.first clean_third has_second);
+      seats = shows_before Seats old second _ same_second (c.in_ok-lots.ensures.second clean_third has_second);
+      gone = shows_before Gone old third _ same_third (c.in_ok-gone.ensures.first clean has_third);
+      past = shows_before Past old third _ same_third (c.in_ok-gone.ensures.second clean has_third);
+    }

@@ -1,73 +1,28 @@
-use Rattle.std.proofs.Common.{◌≡◌, ◌∙◌, sym, ap, true, true≢false}
-use Rattle.std.specs.Prelude.{codes}
-use Rattle.std.proofs.lemmas.Result.{IfErr-weaker, IfOk-weaker}
-use Rattle.sqlite.specs.Held.{state}
-use Rattle.tally_schema.specs.Made.{has_former_tables, has_table}
-use Rattle.tally_schema.specs.Tables.{former_schema, office_schema}
-use Rattle.tally_opening.proofs.OpenedLemmas.{fault_today, numbers_former, numbers_today, today_each}
-use Rattle.tally_opening.specs.Crash.{LeavesTakenOver}
-use Rattle.tally_opening.proofs.JudgingLemmas.{so_answered}
-use Rattle.tally_opening.proofs.UnwrittenLemmas.{counts_nothing, ends_whole, untouched, unwritten_by}
+use Rattle.std.proofs.Common.{◌≡◌, ◌∙◌, IsTrue, ap, subst, sym}
+use Rattle.sqlite.specs.Effect.{Database}
+use Rattle.sqlite.specs.Held.{Serves, state}
+use Rattle.sqlite_schema.specs.declared.schema.Schema.{Schema}
+use Rattle.tally_opening.specs.internal.Opening.{HasDistinctRows, HasFormerRowids}
+use Rattle.tally_statements.specs.declared.table.KeyedTable.{KeyedTable}
+use Rattle.tally_opening.proofs.LawLemmas.{former_by_law, today_by_law}
 use Rattle.tally_opening.proofs.open.open_in.Goals as goal
 
-pub returns-in-Ok-true-clause-ends : goal.returns-in-Ok-true-clause-ends
-returns-in-Ok-true-clause-ends g c =
-    let old = state g.S.Store c.args.conn.now in
-    ends_whole (LeavesTakenOver old.now) c.open_today.result old (state g.S.Store c.open_today.new.conn) c.open_today.ensures.ends
-
-pub returns-in-Ok-true-clause-opened : goal.returns-in-Ok-true-clause-opened
-returns-in-Ok-true-clause-opened g c clean =
-    let old = state g.S.Store c.args.conn.now in
-    let new = state g.S.Store c.open_today.new.conn in
-    let today = c.in-Ok-true.ensures.today c.in-Ok-true.field-0-test in
-    let schema : old.now.schema ≡ office_schema = sym c.schema.ensures.value ∙ today.0 in
-    let ensured = c.open_today.ensures in
-    today_each c.open_today.result old new schema (λ now. (c.schema.ensures.live now).0) (λ now. c.is_autocommit.ensures.settled c.if-not-is_autocommit.false now) (ensured.ends.was_open clean) (ensured.ends.same clean) (ensured.stored clean) (ensured.judged clean)
-
-pub returns-in-Ok-true-clause-fault : goal.returns-in-Ok-true-clause-fault
-returns-in-Ok-true-clause-fault g c clean =
-    let old = state g.S.Store c.args.conn.now in
-    let today = c.in-Ok-true.ensures.today c.in-Ok-true.field-0-test in
-    let value = sym c.schema.ensures.value in
-    let schema : old.now.schema ≡ office_schema = value ∙ today.0 in
-    let names : has_former_tables old.now.schema ≡ true = ap has_former_tables value ∙ today.1 in
-    let past : has_table old.now.schema (codes "past") ≡ true = ap (λ s. has_table s (codes "past")) value ∙ today.2 in
-    IfErr-weaker c.open_today.result _ _ (λ fault ensured. fault_today old fault schema names past ensured) (c.open_today.ensures.fault clean)
-
-pub returns-in-Ok-true-clause-unwritten : goal.returns-in-Ok-true-clause-unwritten
-returns-in-Ok-true-clause-unwritten g c past =
-    let ensured = c.open_today.ensures in
-    unwritten_by (state g.S.Store c.args.conn.now) (state g.S.Store c.open_today.new.conn) (λ db now may. g.met.S.Store.settled c.args.conn.now.store db now may)
-    (λ now. c.is_autocommit.ensures.settled c.if-not-is_autocommit.false now) ensured.ends.survives ensured.ends.same
-
-pub returns-in-Ok-false-clause-unwritten : goal.returns-in-Ok-false-clause-unwritten
-returns-in-Ok-false-clause-unwritten g c past =
-    let former = c.in-Ok-false.ensures.former c.in-Ok-false.field-0-test in
-    absurd (true≢false (sym past ∙ ap (λ s. has_table s (codes "past")) (sym c.schema.ensures.value) ∙ former.2))
-
-pub returns-in-Ok-true-clause-counts : goal.returns-in-Ok-true-clause-counts
-returns-in-Ok-true-clause-counts g c =
-    counts_nothing c.open_today.result (state g.S.Store c.args.conn.now) (state g.S.Store c.open_today.new.conn) c.open_today.ensures.counts
-
-pub returns-in-Ok-false-clause-counts : goal.returns-in-Ok-false-clause-counts
-returns-in-Ok-false-clause-counts g c =
-    let former = c.in-Ok-false.ensures.former c.in-Ok-false.field-0-test in
-    so_answered c.open_former.result (λ past clean. absurd (true≢false (sym past ∙ ap (λ s. has_table s (codes "past")) (sym c.schema.ensures.value) ∙ former.2)))
-
-pub returns-in-Err-clause-unwritten : goal.returns-in-Err-clause-unwritten
-returns-in-Err-clause-unwritten g c past =
-    untouched (state g.S.Store c.args.conn.now) (λ db now may. g.met.S.Store.settled c.args.conn.now.store db now may) (λ now. c.is_autocommit.ensures.settled c.if-not-is_autocommit.false now)
-
-pub returns-in-Ok-true-clause-numbers : goal.returns-in-Ok-true-clause-numbers
-returns-in-Ok-true-clause-numbers g c clean =
-    let old = state g.S.Store c.args.conn.now in
-    let today = c.in-Ok-true.ensures.today c.in-Ok-true.field-0-test in
-    let schema : old.now.schema ≡ office_schema = sym c.schema.ensures.value ∙ today.0 in
-    IfOk-weaker c.open_today.result _ _ (λ setup ensured. numbers_today setup old c.open_today.new.known schema ensured) (c.open_today.ensures.numbers clean)
-
-pub returns-in-Ok-false-clause-numbers : goal.returns-in-Ok-false-clause-numbers
-returns-in-Ok-false-clause-numbers g c clean =
-    let old = state g.S.Store c.args.conn.now in
-    let former = c.in-Ok-false.ensures.former c.in-Ok-false.field-0-test in
-    let schema : old.now.schema ≡ former_schema = sym c.schema.ensures.value ∙ former.0 in
-    IfOk-weaker c.open_former.result _ _ (λ setup ensured. numbers_former setup old c.open_former.new.known schema ensured) (c.open_former.ensures.numbers clean)
+pub open_with_rowids-opened-requires-clause-rowids : goal.open_with_rowids-opened-requires-clause-rowids
+open_with_rowids-opened-requires-clause-rowids g c =
+    let conn = c.args.conn in
+    let inside = c.well_formed.1.0.1.0 in
+    let store : inside.0.store ≡ conn.store = ap (λ x. x.store) inside.1.0 in
+    let schema : inside.0.schema ≡ conn.schema = ap (λ x. x.schema) inside.1.0 in
+    let serves = λ (now : IsTrue (state g.S.Store conn).is_open). inside.1.1.0.serves (subst (λ s. IsTrue (g.S.Store.view s).is_open) (sym store) now) in
+    record {
+      today = λ now is t.
+          let it = inside.0.store in
+          let whole = serves now in
+          subst (λ s. HasDistinctRows (record { schema = conn.schema; trees = (g.S.Store.view s).trees }) t) store
+          (today_by_law (g.S.Store.view it) inside.0.schema whole.sound (g.met.S.Alter.listed it whole.unbroken) (g.met.S.Store.ordered it whole.unbroken) (schema ∙ is) t);
+      former = λ now is.
+          let it = inside.0.store in
+          let whole = serves now in
+          subst (λ s. HasFormerRowids (record { schema = conn.schema; trees = (g.S.Store.view s).trees })) store
+          (former_by_law (g.S.Store.view it) inside.0.schema whole.sound (g.met.S.Alter.listed it whole.unbroken) (g.met.S.Store.ordered it whole.unbroken) (schema ∙ is));
+    }
