@@ -244,6 +244,43 @@ def test_twenty_thousand_rows_and_one_more():
     refused(most + "x\n", "bad_header", "--semicolon")
 
 
+def test_twenty_thousand_rows_that_are_named():
+    """The longest lines: of codes of sixteen characters, of a return that is refused, of one that differs, and of a number of the last list."""
+    header = "station,slip,blank,spoiled,ABCDEFGHIJKLMNOP,QRSTUVWXYZ-_0123\n"
+    for row, numbers, cause in (
+        ("S{:015},p,0,0,1000000,1", "0, 0, 0, 20000, 0, 1 6", "6 too_many_votes S{:015}"),
+        ("S{:015},p,0,0,1,x", "0, 0, 0, 0, 20000, 1 0", "0 bad_number QRSTUVWXYZ-_0123"),
+    ):
+        text = header + "".join(row.format(n) + "\n" for n in range(20000))
+        counted(text, numbers + ", 0, 0, 0, 0", lists=("ABCDEFGHIJKLMNOP", "QRSTUVWXYZ-_0123"))
+        named(text, "".join(f"row {n + 1} {cause.format(n)}\n" for n in range(20000)))
+    text = HEADER + "ABCDEFGHIJKLMNOP,p,0,0,1,2\n" + "ABCDEFGHIJKLMNOP,q,0,0,1,2\n" * 19999
+    counted(text, "1, 0, 19999, 0, 0, 2 7, 0, 0, 1, 2")
+    named(text, "".join(f"row {n} 7 differs ABCDEFGHIJKLMNOP\n" for n in range(2, 20001)))
+
+
+def test_as_many_votes_as_a_text_may_have():
+    """Sixteen mebibytes with 20,000 returns for sixty lists, each of a million votes: blank ones, spoiled ones, or for a list."""
+    codes = [f"L{n:015}" for n in range(60)]
+    header = ",".join(["station", "slip", "blank", "spoiled", *codes]) + "\n"
+    for place in (0, 1, 2, 61):
+        numbers, sums = [0] * 62, [0] * 62
+        numbers[place], sums[place] = 1000000, 20000000000
+        votes = ",".join(f"{n:09}" for n in numbers)
+        text = header + "".join(f"S{n:015},P{n:015},{votes}\n" for n in range(20000))
+        assert 13000000 < len(text) <= 16777216, len(text)
+        counted(text.ljust(16777216, "\n"), ", ".join(["20000, 0, 0, 0, 0, -", *map(str, sums)]), lists=codes)
+
+
+def test_the_longest_record():
+    """One row that fills sixteen mebibytes: of letters, of separators, of line ends and of quotes within quotes. So may the header."""
+    most = 16777216 - len(HEADER)
+    for record, fields in (("x" * most, 1), ("," * most, most + 1), ('"' + "\n" * (most - 2) + '"', 1), ('"' * (most // 2 * 2), 1)):
+        named(HEADER + record, f"row 1 0 fields {fields}\n")
+    for header in ("x" * 16777216, "," * 16777216, HEADER.rstrip() + "," * (16777217 - len(HEADER))):
+        refused(header, "bad_header")
+
+
 def test_sixteen_mebibytes_and_one_more():
     counted(EXAMPLE.ljust(16777216, "\n"), EXAMPLE_COUNTS)
     refused(EXAMPLE.ljust(16777217, "\n"), "too_long")

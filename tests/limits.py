@@ -9,8 +9,12 @@ each code has 16 characters, each name 80 bytes. Words, program and last line ar
 SMALLER=N it has one of N stations, and fewer constituencies and candidates: for a program that was built unproved, which is slow.
 """
 
+import contextlib
+import itertools
+import json
 import os
 import random
+import string
 import sys
 import time
 import tomllib
@@ -19,7 +23,7 @@ from pathlib import Path
 
 import model
 import program
-from office import PROFILE, constituency, party_list, station
+from office import DOUBLE, LISTS, PROFILE, constituency, party_list, profile, station
 from program import (
     CON_REPORTS, LOOKS_AT_ALL, OFFICE_REPORTS, Ran, answered_as, before_the_library, counted_and_certified, database, get, imports, office, post, returns_of_sixty_lists,
     same, serving, shown_as, write,
@@ -147,7 +151,7 @@ def reports_of(con):
 
 
 # What a command is sent to: with `anew`, a server is begun for each.
-COMMANDS = ("/lodge", "/query", "/correct", "/close", "/draw", "/certify", "/reopen", "/vacate")
+COMMANDS = ("/lodge", "/query", "/correct", "/close", "/confirm", "/draw", "/certify", "/reopen", "/vacate")
 
 NOTE = name("a note ") + name("of two hundred bytes ") + "é" * 20
 
@@ -230,23 +234,37 @@ def requests_of_the_country(con, station):
     yield edited("reopen", note=NOTE)
     yield from [*looks, get(f"/con/{con.code}/past")]
     yield moved("query", note=NOTE)
-    yield moved("correct", slip="s", votes=[0] * 59 + [1000000], blank=0, spoiled=0)
-    yield moved("close")
+    counts = {"slip": "s", "votes": [0] * 59 + [1000000], "blank": 0, "spoiled": 0}
+    yield moved("correct", **counts)
+    yield moved("confirm", **{**counts, "slip": "t"})
+    yield moved("confirm", **counts)
     yield edited("certify")
     yield edited("draw", order=[con.lists[n] for n in con.poll().group()[0]])
     yield edited("certify")
     yield from looks + reports_of(con)
 
 
+def as_long_as_may_be(text):
+    """A file of returns as a spreadsheet saves it, with 20,000 rows and 16,777,216 bytes: each row four times, and then bad ones."""
+    header, *rows = ("".join(f'"{field}",' for field in line.split(","))[:-1] + "\r\n" for line in text.splitlines())
+    rows = rows * 4
+    text = "\ufeff" + header + "".join(rows) + "x\r\n" * (20000 - len(rows))
+    return text + "\r\n" * ((16777216 - len(text.encode())) // 2)
+
+
 def test_five_thousand_stations_and_sixty_lists():
-    """Returns are imported from a file, and one is lodged; each command is asked once, with the longest note where it has one, of a server
-    that was just begun. The lot is one of half a hundred lists that alternate, for an even seat."""
+    """Returns are imported from a file that is as long as it may be, and one is lodged; each command is asked once, with the longest note
+    where it has one, of a server that was just begun. The lot is one of half a hundred lists that alternate, for an even seat."""
     plain = begun()
     con = con_of(plain, COUNTRY)
     same((con.profile["method"], con.profile["lot"], tied(con, VOTES)), ("modified-sainte-lague", "alternating", (55, 23, 6)))
     *most, last = con.electors
     returns = {station: (f"slip-{number:011}", VOTES, 9999, 1) for number, station in enumerate(most)}
-    imports({"lodged": len(returns)}, csv(con, returns), con.code)
+    text, rows = as_long_as_may_be(csv(con, returns)), 4 * len(returns)
+    assert len(text.encode()) >= 16777215
+    bad = {"bad": 20000 - rows, "first": f"{rows + 1} 0"}
+    imports({"lodged": len(returns), "same": 3 * len(returns), **bad}, text, con.code)
+    program.only("office.db")
     lodged(con, returns)
     shown_as(plain, "office.db", [con.code], ("progress", "tally"))
     imports({"same": len(returns)}, csv(con, returns, ";"), con.code, flags=("--semicolon",))
@@ -272,25 +290,53 @@ def without_a_disk(run, *words):
         del os.environ["LD_PRELOAD"]
 
 
+# The numbers of the constituencies of 500 seats. The others have one seat each.
+LARGE = (0, ALL // 2, ALL - 1)
+
+
 def of_its_own_lists(n):
     """A constituency of sixty lists, of which one is in each constituency."""
     lists = [("all", "All")] + [(f"L{n}-{l}", f"List {l} of {n}") for l in range(59)]
-    return constituency(f"c{n}", f"Town {n}", 500, "d0") + "".join(party_list(*it, "Ana") for it in lists) + station(f"s{n}", 1000000)
+    seats = 500 if n in LARGE else 1
+    return constituency(f"c{n}", f"Town {n}", seats, "d0") + "".join(party_list(*it, "Ana") for it in lists) + station(f"s{n}", 1000000)
+
+
+def certified_by_hand(plain):
+    """All others are certified, in the database and in plain Python: the sixty lists of each have the same votes, and a lot says which has
+    the seat."""
+    with database() as it:
+        for n in {*range(ALL)} - {*LARGE}:
+            con = plain.cons[f"c{n}"]
+            order = [(n + place) % 60 for place in range(60)]
+            seats = [int(place == order[0]) for place in range(60)]
+            items = {0: n, 61: 0} | {place: 16000 for place in range(1, 61)}
+            it.execute("INSERT INTO returns VALUES (?, ?, 2, 'p1', 4, '')", (f"s{n}", con.code))
+            it.executemany("INSERT INTO counts VALUES (?, ?, ?)", [(f"s{n}", item, votes) for item, votes in items.items()])
+            it.executemany("UPDATE totals SET n = ? WHERE con = ? AND item = ?", [(votes, con.code, item) for item, votes in items.items()])
+            it.executemany("INSERT INTO lots VALUES (?, ?, ?)", [(con.code, place, of + 1) for place, of in enumerate(order, 1)])
+            it.executemany("INSERT INTO seats VALUES (?, ?, ?)", [(con.code, place, of) for place, of in enumerate(seats, 1)])
+            it.execute("UPDATE cons SET edition = 3, certified = 1 WHERE con = ?", (con.code,))
+            con.returns[f"s{n}"] = {"slip": "p1", "votes": [16000] * 60, "blank": n, "spoiled": 0, "rev": 2, "status": "closed", "note": ""}
+            con.edition, con.lot, con.certified = 3, order, seats
 
 
 def test_a_country_of_twelve_thousand_lists():
-    """The table of the country has a line for each code, however many there are."""
+    """The table of the country has a line for each code, however many there are. At last all constituencies are certified, most of them
+    with a lot of sixty lists: the office opens, and shows it."""
     setup = PROFILE + "".join(map(of_its_own_lists, range(ALL)))
     plain = model.Office(tomllib.loads(setup))
     program.new(setup, constituencies=ALL)
     requests = [get("/country")]
-    for n in (0, ALL // 2, ALL - 1):
+    for n in LARGE:
         requests.append(post(f"/station/s{n}/lodge", slip="p1", votes=[16000 - 100 * l - n for l in range(60)], blank=n, spoiled=1))
         requests.append(post(f"/station/s{n}/close", rev=1))
         requests += [post(f"/con/c{n}/certify", edition=1)] * (n > 0) + [get("/country")]
     answers = answered_as(plain, "office.db", requests)
     same(({status for _, status, _ in answers}, len(answers[-1][2].splitlines())), ({200}, 3 + 59 * ALL + 1 + 2))
     shown_as(plain, "office.db", ["c0"], ("country",))
+    certified_by_hand(plain)
+    answered_as(plain, "office.db", [post("/con/c0/certify", edition=1), *LOOKS_AT_ALL, get("/con/c1"), get("/con/c1/seats")])
+    shown_as(plain, "office.db", ["c1"], ("country",))
 
 
 def everybody_goes(con):
@@ -317,6 +363,28 @@ def test_a_list_of_which_everybody_goes():
     same(sum(status == 200 for path, status, _ in answers if path.endswith("/vacate")), 1000)
     answered_as(plain, "office.db", [get("/con/c1"), get("/con/c1/holders")])
     shown_as(plain, "office.db", ["c1"], ("holders",))
+
+
+def test_sixty_thousand_who_are_gone():
+    """As many as sixty lists may have candidates, each with a long note, as recounts may leave it. The last one goes, and nobody holds a
+    seat; all is shown, and the office opens."""
+    names = [f"C{n}" for n in range(1000)]
+    lists = "".join(party_list(f"L{n}", f"List {n}", *names) for n in range(60))
+    setup = PROFILE + constituency("c1", "Twin Town", 500, "d0") + lists + station("s1", 1000000)
+    plain = model.Office(tomllib.loads(setup))
+    program.new(setup)
+    con = plain.cons["c1"]
+    note = ('"\\é😀' * 25)
+    same(len(note.encode()), 200)
+    con.gone = {(n, place): note for n in range(60) for place in range(1, 1001) if (n, place) != (0, 1000)}
+    with database() as it:
+        it.executemany("INSERT INTO gone VALUES ('c1', ?, ?, ?)", [(n + 1, place, text) for (n, place), text in con.gone.items()])
+    counts = {"votes": [300] + [0] * 59, "blank": 0, "spoiled": 0}
+    requests = [post("/station/s1/lodge", slip="p1", **counts), post("/station/s1/close", rev=1), post("/con/c1/certify", edition=1),
+                *(post("/con/c1/vacate", list="L0", place=place, note=note) for place in (999, 1000)), get("/con/c1"), get("/con/c1/holders")]
+    answers = answered_as(plain, "office.db", requests)
+    same(([status for path, status, _ in answers if path.endswith("/vacate")], len(con.gone)), ([409, 200], 60000))
+    answered_as(plain, "office.db", [post("/con/c1/reopen", edition=2, note=note), get("/con/c1/past")])
 
 
 def equal_votes(con, lists, spare):
@@ -414,6 +482,54 @@ def test_the_last_revision_and_the_last_edition():
     looks_at_no_certificate("office.db", con, edited)
 
 
+def requests_at_the_end(cons):
+    """Each command at the last revision or edition at which it is taken, and at the next one."""
+    counts = {"votes": [100, 100], "blank": 0, "spoiled": 0}
+    for con in cons:
+        first, second = con.electors
+        yield post(f"/station/{first}/query", rev=model.LAST - 3, note=NOTE)
+        yield post(f"/station/{first}/correct", rev=model.LAST - 2, slip="p1", **counts)
+        for verb in ("close", "confirm"):
+            more = {"slip": "p1", **counts} if verb == "confirm" else {}
+            for station in (first, second):
+                yield post(f"/station/{station}/{verb}", rev=model.LAST - 1, **more)
+        for verb, more in (("query", {"note": NOTE}), ("correct", {"slip": "p", **counts}), ("close", {}), ("confirm", {"slip": "p1", **counts})):
+            yield post(f"/station/{first}/{verb}", rev=model.LAST, **more)
+        for slip in ("p1", "p2"):
+            yield post(f"/station/{first}/lodge", slip=slip, **counts)
+        order = list(reversed(con.lists))
+        yield post(f"/con/{con.code}/draw", edition=model.LAST - 3, order=order)
+        yield post(f"/con/{con.code}/certify", edition=model.LAST - 2)
+        yield post(f"/con/{con.code}/vacate", list="A", place=1, note=NOTE)
+        yield post(f"/con/{con.code}/reopen", edition=model.LAST - 1, note=NOTE)
+        for verb, more in (("draw", {"order": order}), ("certify", {}), ("reopen", {"note": NOTE})):
+            yield post(f"/con/{con.code}/{verb}", edition=model.LAST, **more)
+        yield from [*(get(f"/station/{station}") for station in con.electors), get(f"/con/{con.code}"), get(f"/con/{con.code}/past"), get("/progress")]
+
+
+def test_each_command_at_the_last_revision_and_edition():
+    """Of a constituency whose returns are entered once and of one where they are entered twice."""
+    setup = PROFILE + "".join(
+        constituency(code, "Town", 3, "d0") + entry + LISTS + station(f"{code}-1") + station(f"{code}-2") for code, entry in (("c1", ""), ("c2", DOUBLE)))
+    plain = model.Office(tomllib.loads(setup))
+    program.new(setup, constituencies=2)
+    lodges = [post(f"/station/{code}-{n}/lodge", slip="p1", votes=[100, 100], blank=0, spoiled=0) for code in plain.cons for n in (1, 2)]
+    answered_as(plain, "office.db", lodges)
+    with database() as it:
+        it.execute("UPDATE cons SET edition = ?", (model.LAST - 3,))
+        for con in plain.cons.values():
+            con.edition = model.LAST - 3
+            for of, rev in zip(con.electors, (model.LAST - 3, model.LAST - 1)):
+                it.execute("UPDATE returns SET rev = ? WHERE station = ?", (rev, of))
+                con.returns[of]["rev"] = rev
+    answers = answered_as(plain, "office.db", requests_at_the_end(plain.cons.values()))
+    for con in plain.cons:
+        same([status for path, status, _ in answers if path.startswith(f"/con/{con}/") and path.split("/")[3] in ("draw", "certify", "vacate", "reopen")],
+             [200, 200, 200, 200, 409, 409, 409])
+    same({json.loads(text)["word"] for path, status, text in answers if status == 409}, {"exhausted", "stale", "not_confirmed", "differs", "not_certified"})
+    shown_as(plain, "office.db", plain.cons, ("progress", "tally", "past", "stations"))
+
+
 TIMES = 5
 
 
@@ -447,8 +563,25 @@ def lodged_again(con):
 # What is asked of a constituency that is not closed, or of a station of it, and its status.
 ASKED = {
     "the view": (lambda con: get(f"/con/{con.code}"), 200), "the tally": (lambda con: get(f"/con/{con.code}/tally"), 200),
-    "Certify": (lambda con: post(f"/con/{con.code}/certify", edition=con.edition), 409), "Close": (closed_too_late, 409), "Lodge": (lodged_again, 200),
+    "the past": (lambda con: get(f"/con/{con.code}/past"), 200),
+    "Certify": (lambda con: post(f"/con/{con.code}/certify", edition=con.edition), 409),
+    "Draw": (lambda con: post(f"/con/{con.code}/draw", edition=con.edition, order=con.lists), 409),
+    "Reopen": (lambda con: post(f"/con/{con.code}/reopen", edition=con.edition, note=NOTE), 409),
+    "Vacate": (lambda con: post(f"/con/{con.code}/vacate", list=con.lists[0], place=1, note=NOTE), 409),
+    # These need no numbers of returns, and find none again.
+    "a return": (lambda con: get(f"/station/{min(con.electors)}"), 200), "Close": (closed_too_late, 409), "Lodge": (lodged_again, 200),
 }
+
+
+def moved_around(desk, con):
+    """What a Query, a Correct and a Confirm of a return each take, one after the other, several times."""
+    station, took = min(con.electors), {}
+    entry = {key: con.returns[station][key] for key in ("slip", "votes", "blank", "spoiled")}
+    for turn in range(TIMES):
+        for more, (verb, body) in enumerate((("query", {"note": NOTE}), ("correct", entry), ("confirm", entry))):
+            request = post(f"/station/{station}/{verb}", rev=con.returns[station]["rev"] + 3 * turn + more, **body)
+            took.setdefault(verb, []).append(spent(desk, *request, times=1))
+    return {verb: min(all_of_them) for verb, all_of_them in took.items()}
 
 
 def forgotten(desk, con):
@@ -461,7 +594,7 @@ def looks_at_no_station(db, plain):
     constituency are counted as the office opens, and once more after an import with a fault. Each of 5,000 would be some microseconds.
     The progress of all takes no more than a view of each."""
     large, *small = (con_of(plain, n) for n in (COUNTRY, SIXTY, SIXTY + 1, SIXTY + 2))
-    with serving(db, len(ASKED) * (4 * TIMES + 4) + 2 * TIMES + 2) as desk:
+    with serving(db, len(ASKED) * (4 * TIMES + 4) + 8 * TIMES + 2) as desk:
         progress = spent(desk, *get("/progress"))
         for what, (asked, status) in ASKED.items():
             least = min(spent(desk, *asked(con), status=status) for con in small)
@@ -475,13 +608,25 @@ def looks_at_no_station(db, plain):
         forgotten(desk, large)
         spent(desk, *get("/progress"), times=1)
         costs_no_more("the progress, the second time", spent(desk, *get("/progress")), progress)
+        least = moved_around(desk, small[0])
+        for verb, took in moved_around(desk, large).items():
+            costs_no_more(verb, took, least[verb])
+
+
+@contextlib.contextmanager
+def killed_at_the_end(desk):
+    yield desk
+    desk.process.kill()
+    desk.process.communicate()
 
 
 def test_sixty_thousand_returns():
-    """Each station has a return, by imports over HTTP; the longest one has 1,048,576 bytes. The office opens, and shows all of them."""
+    """Each station has a return, by imports over HTTP; the longest one has 1,048,576 bytes, and is tried before. The server is killed, so
+    that all of it is in the log. The office opens, and shows all of them; and so it does as one of the former version."""
     plain = begun()
     counts = '{"bad":0,"differs":0,"first":null,"lodged":%d,"ok":"import","refused":0,"same":%d}'
-    with serving("office.db", ALL + 1) as desk:
+    tried = "lodged %d\nsame %d\ndiffers 0\nrefused 0\nbad 0\nfirst -\n"
+    with killed_at_the_end(program.Desk("office.db", ALL + 4)) as desk:
         for con in plain.cons.values():
             returns = {station: (f"p-{station[2:]}", [n % 10 for n in range(len(con.lists))], n % 7, n % 3) for n, station in enumerate(con.electors)}
             text, again = csv(con, returns), 0
@@ -490,11 +635,116 @@ def test_sixty_thousand_returns():
                 header, rows = text.split("\n", 1)
                 text, again = f"{header}\n{rows * 4}".ljust(1048576, "\n"), 3 * len(returns)
                 same(len(text), 1048576)
+                same(desk.ask("POST", f"/con/{con.code}/trial", text)[::2], (200, tried % (len(returns), again)))
             same((con.code, *desk.ask("POST", f"/con/{con.code}/import", text)[::2]), (con.code, 200, counts % (len(returns), again)))
             lodged(con, returns)
+            if again:
+                same(desk.ask("POST", f"/con/{con.code}/trial", text)[::2], (200, tried % (0, len(returns) + again)))
         same(desk.ask(*get("/progress"))[::2], plain.ask(*get("/progress")))
+    assert os.path.getsize("office.db-wal") > 1000000
     shown_as(plain, "office.db", [code("C", WIDE)], ("progress", "tally"))
+    program.only("office.db")
+    with database() as it:
+        it.executescript("DROP TABLE past; UPDATE setup SET version = 1")
     looks_at_no_station("office.db", plain)
+
+
+CHARACTERS = string.ascii_letters + string.digits + "-_"
+
+
+def short_codes():
+    """The shortest codes of stations, each once."""
+    for length in itertools.count(1):
+        yield from map("".join, itertools.product(CHARACTERS, repeat=length))
+
+
+# Beside a constituency for each of `RULES`, one that has nothing but blank votes, and one that has
+# nothing but spoiled ones.
+BLANK, SPOILED = len(RULES), len(RULES) + 1
+MILLIONS = len(RULES) + 2
+
+
+def crowded():
+    """A setup as `tomllib` reads it, and its text: as many stations as there is room for, 5,000 in a constituency. Those of the first
+    constituencies have a million electors each, the others nine."""
+    codes = short_codes()
+    profiles = [{"code": f"p{n}", "method": method, "threshold": 10000 if n < 4 else 5000, "base": ("lists", "valid")[n % 2], "lot": lot}
+                for n, (method, lot) in enumerate(RULES)]
+    texts = [profile(it["code"], it["method"], it["threshold"], it["base"]) + f'lot = "{it["lot"]}"\n' for it in profiles]
+    cons, room = [], 8388608 // SMALLER - len("".join(texts))
+    while room > 500:
+        n = len(cons)
+        electors = 1000000 if n < MILLIONS else 9
+        lists = [{"code": it, "name": it, "candidates": ["x"]} for it in ("A", "B")[:1 + (n < MILLIONS)]]
+        tables = ",".join(f'{{code="{it["code"]}",name="{it["name"]}",candidates=["x"]}}' for it in lists)
+        text = constituency(f"c{n}", f"Town {n}", 499, f"p{n % len(RULES)}") + f"list=[{tables}]\nstation=["
+        stations = []
+        while len(stations) < MOST_STATIONS and len(text) < room - 60:
+            stations.append({"code": next(codes), "electors": electors})
+            text += f'{{code="{stations[-1]["code"]}",electors={electors}}},'
+        text += "]\n"
+        room -= len(text)
+        texts.append(text)
+        cons.append({"code": f"c{n}", "name": f"Town {n}", "seats": 499, "profile": f"p{n % len(RULES)}", "list": lists, "station": stations})
+    return {"profile": profiles, "constituency": cons}, "".join(texts)
+
+
+def counts_of(n):
+    """What each return of a constituency has: of the first four all votes are for one list, of the next four half of them for each of two."""
+    votes = [n % 9] if n >= MILLIONS else [1000000, 0] if n < 4 else [500000, 500000] if n < BLANK else [0, 0]
+    return {"votes": votes, "blank": 1000000 * (n == BLANK), "spoiled": 1000000 * (n == SPOILED)}
+
+
+def all_closed(plain):
+    """Each return is closed, in the database and in plain Python, with the sums of each constituency."""
+    with database() as it:
+        it.execute("PRAGMA synchronous = OFF")
+        it.execute("CREATE TEMP TABLE items (con TEXT, item INTEGER, n INTEGER)")
+        for n, con in enumerate(plain.cons.values()):
+            counts = counts_of(n)
+            items = dict(enumerate([counts["blank"], *counts["votes"]])) | {61: counts["spoiled"]}
+            it.executemany("INSERT INTO returns VALUES (?, ?, 2, 'p', 4, '')", [(station, con.code) for station in con.electors])
+            it.executemany("INSERT INTO items VALUES (?, ?, ?)", [(con.code, item, v) for item, v in items.items()])
+            it.executemany("UPDATE totals SET n = ? WHERE con = ? AND item = ?", [(v * len(con.electors), con.code, item) for item, v in items.items()])
+            con.returns = {station: {**counts, "slip": "p", "rev": 2, "status": "closed", "note": ""} for station in con.electors}
+        it.execute("CREATE INDEX temp.by_con ON items (con)")
+        it.execute("INSERT INTO counts SELECT station, item, n FROM returns JOIN items USING (con) ORDER BY station, item")
+
+
+def requests_on_most_votes(n, con):
+    """A return is queried, corrected and closed again. The constituency is certified, by a lot where one is needed, and shown."""
+    station = max(con.electors)
+    yield post(f"/station/{station}/query", rev=2, note=NOTE)
+    yield post(f"/station/{station}/correct", rev=3, slip="q", **counts_of(n))
+    yield get(f"/con/{con.code}")
+    yield post(f"/station/{station}/close", rev=4)
+    yield post(f"/con/{con.code}/certify", edition=1)
+    if con.poll().eligible and con.poll().group()[0]:
+        yield post(f"/con/{con.code}/draw", edition=1, order=["B", "A"])
+        yield post(f"/con/{con.code}/certify", edition=2)
+    yield from [get(f"/con/{con.code}"), *reports_of(con)[:-2]]
+
+
+def test_as_many_stations_as_a_setup_has_room_for():
+    """More than 300,000 in one text, each with a closed return: the office is made, opens, and shows them. Of the first constituencies each
+    has 5,000,000,000 votes. They are certified by each rule, or have none but blank or spoiled votes."""
+    parsed, text = crowded()
+    stations = sum(len(con["station"]) for con in parsed["constituency"])
+    if SMALLER == 1:
+        assert 8388000 < len(text) <= 8388608 and stations > 300000, (len(text), stations)
+    plain = model.Office(parsed)
+    program.new(text, constituencies=len(plain.cons))
+    all_closed(plain)
+    first, *_, last = plain.cons.values()
+    ends = [get(f"/station/{station}") for con in (first, last) for station in (min(con.electors), max(con.electors))]
+    requests = [*LOOKS_AT_ALL, *ends, get(f"/con/{last.code}/tally"), get(f"/con/{last.code}/stations")]
+    for n, con in enumerate(itertools.islice(plain.cons.values(), MILLIONS)):
+        requests = itertools.chain(requests, requests_on_most_votes(n, con))
+    answers = answered_as(plain, "office.db", itertools.chain(requests, LOOKS_AT_ALL))
+    certificates = [json.loads(text).get("word", status) for path, status, text in answers if path.endswith("/certify")]
+    same(certificates, [200] * 4 + ["lot_missing", 200] * 4 + ["no_eligible"] * 2)
+    # (what is counted again at the end of a test takes long)
+    os.remove("office.db")
 
 
 if __name__ == "__main__":

@@ -271,6 +271,25 @@ def test_arguments_that_are_no_text():
     same((ran.returncode, ran.stdout, ran.stderr), (2, b"", b"error: the arguments are not all UTF-8 text\n"))
 
 
+def test_arguments_that_are_long():
+    """As long as the system lets an argument be, and as many as a long line of a shell has."""
+    new()
+    word = "x" * 131000
+    for line in (("show", "--report", "tally", f"--con={word}"), ("import", "--csv", "returns.csv", f"--con={word}")):
+        refused("no_constituency", *line, "--db", "office.db")
+    failed("file", "import", "--db", "office.db", "--con", "c1", "--csv", word)
+    failed("file", "new", "--db", "other.db", "--setup", word)
+    for line in (("show", "--report", "progress"), ("serve", "--port", "8080", "--count", "1")):
+        failed("store", *line, "--db", word)
+    for line, error in (
+        ((word,), "error: unrecognized subcommand '"), (("check", word), "error: unexpected argument '"), (("check", "--" + word), "error: unexpected argument '"),
+        (("check", *["x"] * 100000), "error: unexpected argument '"), (("show", "--db", "office.db", "--report", word), "error: invalid value '"),
+    ):
+        ran = office(*line)
+        assert ran.status == 2 and not ran.out and ran.err.startswith(error), (len(line), ran.status, ran.err[:200])
+    only("office.db")
+
+
 # The rows of the examples that are not lodged, as `examples/README.md` has them.
 NAMED = """\
 row 11 7 differs 01-002-A
@@ -320,6 +339,52 @@ def test_a_check_over_streams_that_fail():
     only("folder")
 
 
+def test_standard_streams_that_are_closed():
+    """A reader that goes after the first bytes, and each stream closed from the beginning: no file is written to in its place."""
+    returns = "station,slip,blank,spoiled,A,B\n" + "x\n" * 20000
+    write("returns.csv", returns)
+    with open("returns.csv", "rb") as given:
+        ran = subprocess.Popen([PROGRAM, "check", "--rows"], stdin=given, stdout=subprocess.PIPE, stderr=subprocess.PIPE)
+        STARTED.append(ran)
+        same(ran.stdout.read(9), b"lodged 0\n")
+        ran.stdout.close()
+        same((ran.stderr.read(), ran.wait(PATIENCE)), (b"failed: write\n", 3))
+    new()
+    for words, closed, status, errors in (
+        (("check",), "<&-", 3, b"failed: read\n"), (("check",), ">&-", 3, b"failed: write\n"), (("show", "--report", "progress"), ">&-", 3, b"failed: write\n"),
+        (("import", "--con", "c1", "--csv", "returns.csv"), ">&-", 3, b"failed: write\n"), (("import", "--con", "c1", "--csv", "nowhere.csv"), "2>&-", 3, b""),
+        (("import", "--con", "c1", "--csv", "returns.csv"), "<&- >&- 2>&-", 3, b""),
+    ):
+        db = ["--db", "office.db"] if words != ("check",) else []
+        line = " ".join(["exec", str(PROGRAM), *words, *db, closed])
+        ran = subprocess.run(["bash", "-c", line], input=RETURNS.encode(), capture_output=True, timeout=PATIENCE)
+        same((line, ran.returncode, ran.stdout, ran.stderr), (line, status, b"", errors))
+        shows("progress", PROGRESS, con=None)
+    port = free_port()
+    line = f"exec {PROGRAM} serve --db office.db --port {port} --count 2 <&- >&- 2>&-"
+    ran = subprocess.Popen(["bash", "-c", line], stdin=subprocess.DEVNULL)
+    STARTED.append(ran)
+    for text in ("lodged", "same"):
+        connection = answering(port)
+        connection.request("POST", "/station/s1/lodge", json.dumps({"slip": "p1", "votes": [100, 100], "blank": 0, "spoiled": 0}))
+        same(json.loads(connection.getresponse().read()), {"ok": text, "rev": 1})
+        connection.close()
+    same(ran.wait(PATIENCE), 3)
+    shows("progress", "c1                    1      0      1      0      0      0      1 open\n", con=None)
+    only("office.db")
+
+
+def answering(port):
+    """A connection to a server that may only be about to listen."""
+    for _ in range(PATIENCE * 20):
+        with contextlib.suppress(ConnectionRefusedError):
+            connection = http.client.HTTPConnection("127.0.0.1", port, timeout=PATIENCE)
+            connection.connect()
+            return connection
+        time.sleep(0.05)
+    raise AssertionError("nobody listens")
+
+
 def test_a_check_of_too_many_rows():
     same(office("check", given="station,slip,blank,spoiled,A\n" + "x\n" * 20001), Ran(1, "", "refused: too_long\n"))
 
@@ -338,6 +403,9 @@ def test_help_of_each_command_names_its_arguments():
         text = office(command, "--help").err
         assert all(name in text for name in names), text
         assert max(map(len, text.splitlines())) <= 80, text
+    reports = " ".join(office("show", "--help").err.split())
+    for said in ("country the seats and votes of each list over all constituencies --con", "returns the returns as CSV, which 'office import' takes"):
+        assert said in reports, (said, reports)
 
 
 # ---- new
@@ -384,6 +452,26 @@ def test_setups_that_are_refused_leave_no_file():
         refused(word, "new", "--db", "office.db", "--setup", "setup.toml")
         only()
     new(long[:-1])
+
+
+def test_files_that_come_in_pieces_and_files_without_an_end():
+    """Through a pipe a read gives some of the bytes. What goes on without an end is too long, and is not read further."""
+    setup = (THREE_STATIONS + "#").ljust(8388608, "x")
+    returns = (RETURNS + "\n").ljust(16777216, "\n")
+    for name, text in (("setup", setup), ("returns", returns)):
+        os.mkfifo(f"{name}.pipe")
+        write(f"{name}.text", text)
+        STARTED.append(subprocess.Popen(["bash", "-c", f"exec cat {name}.text > {name}.pipe"]))
+    done("constituencies 1\n", "new", "--db", "office.db", "--setup", "setup.pipe")
+    with database() as it:
+        same(it.execute("SELECT text FROM setup").fetchall() == [(setup,)], True)
+    counts = "lodged 3\nsame 0\ndiffers 0\nrefused 0\nbad 0\nfirst -\n"
+    done(counts, "import", "--db", "office.db", "--con", "c1", "--csv", "returns.pipe")
+    refused("over_limit text", "new", "--db", "other.db", "--setup", "/dev/zero")
+    refused("too_long", "import", "--db", "office.db", "--con", "c1", "--csv", "/dev/zero")
+    with open("/dev/zero", "rb") as zeros:
+        same(check(zeros), (1, b"", b"refused: too_long\n"))
+    only("office.db", "setup.pipe", "setup.text", "returns.pipe", "returns.text")
 
 
 def test_a_setup_that_is_no_file():
@@ -634,6 +722,27 @@ def test_files_in_a_folder_of_a_long_name():
     same(sorted(os.listdir(folder)), ["office.db", "returns.csv", "setup.toml"])
 
 
+def test_files_of_the_longest_names():
+    """As long as a name and a path may be, beside which a journal of SQLite has eight bytes more: of letters, of characters of many bytes and of
+    others, in this folder, by the whole path, and in folders as deep as may be."""
+    folders = "/".join(["x" * 250] * 15)
+    os.makedirs(folders)
+    long, of_many_bytes, odd = "o" * 247, "ñ" * 118 + "o" * 11, "'\"$;#%? ~\\"
+    deep = f"{folders}/{'y' * (4087 - len(f'{os.getcwd()}/{folders}//'.encode()) - 247)}"
+    for place in (f"{deep}/{long}", f"{deep}/{of_many_bytes}", os.path.abspath(of_many_bytes), odd):
+        os.makedirs(os.path.dirname(place) or ".", exist_ok=True)
+        setup, csv = (os.path.join(os.path.dirname(place), other) for other in ("setup.toml", "returns.csv"))
+        write(setup, THREE_STATIONS)
+        write(csv, RETURNS)
+        done("constituencies 1\n", "new", "--db", place, "--setup", setup)
+        done("lodged 3\nsame 0\ndiffers 0\nrefused 0\nbad 0\nfirst -\n", "import", "--db", place, "--con", "c1", "--csv", csv)
+        shows("progress", "c1                    3      0      3      0      0      0      1 open\n", con=None, db=place)
+        with serving(place, 1) as desk:
+            desk.get("/progress", "c1                    3      0      3      0      0      0      1 open\n")
+        os.remove(place)
+        same(sorted(set(os.listdir(os.path.dirname(place) or ".")) - {"x" * 250}), ["returns.csv", "setup.toml"])
+
+
 # ---- opening
 
 
@@ -815,12 +924,20 @@ def test_an_import_names_its_rows():
         same(office(*command, "--rows"), Ran(0, "lodged 0\nsame 1\ndiffers 0\nrefused 0\nbad 0\nfirst -\n", ""))
         os.remove("office.db")
     new(THREE_STATIONS)
+    write("returns.csv", header + "s3,p3,0,0,1,2\n")
+    same(office(*command, "--rows").status, 0)
     for row, counts, cause in (
-        ("x", "refused 0\nbad 20000\nfirst 1 0\n", "0 fields 1"), ("s1,p1,0,0,300,1", "refused 20000\nbad 0\nfirst 1 6\n", "6 too_many_votes s1"),
+        ("x", "differs 0\nrefused 0\nbad 20000\nfirst 1 0\n", "0 fields 1"),
+        ("s1,p1,0,0,300,1", "differs 0\nrefused 20000\nbad 0\nfirst 1 6\n", "6 too_many_votes s1"),
+        ("s3,p4,0,0,1,2", "differs 20000\nrefused 0\nbad 0\nfirst 1 7\n", "7 differs s3"),
     ):
         write("returns.csv", header + f"{row}\n" * 20000)
         lines = "".join(f"row {n} {cause}\n" for n in range(1, 20001))
-        same(office(*command, "--rows"), Ran(0, "lodged 0\nsame 0\ndiffers 0\n" + counts + lines, ""))
+        same(office(*command, "--rows"), Ran(0, "lodged 0\nsame 0\n" + counts + lines, ""))
+    # A row as long as a text may be, of separators alone.
+    write("returns.csv", header + "," * (16777216 - len(header)))
+    counts = "lodged 0\nsame 0\ndiffers 0\nrefused 0\nbad 1\nfirst 1 0\n"
+    same(office(*command, "--rows"), Ran(0, counts + f"row 1 0 fields {16777217 - len(header)}\n", ""))
     write("returns.csv", header + "x\n" * 20001)
     refused("too_long", *command, "--rows")
 
@@ -846,6 +963,65 @@ def test_imports_that_change_nothing():
     only("folder", "office.db")
 
 
+def limited(most, *words):
+    """What a command comes to where no file may grow beyond so many bytes."""
+    words = ["bash", "-c", 'trap "" XFSZ && ulimit -f "$0" && exec "$@"', str(most // 1024), PROGRAM, *words]
+    ran = subprocess.run(words, capture_output=True, text=True, timeout=PATIENCE)
+    return Ran(ran.returncode, ran.stdout, ran.stderr)
+
+
+def test_commands_where_the_disk_is_full():
+    """At each size at which it may be full: a `new` leaves no file, an import no row. The one that has room is done."""
+    setup = THREE_STATIONS + "".join(station(f"t{n}") for n in range(4997))
+    returns = RETURNS + "".join(f"t{n},p-{n},0,0,1,2\n" for n in range(4997))
+    write("setup.toml", setup)
+    write("returns.csv", returns)
+    failures = 0
+    for most in itertools.count(0, 65536):
+        ran = limited(most, *making("office.db"))
+        if ran == Ran(0, "constituencies 1\n", ""):
+            break
+        same((most, ran), (most, Ran(3, "", "failed: store\n")))
+        only()
+        failures += 1
+    assert failures >= 3, failures
+    shutil.copy("office.db", "good.db")
+    before, counts = rows(), "lodged 5000\nsame 0\ndiffers 0\nrefused 0\nbad 0\nfirst -\n"
+    for most in itertools.count(65536, 262144):
+        ran = limited(most, "import", "--db", "office.db", "--con", "c1", "--csv", "returns.csv")
+        # Where the log has all of it, and the file no room for that, it is done.
+        assert ran in (Ran(0, counts, ""), Ran(3, "", "failed: store\n")), (most, ran)
+        lodged = f"c1                 5000 {'     0   5000'}      0      0      0      1 open\n"
+        found = show("progress", con=None)
+        only("good.db", "office.db")
+        if found == Ran(0, lodged, ""):
+            break
+        same((most, ran.status, found.out, rows() == before), (most, 3, lodged.replace("     0   5000", "  5000      0"), True))
+        failures += 1
+    assert failures >= 6, failures
+    imports({"same": 5000}, returns)
+
+
+def test_a_new_that_is_killed():
+    """Whenever it ends, the next one makes the office, or the office is there and opens."""
+    setup = THREE_STATIONS + "".join(station(f"t{n}") for n in range(4997)) + "#" * 4000000
+    write("setup.toml", setup)
+    began = time.monotonic()
+    done("constituencies 1\n", *making("office.db"))
+    whole = time.monotonic() - began
+    for turn in range(6):
+        for name in Path(".").glob("office.db*"):
+            name.unlink()
+        process = subprocess.Popen([PROGRAM, *making("office.db")], stdout=subprocess.DEVNULL, stderr=subprocess.DEVNULL)
+        time.sleep(whole * (turn + 1) / 7)
+        process.kill()
+        process.wait()
+        ran = office(*making("office.db"))
+        assert ran in (Ran(0, "constituencies 1\n", ""), Ran(1, "", "refused: not_empty\n")), ran
+        shows("progress", "c1                 5000   5000      0      0      0      0      1 open\n", con=None)
+        only("office.db")
+
+
 def test_two_commands_at_once():
     """One command has the database alone; another is answered so, and nothing is lost."""
     new(THREE_STATIONS)
@@ -861,6 +1037,55 @@ def test_two_commands_at_once():
     out, err = first.communicate(timeout=PATIENCE)
     same((first.returncode, out, err), (0, b"lodged 3\nsame 0\ndiffers 0\nrefused 0\nbad 0\nfirst -\n", b""))
     same(len(rows()["returns"]), 3)
+
+
+# Comes before the C library: a command that is about to remove a log makes a file `waits`, and
+# waits until there is a file `go`.
+WAITING_AT_A_LOG = r"""
+#define _GNU_SOURCE
+#include <dlfcn.h>
+#include <fcntl.h>
+#include <string.h>
+#include <unistd.h>
+
+static void wait_at(const char *path)
+{
+    size_t length = strlen(path);
+    if (length < 4 || strcmp(path + length - 4, "-wal"))
+        return;
+    close(open("waits", O_CREAT | O_WRONLY, 0600));
+    while (access("go", F_OK))
+        usleep(1000);
+}
+
+int unlink(const char *path)
+{
+    wait_at(path);
+    return ((int (*)(const char *))dlsym(RTLD_NEXT, "unlink"))(path);
+}
+
+int unlinkat(int folder, const char *path, int flags)
+{
+    wait_at(path);
+    return ((int (*)(int, const char *, int))dlsym(RTLD_NEXT, "unlinkat"))(folder, path, flags);
+}
+"""
+
+
+def test_a_log_is_removed_before_the_database_is_given_back():
+    """Else it might be the log of the command that has it next, with returns that were acknowledged."""
+    new(THREE_STATIONS)
+    write("returns.csv", RETURNS)
+    environment = before_the_library(WAITING_AT_A_LOG)
+    words = [PROGRAM, "show", "--db", "office.db", "--report", "progress"]
+    first = subprocess.Popen(words, env=environment, stdout=subprocess.PIPE, stderr=subprocess.PIPE, text=True)
+    STARTED.append(first)
+    wait_until(lambda: os.path.exists("waits"))
+    failed("store", "import", "--db", "office.db", "--con", "c1", "--csv", "returns.csv")
+    write("go", "")
+    out, err = first.communicate(timeout=PATIENCE)
+    same((first.returncode, out, err), (0, "c1                    3      3      0      0      0      0      1 open\n", ""))
+    imports({"lodged": 3}, RETURNS)
 
 
 def test_an_import_that_is_killed():
@@ -1555,12 +1780,161 @@ def test_bodies_that_are_read():
             same(desk.ask("POST", "/station/s1/query", json.dumps({"rev": 1, "note": note}))[::2], answer)
 
 
+def longest_head(method, path, length):
+    """A head of 16,384 bytes with 64 fields, of which the last one has a long name and a long value."""
+    lines = [f"{method} {path} HTTP/1.1", f"Content-Length: {length}", *(f"field-{n}: {n}" for n in range(62)), f"{'n' * 7000}: "]
+    text = "\r\n".join(lines)
+    return f"{text}{'x' * (16380 - len(text))}\r\n\r\n".encode()
+
+
+def test_the_longest_messages():
+    """Each command with a body of 1,048,576 bytes, which is filled by spaces, a long text, or many members of an array under a further key;
+    each second one under a head of 16,384 bytes and 64 fields."""
+    new()
+    steps = list(SCRIPT)
+    steps[2] = ("/station/s1/confirm", {"rev": 1, "slip": "p1", "votes": [100, 100], "blank": 0, "spoiled": 0}, *SCRIPT[2][2:])
+    # Beside a long head: empty lines before a short one, and targets that have nothing of theirs.
+    heads = [(longest_head("GET", "/progress", 0), b"200"), (b"\r\n" * 8000 + b"GET /progress HTTP/1.1\r\n\r\n", b"200")]
+    heads += [(f"GET {path.format('x' * 16000)} HTTP/1.1\r\n\r\n".encode(), b"404") for path in ("/station/{}", "/con/{}/tally", "/con/c1/{}", "/{}")]
+    with serving("office.db", len(steps) + len(heads)) as desk:
+        for number, (path, body, status, answer) in enumerate(steps):
+            text = json.dumps(body | ({}, {"more": ""}, {"more": [0, 0]})[number % 3])
+            room = 1048576 - len(text)
+            text = (text.ljust(1048576), text.replace('""', f'"{"x" * room}"'), text.replace("[0, 0]", f"[{'0,' * (room // 2)}0, 0]"))[number % 3].ljust(1048576)
+            head = f"POST {path} HTTP/1.1\r\nContent-Length: 1048576\r\n\r\n".encode() if number % 2 else longest_head("POST", path, 1048576)
+            same((len(text), len(head)), (1048576, len(head) if number % 2 else 16384))
+            found = desk.send(head + text.encode())
+            same((path, number, int(found.split(b" ")[1]), found.rpartition(b"\n")[2].decode()), (path, number, status, answer))
+        for head, status in heads:
+            same((head[:50], desk.send(head).split(b" ")[1]), (head[:50], status))
+
+
+def test_values_that_are_long():
+    """What is wrong with a long value is said, as of a short one: of texts, of votes, of the lists of a lot."""
+    new()
+    votes = {"slip": "p1", "votes": [0] * 300000, "blank": 0, "spoiled": 0}
+    slip = {"slip": "p" * 1000000, "votes": [100, 100], "blank": 0, "spoiled": 0}
+    note, order = "é" * 500000, ["A"] * 100000
+    bad_body, bad_counts = (400, '{"word":"bad_body"}'), (400, '{"refused":4,"word":"bad_counts"}')
+    bad_note = (400, '{"refused":5,"word":"bad_note"}')
+    cases = [
+        (f"/station/s1/{verb}", rev | body, answer)
+        for verb, rev in (("lodge", {}), ("correct", {"rev": 1}), ("confirm", {"rev": 1})) for body, answer in ((votes, bad_counts), (slip, bad_body))]
+    cases += [
+        ("/station/s1/query", {"rev": 2, "note": note}, bad_note), ("/con/c1/reopen", {"edition": 1, "note": note}, bad_note),
+        ("/con/c1/vacate", {"list": "A", "place": 1, "note": note}, bad_note),
+        ("/con/c1/vacate", {"list": "A" * 1000000, "place": 1, "note": "x"}, bad_body),
+        ("/con/c1/vacate", {"list": "A", "place": 4294967295, "note": "x"}, (404, '{"refused":3,"word":"no_candidate"}')),
+        ("/con/c1/draw", {"edition": 1, "order": ["A" * 1000000]}, bad_body),
+        ("/con/c1/draw", {"edition": 1, "order": order}, (409, '{"group":["A","B"],"refused":18,"word":"lot_wrong_group"}')),
+    ]
+    with serving("office.db", len(cases) + 3) as desk:
+        for step in SCRIPT[:1] + SCRIPT[2:3]:
+            take(desk, step)
+        for path, body, answer in cases:
+            text = json.dumps(body, ensure_ascii=False, separators=(",", ":")).encode()
+            assert 300000 < len(text) <= 1048576 or path.endswith("vacate"), len(text)
+            same((path, *desk.ask("POST", path, text)[::2]), (path, *answer))
+        desk.get("/con/c1/tally", TALLY)
+
+
+def test_a_message_that_comes_byte_by_byte():
+    """The longest head, and a beginning of the longest body: some eighty thousand reads give one byte each."""
+    new()
+    body = json.dumps({"slip": "p1", "votes": [50, 40], "blank": 2, "spoiled": 1}).encode().ljust(1048576)
+    with serving("office.db", 1) as desk, socket.create_connection(("127.0.0.1", desk.port), timeout=PATIENCE) as it:
+        it.setsockopt(socket.IPPROTO_TCP, socket.TCP_NODELAY, 1)
+        for byte in longest_head("POST", "/station/s1/lodge", len(body)) + body[:65536]:
+            it.sendall(bytes([byte]))
+        it.sendall(body[65536:])
+        assert it.recv(65536).endswith(b'{"ok":"lodged","rev":1}')
+
+
+def test_a_hundred_clients_at_once():
+    """All have sent their messages before the first is answered, and each has its answer."""
+    stations = 100
+    new(SETUP.replace("s1", "s0") + "".join(station(f"s{n}") for n in range(1, stations)))
+    clients = []
+    with serving("office.db", stations + 1) as desk, contextlib.ExitStack() as open_ones:
+        first = open_ones.enter_context(socket.create_connection(("127.0.0.1", desk.port), timeout=PATIENCE))
+        for n in range(stations):
+            clients.append(open_ones.enter_context(socket.create_connection(("127.0.0.1", desk.port), timeout=PATIENCE)))
+            body = json.dumps({"slip": f"p{n}", "votes": [n, 1], "blank": 0, "spoiled": 0})
+            clients[n].sendall(asking("POST", f"/station/s{n}/lodge", body))
+        first.sendall(asking("GET", "/progress"))
+        for it in (first, *clients):
+            found = b""
+            while piece := it.recv(65536):
+                found += piece
+            it.close()
+            assert found.startswith(b"HTTP/1.1 200 OK"), found
+    shows("progress", "c1                  100      0    100      0      0      0      1 open\n", con=None)
+
+
+# Comes before the C library: a connection is one of two sockets, and a message waits in it, which
+# the other one has sent. One of fifty messages asks for a return, and the others for nothing that
+# there is. The answer to each is looked at before the next one comes. Between the first 66,000 and
+# the last 1,000 of a million the network fails.
+A_CROWD = r"""
+#define _GNU_SOURCE
+#include <errno.h>
+#include <netinet/in.h>
+#include <string.h>
+#include <sys/socket.h>
+#include <unistd.h>
+
+static const char *MESSAGES[] = {"GET /x HTTP/1.1\r\n\r\n", "GET /station/s1 HTTP/1.1\r\n\r\n"};
+static const char *ANSWERS[] = {"HTTP/1.1 404 ", "HTTP/1.1 200 "};
+static int other = -1;
+static unsigned came;
+
+static void answered(int which)
+{
+    char text[4096];
+    ssize_t count = read(other, text, sizeof text);
+    if (count < 13 || memcmp(text, ANSWERS[which], 13))
+        _exit(99);
+    close(other);
+    other = -1;
+}
+
+int accept4(int listener, struct sockaddr *address, socklen_t *length, int flags)
+{
+    int pair[2];
+    struct sockaddr_in from = {.sin_family = AF_INET, .sin_port = htons(1), .sin_addr = {htonl(INADDR_LOOPBACK)}};
+    if (other >= 0)
+        answered(came % 50 == 1);
+    came++;
+    if (came > 66000 && came <= 999000) {
+        errno = ECONNABORTED;
+        return -1;
+    }
+    const char *message = MESSAGES[came % 50 == 1];
+    if (socketpair(AF_UNIX, SOCK_STREAM | SOCK_CLOEXEC, 0, pair) || write(pair[0], message, strlen(message)) < 0 || shutdown(pair[0], SHUT_WR))
+        _exit(98);
+    other = pair[0];
+    memcpy(address, &from, sizeof from);
+    *length = sizeof from;
+    return pair[1];
+}
+"""
+
+
+def test_a_million_connections():
+    """As many as a server takes, one after the other, in 128 MiB of memory: each that comes has its answer, also after most failed."""
+    new()
+    close_return("s1", "c1", [100, 100])
+    words = ["bash", "-c", 'ulimit -v 131072 && exec "$0" "$@"', PROGRAM, "serve", "--db", "office.db", "--port", str(free_port()), "--count", "1000000"]
+    ran = subprocess.run(words, env=before_the_library(A_CROWD), capture_output=True, text=True, timeout=PATIENCE)
+    same((ran.returncode, ran.stdout, ran.stderr.count("\n")), (0, "answered 67000 failed 933000\n", 1))
+
+
 def test_a_whole_body_that_is_not_read():
     """A client sends all of a body before it reads: it has its answer, also where the body is longer than what is taken."""
     new()
-    body = b"x" * 1500000
+    body = b"x" * 2000000
     cases = (
-        (b"Content-Length: 1500000", 400, "body_too_long"), (b"Content-Length: 1500000x", 400, "bad_length"),
+        (b"Content-Length: 2000000", 400, "body_too_long"), (b"Content-Length: 2000000x", 400, "bad_length"),
         (b"Transfer-Encoding: chunked", 411, "length_required"), (b"a: " + b"b" * 20000, 400, "head_too_long"),
     )
     with serving("office.db", len(cases)) as desk:
@@ -1633,20 +2007,39 @@ def waits_for(db, message):
         return seconds
 
 
+def certificates(count):
+    """The report of so many certificates of an office of sixty lists, each of an edition after the one before it was opened again."""
+    lists = "".join(f"{f'L{n}':16}{3 if n == 1 else 0:5} {'n' * 80}\n" for n in range(1, 61))
+    return "PAST c1 Twin Town\n" + "".join(f"edition {edition}\n{lists}" for edition in range(2, 2 * count + 2, 2))
+
+
 def reopened(count, db):
     """An office of sixty lists that was reopened so often, and the report of its certificates."""
-    name, editions = "n" * 80, range(2, 2 * count + 2, 2)
-    new(PROFILE + constituency("c1", "Twin Town", 3, "d0") + "".join(party_list(f"L{n}", name, "Ana") for n in range(1, 61)) + station("s1"), db)
-    put("past", *(("c1", edition, n, 3 if n == 1 else 0) for edition in editions for n in range(1, 61)), db=db)
+    lists = "".join(party_list(f"L{n}", "n" * 80, "Ana") for n in range(1, 61))
+    new(PROFILE + constituency("c1", "Twin Town", 3, "d0") + lists + station("s1"), db)
+    put("past", *(("c1", edition, n, 3 if n == 1 else 0) for edition in range(2, 2 * count + 2, 2) for n in range(1, 61)), db=db)
     with database(db) as it:
         it.execute("UPDATE cons SET edition = ?, note = 'recount'", (2 * count + 1,))
-    lists = "".join(f"{f'L{n}':16}{3 if n == 1 else 0:5} {name}\n" for n in range(1, 61))
-    return "PAST c1 Twin Town\n" + "".join(f"edition {edition}\n{lists}" for edition in editions)
+    return certificates(count)
 
 
 def test_as_many_certificates_as_there_may_be():
-    """With sixty lists each: the office opens, and shows them."""
-    shows("past", reopened(4999, "office.db"))
+    """With sixty lists each: the last one is given and opened again, and all are shown. A client goes in the middle of that, and the next
+    one has all of it."""
+    reopened(4998, "office.db")
+    past = certificates(4999)
+    with serving("office.db", 7, failed=1) as desk:
+        take(desk, ("/station/s1/lodge", {"slip": "p1", "votes": [100] + [0] * 59, "blank": 0, "spoiled": 0}, 200, '{"ok":"lodged","rev":1}'))
+        take(desk, ("/station/s1/close", {"rev": 1}, 200, '{"ok":"moved","rev":2}'))
+        take(desk, ("/con/c1/certify", {"edition": 9997}, 200, '{"edition":9998,"ok":"edition"}'))
+        take(desk, ("/con/c1/reopen", {"edition": 9998, "note": "recount"}, 200, '{"edition":9999,"ok":"edition"}'))
+        it = socket.create_connection(("127.0.0.1", desk.port), timeout=PATIENCE)
+        it.sendall(asking("GET", "/con/c1/past"))
+        assert it.recv(65536).startswith(b"HTTP/1.1 200 OK")
+        reset(it)
+        desk.get("/con/c1/past", past)
+        take(desk, ("/con/c1/certify", {"edition": 9999}, 409, '{"refused":12,"word":"exhausted"}'))
+    shows("past", past)
 
 
 def read_late(db):
@@ -1693,14 +2086,43 @@ def stays(db):
         return ended - began, time.monotonic() - ended
 
 
+def pauses(db):
+    """What a client is answered whose message comes in three parts, with eight seconds between them, and one that sends a body that is too
+    long, with a pause in its middle, before it reads."""
+    with serving(db, 3) as desk:
+        with socket.create_connection(("127.0.0.1", desk.port), timeout=PATIENCE) as it:
+            it.sendall(LODGE[:20])
+            for part in (LODGE[20:-20], LODGE[-20:]):
+                time.sleep(8)
+                it.sendall(part)
+            first = it.recv(65536)
+        with socket.create_connection(("127.0.0.1", desk.port), timeout=PATIENCE) as it:
+            it.sendall(b"POST /con/c1/import HTTP/1.1\r\nContent-Length: 2000000\r\n\r\n" + b"x" * 1000000)
+            time.sleep(0.7)
+            it.sendall(b"x" * 1000000)
+            second = it.recv(65536)
+        desk.get("/progress", PROGRESS.replace("1      1      0", "1      0      1"))
+        return first, second
+
+
+def is_left_alone(db):
+    """A server to which nobody comes for longer than a read may wait, and then again, so that more than the time of a message is over: it
+    answers both who come."""
+    with serving(db, 2) as desk:
+        for _ in range(2):
+            time.sleep(16)
+            desk.get("/progress", PROGRESS)
+
+
 def test_clients_that_keep_the_office_waiting():
-    """Ten seconds for a read, thirty for a message in all: a client that sends nothing is given up, and one that sends a byte a second. Of
-    the thirty for an answer one may take nothing for fifteen: it has the answer whole. One that takes nothing at all is given up, and one
-    that has its answer and stays is waited for two seconds."""
+    """Ten seconds for a read, thirty for a message in all: a client that sends nothing is given up, and one that sends a byte a second, but
+    not one that pauses twice for eight seconds. Of the thirty for an answer one may take nothing for fifteen: it has the answer whole. One
+    that takes nothing at all is given up, and one that has its answer and stays is waited for two seconds. Between clients the server
+    waits as long as it has to."""
     # The offices are made one after the other, since each is made of the same file.
-    for name in ("silent", "slow", "late", "never", "stays"):
+    for name in ("silent", "slow", "late", "never", "stays", "pauses", "alone"):
         os.mkdir(name)
-    for name in ("silent", "slow", "stays"):
+    for name in ("silent", "slow", "stays", "pauses", "alone"):
         new(db=f"{name}/office.db")
     # Of six million bytes: more than the buffers of two sockets take.
     past = reopened(1000, "late/office.db").encode()
@@ -1710,12 +2132,16 @@ def test_clients_that_keep_the_office_waiting():
 
 def kept_waiting(past):
     slow = f"GET /progress HTTP/1.1\r\na: {'b' * 200}".encode()
-    with ThreadPoolExecutor(5) as all_five:
-        late = all_five.submit(read_late, "late/office.db")
-        never = all_five.submit(never_read, "never/office.db")
-        stayed = all_five.submit(stays, "stays/office.db")
-        silent, slow = all_five.map(waits_for, ("silent/office.db", "slow/office.db"), (b"", slow))
+    with ThreadPoolExecutor(7) as together:
+        late = together.submit(read_late, "late/office.db")
+        never = together.submit(never_read, "never/office.db")
+        stayed = together.submit(stays, "stays/office.db")
+        paused = together.submit(pauses, "pauses/office.db")
+        alone = together.submit(is_left_alone, "alone/office.db")
+        silent, slow = together.map(waits_for, ("silent/office.db", "slow/office.db"), (b"", slow))
         head, _, body = late.result().partition(b"\r\n\r\n")
+    alone.result()
+    assert [it.endswith(end) for it, end in zip(paused.result(), (b'"rev":1}', b'{"word":"body_too_long"}'))] == [True, True], paused.result()
     ended, stayed = stayed.result()
     print(f"silent {silent:.1f} s, slow {slow:.1f} s, never {never.result():.1f} s, ended {ended:.1f} s, stayed {stayed:.1f} s")
     assert head.startswith(b"HTTP/1.1 200 OK\r\n") and body == past, (head, len(body), len(past))
@@ -1742,7 +2168,7 @@ def test_an_import_that_lodges_nothing_writes_nothing():
     """Its rows are the same, differ, are refused or bad: the log stays byte for byte."""
     new(THREE_STATIONS)
     counts = '{"bad":%d,"differs":%d,"first":%s,"lodged":0,"ok":"import","refused":%d,"same":%d}'
-    with serving("office.db", 5) as desk:
+    with serving("office.db", 6) as desk:
         same(desk.ask("POST", "/con/c1/import", RETURNS)[0], 200)
         log = Path("office.db-wal").read_bytes()
         for old, row, answer in (
@@ -1751,6 +2177,8 @@ def test_an_import_that_lodges_nothing_writes_nothing():
         ):
             same((row, *desk.ask("POST", "/con/c1/import", RETURNS.replace(old, row))[::2]), (row, 200, counts % answer))
             assert log and log == Path("office.db-wal").read_bytes(), row
+        # (after the last answer the office is closed, and its log removed)
+        same(desk.ask("GET", "/progress")[0], 200)
 
 
 def test_a_trial_of_an_import():
@@ -1761,7 +2189,7 @@ def test_a_trial_of_an_import():
     texts = (RETURNS, RETURNS.replace("30,40", "31,40"), header, header + "s1,p1,0,0,10,20\ns1,p1,0,0,10,21\ns2,p2,0,0,200,101\nt1,p1,0,0,1,1\n",
              header + "?,p1,0,0,1,1\ns3,,0,0,1,1\ns3,p3,0,0,1\ns3,p3,x,y,1,1\ns3,p3,0,-1,1,1\ns3,p3,0,0,1,\n",
              header + "x\n" * 19999 + "x" * 1000000 + "\n")
-    with serving("office.db", 6 * len(texts) + 4) as desk:
+    with serving("office.db", 6 * len(texts) + 8) as desk:
         for text in texts:
             log = Path("office.db-wal")
             before = log.read_bytes() if log.exists() else b""
@@ -1776,6 +2204,8 @@ def test_a_trial_of_an_import():
             same(desk.ask("POST", "/con/c1/import", text)[::2], plain.ask("POST", "/con/c1/import", text))
         too_long = header + "x\n" * 20001
         same(desk.ask("POST", "/con/c1/trial", too_long)[::2], (400, '{"word":"too_long"}'))
+        for path in ("trial", "trial/semicolon", "import", "import/semicolon"):
+            same((path, *desk.ask("POST", f"/con/c1/{path}", "")[::2]), (path, 400, '{"word":"bad_header"}'))
         same(desk.ask("POST", "/con/zz/trial", RETURNS)[::2], (404, '{"refused":2,"word":"no_constituency"}'))
         same(desk.ask("GET", "/con/c1/trial")[::2], (405, '{"word":"no_method"}'))
         same(desk.ask("GET", "/con/c1/returns")[::2], plain.ask("GET", "/con/c1/returns"))

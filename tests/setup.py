@@ -218,10 +218,52 @@ def test_a_list_has_1000_candidates_at_most():
     comes_to("over_limit candidates / at constituency 1 c1, list 2 B", EXAMPLE.replace('"Bea"', names + ', "Bo"'))
 
 
+def test_as_many_candidates_as_a_text_has_room_for():
+    """Some two million, of sixty lists in each of some thirty constituencies."""
+    names = "[" + '"x",' * 1000 + "]"
+    lists = ",".join(f'{{code="L{number}",name="L",candidates={names}}}' for number in range(60))
+    text, count = PROFILE, 0
+    while len(text) + 60 * 4060 < 8388608:
+        count += 1
+        text += CONSTITUENCY.replace('"c1"', f'"c{count}"') + f'list=[{lists}]\nstation=[{{code="s{count}",electors=1}}]\n'
+    assert count > 30, count
+    same(answer(text), f"read {count}")
+
+
 def test_a_text_has_8_mib_at_most():
     most = (EXAMPLE + "#").ljust(8388608)
     comes_to("read", most, "most")
     comes_to("over_limit text", most + " ", "over")
+
+
+def test_further_keys_as_long_as_a_text_may_be():
+    """They are passed over: a text that fills eight mebibytes, many keys, and many members of an array."""
+    for more in (f'more = "{"x" * 8388000}"', "\n".join(f"k{n} = {n}" for n in range(200000)), f"more = [{'0,' * 500000}]"):
+        comes_to("read", EXAMPLE + more, more[:40])
+
+
+def test_the_last_place_that_a_fault_may_have():
+    """The last byte of eight mebibytes, in one line or in as many lines; and the last entry of each array, with a code of sixteen characters."""
+    comes_to("not_toml / at line 1, column 8388608", b" " * 8388607 + b"\xff", "one line")
+    comes_to("not_toml / at line 8388608, column 1", b"\n" * 8388607 + b"\xff", "lines")
+    comes_to("not_toml / at line 8388607, column 2", "\n" * 8388606 + "b\n", "a key alone")
+    profiles = "".join(PROFILE.replace('"d0"', f'"P{number:015}"') for number in range(1, 201))
+    comes_to("bad_value base / at profile 200 P000000000000200", profiles[::-1].replace('"dilav"', '"setov"', 1)[::-1])
+    cons = [
+        (CONSTITUENCY.replace('"d0"', '"P000000000000200"') + LISTS + STATION).replace('"c1"', f'"C{number:015}"').replace('"s1"', f'"S{number:015}"')
+        for number in range(1, 200)]
+    last = CONSTITUENCY.replace('"d0"', '"P000000000000200"').replace('"c1"', '"C000000000000200"')
+    lists = [f'\n[[constituency.list]]\ncode = "L{number:015}"\nname = "L"\ncandidates = ["Bo"]\n' for number in range(1, 60)]
+    names = '"Bo", ' * 999
+    comes_to(
+        "bad_value candidates / at constituency 200 C000000000000200, list 60 L000000000000060, candidate 1000",
+        profiles + "".join([*cons, last, *lists])
+            + f'\n[[constituency.list]]\ncode = "L000000000000060"\nname = "L"\ncandidates = [{names}"{"x" * 81}"]\n', "candidate")
+    stations = [station(f"T{number:015}") for number in range(1, 5000)]
+    comes_to(
+        "duplicate S000000000000001 / at constituency 200 C000000000000200, station 5000; "
+        "first at constituency 1 C000000000000001, station 1 S000000000000001",
+        profiles + "".join([*cons, last, *lists, *stations, station("S000000000000001")]), "station")
 
 
 def test_the_line_and_the_byte_at_which_a_text_ceases_to_be_toml():

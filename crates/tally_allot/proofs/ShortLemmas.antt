@@ -14,7 +14,7 @@ use Rattle.tally_law.specs.DivisorAllotment.{IsDivisorAllotmentByVotes}
 use Rattle.tally_contest.specs.internal.Terms.{AreDivisors, IsRule, IsSound}
 use Rattle.tally_contest.proofs.Vectors.{sum-cons, equal_or_exchange, Exchange}
 use Rattle.tally_contest.proofs.DivisorRace.{eligible_or_not}
-use Rattle.tally_allot.specs.VotesShort.{with_more_votes, IsSureOfMore, IsVotesShort, IsLeastNumber, HasNoMoreToGain, AreVotesShort, AreBelow}
+use Rattle.tally_allot.specs.VotesShort.{with_more_votes, IsSureOfMore, IsVotesShort, IsLeastNumber, HasNoMoreToGain, AreVotesShort}
 use Rattle.tally_allot.proofs.AllotmentLaws.{exists, by_votes}
 use Rattle.tally_allot.proofs.LotLaws.{proper_without_lot}
 use Rattle.tally_allot.specs.internal.ShortSteps.{RiseSlowly, IsByVotes, AreFewestAbove, IsLowestOther, IsNumberOf, IsAnswerOf, AreAnswers, AreAnswersOf}
@@ -397,6 +397,3 @@ module _ (rule : Rule) (poll : Poll) (lot : List ℕ) (seats : ℕ) (numbers : L
 
   pub as_many : length numbers ≡ length poll.votes
   as_many = h.2.one_each
-
-  pub all_below : AreBelow 100000000000 numbers
-  all_below m x e = (number_at rule poll seats h.0 (length poll.votes) numbers h.2 m x e).below

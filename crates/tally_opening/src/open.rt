@@ -70,8 +70,10 @@ fn open_with_rowids<S: Alter>(
     }
 }
 
-/// The same of a connection that comes as a whole: so the prover knows that the store of one that
-/// is open is not broken, and that the rowids of a table differ. It is given back.
+/// Opens the database of an office, of today's version or of version 1, and answers its setup: its
+/// tables are those of a lawful state. Those of version 1 are taken over. The numbers of its
+/// returns are put into a tree. The connection comes as a whole, and is given back, so that the
+/// prover knows that the store of one that is open is not broken: the rowids of a table differ.
 pub fn open_in<S: Alter>(
     alloc: Global,
     conn: Connection<S>,

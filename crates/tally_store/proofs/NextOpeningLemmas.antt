@@ -11,7 +11,7 @@ use Rattle.sqlite_store.specs.FileStore.{view}
 use Rattle.sqlite_trees.specs.Objects.{catalog_tree}
 use Rattle.sqlite_trees.specs.Props.{Trees-set}
 use Rattle.sqlite_trees.specs.Tree.{Trees}
-use Rattle.sqlite_trees.specs.View.{IsClean, IsRolledBack, doubt}
+use Rattle.sqlite_trees.specs.View.{IsClean, IsRolledBack, View, doubt}
 use Rattle.sqlite.proofs.Theorems.{next_run}
 use Rattle.sqlite.specs.Effect.{Database, IsDatabase}
 use Rattle.sqlite.specs.Files.{IsOpened, file_state}
@@ -103,16 +103,16 @@ opens_whole next opened setup text s lawful whole = opens_as setup text s (file_
 
 -- ---- from one run to the next
 
--- what is known of files once they are given back, of the connection that had them
-pub clean_before : {D : Type 0} {g : Ghosts D} (conn closed : Held (FileStore D g)) (last : FileStore D g) → closed ≡ conn → doubt (view closed.store).is_clean ≤ doubt (view last).is_clean → IsClean (view last) → IsClean (view conn.store)
-clean_before conn closed last is counts clean =
-    let early : IsClean (view closed.store) = omega (arith, counts, clean) in
-    subst (λ (h : _). IsClean (view h.store)) is early
+-- what is known of a store once it is given back, of the connection that had it
+pub clean_before : {S : Type 0} (seen : S → View) (conn closed : Held S) (last : S) → closed ≡ conn → doubt (seen closed.store).is_clean ≤ doubt (seen last).is_clean → IsClean (seen last) → IsClean (seen conn.store)
+clean_before seen conn closed last is counts clean =
+    let early : IsClean (seen closed.store) = omega (arith, counts, clean) in
+    subst (λ (h : _). IsClean (seen h.store)) is early
 
-pub numbered_before : {D : Type 0} {g : Ghosts D} (conn closed : Held (FileStore D g)) (last : FileStore D g) → closed ≡ conn → IsRolledBack (view closed.store) (view last)
-    → (IsClean (view last) → IsTrue (view last).is_numbered) → IsClean (view last) → IsTrue (view conn.store).is_numbered
-numbered_before conn closed last is undone numbered clean =
-    subst (λ (h : _). IsTrue (view h.store).is_numbered) is (subst IsTrue undone.numbered (numbered clean))
+pub numbered_before : {S : Type 0} (seen : S → View) (conn closed : Held S) (last : S) → closed ≡ conn → IsRolledBack (seen closed.store) (seen last)
+    → (IsClean (seen last) → IsTrue (seen last).is_numbered) → IsClean (seen last) → IsTrue (seen conn.store).is_numbered
+numbered_before seen conn closed last is undone numbered clean =
+    subst (λ (h : _). IsTrue (seen h.store).is_numbered) is (subst IsTrue undone.numbered (numbered clean))
 
 module _ {D E : Type 0} {g : Ghosts D} {h : Ghosts E} (conn : Held (FileStore D g)) (next : Held (FileStore E h)) where
   pub finds_left : IsTrue (view conn.store).is_numbered → FindsWhatIsLeft conn next

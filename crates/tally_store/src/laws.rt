@@ -1,5 +1,6 @@
 //! What holds of every store.
 
+ghost use Rattle.std.specs.Prelude.{IsTrue};
 ghost use Rattle.sqlite_store.specs.FileStore.{view};
 ghost use Rattle.sqlite_trees.specs.View.{IsClean};
 ghost use Rattle.tally_store.specs.EnteredTwice.{HasRowsEnteredTwiceIn};
@@ -62,6 +63,17 @@ pub fn the_next_opening_finds_the_office<D: Disk + Drop, E: Disk + Drop>(
     ensures left { IsClean (view result) → FindsWhatIsLeft store.conn next.now }
     ensures opens { OpensWholeOffice next.now }
     ensures between { IsClean (view result) → FindsContent store.conn next.now store.setup }
+{
+    files_left(store)
+}
+
+/// Gives back what a store was over. If that is clean afterwards, it was before, and each of its
+/// trees had the number by which the file lists it.
+fn files_left<S: Alter + Drop>(store: Store<S>) -> S
+    ensures kept { IsKeptIn S.Store store }
+    ensures clean { IsClean (S.Store.view result) → IsClean (S.Store.view store.conn.store) }
+    ensures numbered { IsClean (S.Store.view result) →
+        IsTrue (S.Store.view store.conn.store).is_numbered }
 {
     // Called for what its contract says: between calls a crash leaves the last commit.
     a_crash_between_calls_leaves_the_last_commit(&store);
