@@ -272,6 +272,7 @@ def test_five_thousand_stations_and_sixty_lists():
     answers = answered_as(plain, "office.db", requests_of_the_country(con, last), COMMANDS)
     same([status for path, status, _ in answers if path.endswith(("/draw", "/certify"))], [409, 409, 409, 200, 200, 409, 200, 200])
     shown_as(plain, "office.db", [con.code], ("progress", "seats", "awards", "holders", "past", "stations", "returns"))
+    reads_each_return_once("office.db", con)
 
 
 # Comes before the C library. What is tried here is not the disk, and each commit would wait for it.
@@ -533,15 +534,29 @@ def test_each_command_at_the_last_revision_and_edition():
 TIMES = 5
 
 
+def has_taken(desk):
+    """The nanoseconds of the processor that a server has taken so far."""
+    # (the clock of a process, as Linux numbers it: clock_getcpuclockid)
+    return time.clock_gettime_ns(~desk.process.pid << 3 | 2)
+
+
 def spent(desk, *request, times=TIMES, status=200):
     """The fewest nanoseconds of the processor that an answer takes, of so many of this status: other work on the machine adds to some."""
-    # (the clock of a process, as Linux numbers it: clock_getcpuclockid)
-    clock, took = ~desk.process.pid << 3 | 2, []
+    took = []
     for _ in range(times):
-        before = time.clock_gettime_ns(clock)
+        before = has_taken(desk)
         same((request[:2], desk.ask(*request)[0]), (request[:2], status))
-        took.append(time.clock_gettime_ns(clock) - before)
+        took.append(has_taken(desk) - before)
     return min(took)
+
+
+def reads_each_return_once(db, con):
+    """To publish the returns takes at most a quarter of the opening, which reads the same rows, and more."""
+    with serving(db, 2 * TIMES) as desk:
+        opening = has_taken(desk)
+        for report in ("returns", "stations"):
+            took = spent(desk, *get(f"/con/{con.code}/{report}"))
+            assert SMALLER > 1 or 4 * took <= opening, f"the {report}: {took} ns, and the opening {opening}"
 
 
 def costs_no_more(what, most, least):

@@ -1186,6 +1186,7 @@ def test_an_office_that_opens():
     shows("stations", "STATIONS c1 Twin Town\nstations 1 missing 1 closed 0\ns1                   300 -\n")
     shows("returns", "station,slip,blank,spoiled,A,B\n")
     shows("country", COUNTRY_OPEN, con=None)
+    shows("country", COUNTRY_OPEN, con="zz")
     for report in ("seats", "quotients", "awards", "quota", "holders", "short"):
         same(show(report), Ran(1, "", "refused: not_certified\n"))
     for con in ("zz", "no code", "", "C1", "c1 "):
@@ -2511,7 +2512,8 @@ def two_entries():
 
 
 def entries_at_random(plain, draw, count):
-    """Requests on returns, and certificates: most name the present revision and bring what is recorded, or nearly."""
+    """Requests on returns, and certificates: most name the present revision and bring what is recorded, or nearly. At last the returns of
+    all stations are tried and imported."""
     for _ in range(count):
         con = draw.choice(list(plain.cons.values()))
         code = draw.choice(list(con.electors))
@@ -2525,6 +2527,9 @@ def entries_at_random(plain, draw, count):
                 "certify": {"edition": con.edition}, "reopen": {"edition": con.edition, "note": "recount"}}[verb]
         yield post(f"/con/{con.code}/{verb}" if "edition" in body else f"/station/{code}/{verb}", **body)
         yield get(draw.choice((f"/station/{code}", f"/con/{con.code}", "/progress", "/country", f"/con/{con.code}/stations", f"/con/{con.code}/returns")))
+    for con in plain.cons.values():
+        rows = "".join(f"{station},p1,0,0,100,100\n" for station in con.electors)
+        yield from [("POST", f"/con/{con.code}/{verb}", f"station,slip,blank,spoiled,{','.join(con.lists)}\n{rows}") for verb in ("trial", "import")]
 
 
 def test_returns_that_are_entered_twice():

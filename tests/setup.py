@@ -271,6 +271,7 @@ def test_the_line_and_the_byte_at_which_a_text_ceases_to_be_toml():
     comes_to("not_toml / at line 3, column 6", b"a = 1\n\nb = \"\xff\"\n")
     comes_to("not_toml / at line 2, column 2", "a = 1\nb\n")
     comes_to("not_toml / at line 2, column 1", "a = 1\na = 2\n")
+    comes_to("not_toml / at line 1, column 6", "a =  ,\n")
     # A column counts bytes: the letter before has two.
     comes_to("not_toml / at line 1, column 8", "a = \"ä\nb")
     comes_to("not_toml / at line 2, column 8", b"a = 1\nb = \"\xc3\xa4\xff\"")
