@@ -707,40 +707,35 @@ def test_a_database_with_two_names():
     only("office.db", "other.db")
 
 
-def test_files_in_a_folder_of_a_long_name():
-    """As long as C SQLite takes, which reads the file at the end: 512 bytes in all."""
-    folder = "x" * 200 + "/" + "y" * 180
-    os.makedirs(folder)
-    db, setup, csv = (f"{folder}/{name}" for name in ("office.db", "setup.toml", "returns.csv"))
+def has_all_at(db):
+    """An office is made at this path, takes returns, shows them and serves them. No file is left beside those of the test."""
+    folder, progress = os.path.dirname(db) or ".", "c1                    3      0      3      0      0      0      1 open\n"
+    os.makedirs(folder, exist_ok=True)
+    setup, csv = (os.path.join(folder, name) for name in ("setup.toml", "returns.csv"))
     write(setup, THREE_STATIONS)
     write(csv, RETURNS)
     done("constituencies 1\n", "new", "--db", db, "--setup", setup)
     done("lodged 3\nsame 0\ndiffers 0\nrefused 0\nbad 0\nfirst -\n", "import", "--db", db, "--con", "c1", "--csv", csv)
-    shows("progress", "c1                    3      0      3      0      0      0      1 open\n", con=None, db=db)
+    shows("progress", progress, con=None, db=db)
     with serving(db, 1) as desk:
-        desk.get("/progress", "c1                    3      0      3      0      0      0      1 open\n")
-    same(sorted(os.listdir(folder)), ["office.db", "returns.csv", "setup.toml"])
+        desk.get("/progress", progress)
+    same(sorted(it.name for it in os.scandir(folder) if it.is_file()), sorted((os.path.basename(db), "returns.csv", "setup.toml")))
+
+
+def test_files_in_a_folder_of_a_long_name():
+    """As long as C SQLite takes, which reads the file at the end: 512 bytes in all."""
+    has_all_at(f"{'x' * 200}/{'y' * 180}/office.db")
 
 
 def test_files_of_the_longest_names():
     """As long as a name and a path may be, beside which a journal of SQLite has eight bytes more: of letters, of characters of many bytes and of
     others, in this folder, by the whole path, and in folders as deep as may be."""
     folders = "/".join(["x" * 250] * 15)
-    os.makedirs(folders)
     long, of_many_bytes, odd = "o" * 247, "ñ" * 118 + "o" * 11, "'\"$;#%? ~\\"
     deep = f"{folders}/{'y' * (4087 - len(f'{os.getcwd()}/{folders}//'.encode()) - 247)}"
     for place in (f"{deep}/{long}", f"{deep}/{of_many_bytes}", os.path.abspath(of_many_bytes), odd):
-        os.makedirs(os.path.dirname(place) or ".", exist_ok=True)
-        setup, csv = (os.path.join(os.path.dirname(place), other) for other in ("setup.toml", "returns.csv"))
-        write(setup, THREE_STATIONS)
-        write(csv, RETURNS)
-        done("constituencies 1\n", "new", "--db", place, "--setup", setup)
-        done("lodged 3\nsame 0\ndiffers 0\nrefused 0\nbad 0\nfirst -\n", "import", "--db", place, "--con", "c1", "--csv", csv)
-        shows("progress", "c1                    3      0      3      0      0      0      1 open\n", con=None, db=place)
-        with serving(place, 1) as desk:
-            desk.get("/progress", "c1                    3      0      3      0      0      0      1 open\n")
+        has_all_at(place)
         os.remove(place)
-        same(sorted(set(os.listdir(os.path.dirname(place) or ".")) - {"x" * 250}), ["returns.csv", "setup.toml"])
 
 
 # ---- opening
