@@ -496,8 +496,7 @@ def no_more_crates_are_proved_at_a_time_than_a_container_has_memory_for(copy):
         text = text.replace(line, f"{line.partition('=')[0]}={'(' if '(' in line else ''}'{file}'{' ' if '(' in line else ''}")
     launcher.write_text(text)
     memory.write_text("MemTotal: 99000000 kB\nMemAvailable: 24000000 kB\n")
-    processors = len(os.sched_getaffinity(0))
-    wanted = processors + processors // 4 * 2
+    wanted = 2 * len(os.sched_getaffinity(0))
     for said, room in (("max", 8), ("9223372036854771712", 8), ("6500000000", 2), ("1000000", 1)):
         limit.write_text(f"{said}\n")
         append(copy.root / "crates.txt", "# changed\n")
@@ -631,10 +630,10 @@ def a_machine_that_is_slower_than_the_record_takes_longer(copy):
 
 
 def minutes_left_shrink_as_a_build_goes_on(copy):
-    copy.record({**RECORDED, "tally_setup": 1800, "tally_report": 1200, "tally_door": 1})
-    crates = "".join(f"echo '== {name}'\n" for name in NAMES if name not in ("tally_frac", "tally_office", "tally_door"))
-    door = "echo '== tally_door'\necho 'logic=proved functions=7 sum=0'\n"
-    copy.plan(TIMED.format(3).replace("printf", crates + door + "printf"))
+    copy.record({**RECORDED, "tally_setup": 1800, "tally_report": 1200, "tally_message": 1})
+    crates = "".join(f"echo '== {name}'\n" for name in NAMES if name not in ("tally_frac", "tally_office", "tally_message"))
+    message = "echo '== tally_message'\necho 'logic=proved functions=7 sum=0'\n"
+    copy.plan(TIMED.format(3).replace("printf", crates + message + "printf"))
     lines = copy.run("check")[2].splitlines()
     assert minutes_in(lines[1]) >= 80 and minutes_in(lines[2]) >= 56, lines
     assert lines[3] == f"office: {CRATES - 3} of {CRATES} crates were proved before and are taken over", lines
@@ -643,7 +642,7 @@ def minutes_left_shrink_as_a_build_goes_on(copy):
 
 def what_an_earlier_build_left_is_taken_over(copy):
     copy.record(RECORDED)
-    kept = ["tally_frac", "tally_setup", "tally_door", "tally_schema"]
+    kept = ["tally_frac", "tally_setup", "tally_message", "tally_schema"]
     for crate in kept:
         copy.keep(crate)
     taken = f"of {CRATES} crates were proved before and are taken over"
@@ -671,21 +670,21 @@ def what_an_earlier_build_left_is_taken_over(copy):
 
 
 def a_build_notes_when_its_parts_ended(copy):
-    copy.plan(TIMED.format(3).replace("printf", "echo '== tally_door'; echo '== tally_office'; echo logic=proved functions=1; printf"))
+    copy.plan(TIMED.format(3).replace("printf", "echo '== tally_message'; echo '== tally_office'; echo logic=proved functions=1; printf"))
     begun = time.monotonic()
     copy.run("check")
     took = time.monotonic() - begun
     lines = [line.split() for line in (copy.out / "office.ends").read_text().splitlines()]
-    assert [line[0] for line in lines] == ["workers", "reading", "tally_frac", "tally_door", "tally_office", "building"]
+    assert [line[0] for line in lines] == ["workers", "reading", "tally_frac", "tally_message", "tally_office", "building"]
     assert [line[2] for line in lines[1:]] == ["new", "new", "kept", "new", "new"], lines
     (copy.root / "bench").mkdir()
     shutil.copy(ROOT / "bench/building.py", copy.root / "bench")
     record = copy.root / "bench/crate_seconds.txt"
-    record.write_text("# a comment\nreading 900\ntally_door 40\ntally_gone 7\n")
+    record.write_text("# a comment\nreading 900\ntally_message 40\ntally_gone 7\n")
     subprocess.run([sys.executable, copy.root / "bench/building.py"], check=True, capture_output=True)
     written = dict(line.split() for line in record.read_text().splitlines() if not line.startswith("#"))
-    assert [*written] == ["reading", "tally_door", "tally_frac", "tally_office", "building"], written
-    assert written["tally_door"] == "40" and 3 <= int(written["reading"]) <= took + 1 and int(written["tally_frac"]) <= max(took - 3, 3), written
+    assert [*written] == ["reading", "tally_frac", "tally_message", "tally_office", "building"], written
+    assert written["tally_message"] == "40" and 3 <= int(written["reading"]) <= took + 1 and int(written["tally_frac"]) <= max(took - 3, 3), written
 
 
 def a_build_that_is_silent_is_spoken_of_all_the_same(copy):

@@ -6,3 +6,4 @@ pub mod Show
 pub mod Imported
 pub mod Made
 pub mod Served
+pub mod Offices

@@ -15,7 +15,7 @@ use Rattle.tally_returns.specs.declared.reply.Reply.TheVariants as reply
 use Rattle.tally_returns.specs.declared.station_row.StationRow.{StationRow}
 use Rattle.tally_keeper.specs.Keeper.{Happens, request}
 use Rattle.tally_keeper.specs.Shown.{ShowsReturns}
-use Rattle.tally_desk.specs.Shown.{ShowsAll}
+use Rattle.tally_overview.specs.Views.{ShowsAll}
 use Rattle.tally_overview.specs.CountryText.{country_text}
 use Rattle.tally_report.specs.ProgressText.{progress_text}
 use Rattle.tally_report.specs.declared.fault.ReportFault.{ReportFault}

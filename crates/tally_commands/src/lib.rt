@@ -1,10 +1,11 @@
 //! What the commands of the program do over an office that is open: reports and the progress as
-//! text, imports, and why a command was not done.
+//! text, imports; why a command was not done; and what the offices are that commands open.
 #![tactic(auto)]
 
 mod import;
 mod make;
 mod named;
+mod offices;
 mod place;
 mod serve;
 mod show;
@@ -13,10 +14,11 @@ mod trouble;
 
 pub use import::{has_con, import_from, import_returns};
 pub use make::{CONSTITUENCIES_ROOM, constituencies_text, judge_setup};
+pub use offices::Offices;
 pub use serve::{LISTENING_ROOM, SERVED_ROOM, listening_text, served_text};
 pub use show::{show_country, show_progress, show_report, show_stations};
 pub use standard_error::tell;
 pub use tally_import::{Sep, Watch};
 pub use tally_overview::{Shown, StationsReport};
 pub use tally_report::Report;
-pub use trouble::{FAILED, REFUSED, Trouble};
+pub use trouble::{FAILED, REFUSED, Trouble, is_memory};

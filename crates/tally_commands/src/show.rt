@@ -19,9 +19,10 @@ ghost use Rattle.tally_commands.specs.internal.Withheld.{IsWithheld, OfCon, refu
 use crate::named::code_named;
 use crate::trouble::Trouble;
 use std::alloc::Global;
-use tally_desk::{all_views, country_report, progress_of, view_for};
 use tally_keeper::{ConView, Keeper, ProgressRow, Refusal, StationRow};
-use tally_overview::{StationsReport, stations_report_text};
+use tally_overview::{
+    StationsReport, all_views, country_report, progress_of, stations_report_text, view_for,
+};
 use tally_report::{Report, progress_text, report_text};
 use tally_setup::{Code, Setup};
 

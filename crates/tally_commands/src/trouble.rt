@@ -1,6 +1,7 @@
 //! Why a command was not done.
 
-ghost use Rattle.std.specs.Prelude.{◌≡◌, ◌≢◌, ◌++◌, Option};
+ghost use Rattle.std.specs.Prelude.{◌≡◌, ◌≢◌, ◌↔◌, ◌++◌, IsTrue, Option};
+ghost use Rattle.std.specs.IoError.{error_kind};
 ghost use Rattle.tally_rules.specs.declared.fault.SetupFault.{SetupFault};
 ghost use Rattle.tally_rules.specs.declared.place.Place.{Place};
 ghost use Rattle.tally_commands.specs.declared.trouble.Trouble.TheVariants.{Setup};
@@ -15,7 +16,7 @@ ghost use Rattle.tally_commands.specs.internal.Put.{IsPut};
 
 use crate::place::put_place;
 use crate::standard_error::{put, put_named, tell};
-use std::io::Write;
+use std::io::{self, ErrorKind, Write};
 use tally_import::CheckFault;
 use tally_keeper::{CreateFault, ImportFault, OpenFault};
 use tally_report::ReportFault;
@@ -202,6 +203,13 @@ impl Trouble {
             Trouble::Port => "failed: port\n",
         }
     }
+}
+
+/// Whether a call of the system failed because it was out of memory.
+pub fn is_memory(error: &io::Error) -> bool
+    ensures { IsTrue result ↔ error_kind error.now ≡ ErrorKind.OutOfMemory }
+{
+    matches!(error.kind(), ErrorKind::OutOfMemory)
 }
 
 /// A copy, field by field: the borrow checker accepts no other one through a reference.

@@ -1,3 +1,2 @@
 pub mod ServeLemmas
-pub mod CountryLemmas
 pub mod DeskLemmas

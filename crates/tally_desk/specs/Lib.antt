@@ -3,4 +3,3 @@ pub mod Serving
 pub mod Respond
 pub mod Requests
 pub mod Reports
-pub mod Shown

@@ -48,7 +48,7 @@ use Rattle.tally_answer.specs.Outcome.{outcome_text}
 use Rattle.tally_answer.specs.Shown.{shown_con, shown_return}
 use Rattle.tally_answer.specs.Words.{word_text}
 use Rattle.tally_desk.specs.Reports.{IsReportText}
-use Rattle.tally_desk.specs.Shown.{ShowsAll}
+use Rattle.tally_overview.specs.Views.{ShowsAll}
 
 -- ---- answers of the desk itself, which leave the state
 

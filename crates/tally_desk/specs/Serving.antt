@@ -3,7 +3,7 @@ use Rattle.std.specs.Prelude.{◌≡◌, ℕ, ◌+◌, Bool, true, false, if◌t
 use Rattle.std.specs.Prelude.{◌++◌, length, take, drop, Option, Some, None, option_to_list, Vec}
 use Rattle.std.specs.Prelude.{Result, Ok, Err}
 use Rattle.std.specs.declared.alloc.Global.{Global}
-use Rattle.tally_door.specs.Connection.{Connection, Connections}
+use Rattle.tally_message.specs.Connection.{Connection, Connections}
 use Rattle.tally_message.specs.Message.{IsMessageOrFault}
 use Rattle.tally_message.specs.declared.message.Message.{Message}
 use Rattle.tally_message.specs.declared.message.MessageFault.{MessageFault}

@@ -15,9 +15,8 @@ use std::alloc::Global;
 use std::marker::Model;
 use tally_answer::unavailable_text;
 use tally_asks::{Route, desk_router};
-use tally_door::Door;
 use tally_keeper::Keeper;
-use tally_message::{Message, MessageFault};
+use tally_message::{Door, Message, MessageFault};
 
 /// The routes of a desk.
 #[derive(Drop)]

@@ -11,14 +11,12 @@ mod responder;
 mod room;
 pub mod serving;
 mod show;
-mod shown;
 mod stations;
 mod trial;
 
-pub use country::{all_views, country_report};
 pub use desk::serve;
 pub use responder::Responder;
 pub use serving::Served;
-pub use shown::{progress_of, view_for};
-pub use tally_door::{Door, DoorFault, MemoryConn, MemoryDoor, NoClock, TcpDoor};
-pub use tally_message::{Message, MessageFault, read_message};
+pub use tally_message::{
+    Door, DoorFault, MemoryConn, MemoryDoor, Message, MessageFault, NoClock, TcpDoor, read_message,
+};

@@ -1,7 +1,8 @@
 //! Answers to GET.
 
-ghost use Rattle.std.specs.Prelude.{◌≡◌, IfSome, Some};
+ghost use Rattle.std.specs.Prelude.{◌≡◌, IfOk, IfSome, Some};
 ghost use Rattle.tally_returns.specs.View.{FitsView};
+ghost use Rattle.tally_returns.specs.declared.ask.Ask.TheVariants.{ShowReturn};
 ghost use Rattle.tally_setup.specs.Constituency as value;
 ghost use Rattle.tally_setup.specs.Setup.{constituency_with};
 ghost use Rattle.tally_desk.specs.Reports.{IsReportText};
@@ -13,18 +14,19 @@ ghost use Rattle.tally_answer.specs.declared.status.BodyType.TheVariants as body
 ghost use Rattle.tally_report.specs.ProgressText.{progress_text};
 ghost use Rattle.tally_report.specs.Reports.{IsEnoughFor};
 ghost use Rattle.tally_asks.specs.declared.routes.Route.TheVariants as route;
+ghost use Rattle.tally_keeper.specs.Keeper.{Happens, request};
 ghost use Rattle.tally_keeper.specs.StaysKeeper.{StaysKeeper};
-ghost use Rattle.tally_desk.specs.internal.Gives.{GivesBy, GivesOn};
+ghost use Rattle.tally_desk.specs.internal.Gives.{GivesBy, GivesOn, as_return};
 ghost use Rattle.tally_desk.specs.Requests.{ShowsProgress};
 
 use crate::named::{con_in_target, station_in_target};
 use crate::report::report_answer;
 use crate::room::{Room, json_answer, text_answer};
-use crate::shown::{progress_of, return_of, view_for};
 use std::alloc::Global;
 use tally_answer::{con_text, return_text};
-use tally_keeper::{ConView, Keeper, ProgressRow, Refusal, Return};
+use tally_keeper::{Ask, ConView, Keeper, ProgressRow, Refusal, Reply, Return};
 use tally_message::Message;
+use tally_overview::{progress_of, view_for};
 use tally_report::{Report, progress_text};
 use tally_setup::{Code, Constituency, Setup};
 
@@ -96,6 +98,22 @@ pub(crate) fn show_progress<K: Keeper>(alloc: Global, keeper: &mut K) -> Option<
     match progress_of(keeper) {
         Ok(rows) => progress_answer(alloc, &rows),
         Err(refusal) => Some(room.refusal(refusal)),
+    }
+}
+
+/// The return of a station. It is shown, and nothing changes.
+fn return_of<K: Keeper>(keeper: &mut K, station: Code) -> Result<Return, Refusal>
+    ensures stays { StaysKeeper K.Keeper keeper.old keeper.new }
+    ensures shows { K.IsTrusted keeper.new
+        → Happens (K.constituencies keeper.old) (K.content keeper.old)
+        (request (ShowReturn station) (as_return result)) (K.content keeper.new) }
+    ensures kept { K.IsTrusted keeper.new
+        → IfOk result (λ _. K.content keeper.new ≡ K.content keeper.old) }
+{
+    match keeper.answer(&Ask::ShowReturn { station }) {
+        Ok(Reply::Return(kept)) => Ok(kept),
+        Ok(_) => unreachable!(),
+        Err(refusal) => Err(refusal),
     }
 }
 

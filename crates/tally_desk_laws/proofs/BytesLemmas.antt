@@ -2,7 +2,7 @@
 use Rattle.std.specs.Prelude.{IfSome}
 use Rattle.std.proofs.Common.{◌≡◌, ◌≢◌, ◌⊎◌, ℕ, List, Bool, Option, Some, None, Result, Ok, Err, refl, sym, ap, subst, inl, inr}
 use Rattle.tally_keeper.specs.Keeper.{Event}
-use Rattle.tally_door.specs.Connection.{Connection}
+use Rattle.tally_message.specs.Connection.{Connection}
 use Rattle.tally_returns.specs.State.{State}
 use Rattle.tally_message.specs.LawStatements.{BytesAreOneMessage, IsSame}
 use Rattle.tally_message.specs.Message.{IsMessageOrFault}

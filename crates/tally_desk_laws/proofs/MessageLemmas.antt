@@ -22,7 +22,7 @@ use Rattle.tally_keeper.specs.Source.{Coming, Delivery}
 use Rattle.tally_keeper.specs.declared.import.ImportCount.{ImportCount}
 use Rattle.tally_keeper.specs.declared.source.ImportFault.{ImportFault}
 use Rattle.tally_import.specs.ReturnRows.{text_coming}
-use Rattle.tally_door.specs.Connection.{Connection}
+use Rattle.tally_message.specs.Connection.{Connection}
 use Rattle.tally_message.specs.declared.message.Message.{Message}
 use Rattle.tally_message.specs.declared.message.MessageFault.{MessageFault}
 use Rattle.tally_message.specs.declared.message.MessageFault.TheVariants as fault

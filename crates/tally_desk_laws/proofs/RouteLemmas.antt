@@ -29,7 +29,7 @@ use Rattle.tally_asks.specs.declared.routes.StationCommand.{StationCommand}
 use Rattle.tally_desk_laws.specs.LawStatements.{IsImportRoute}
 use Rattle.tally_desk.specs.Requests.{Asks, HasConText, HasProgressText, HasReportText, HasReturnText, ImportsBody, Named, AtCon, AtNamed, AtStation, Orders, ShowsRows, TriesBody, con_in_target, returns_answer, station_in_target, stations_answer}
 use Rattle.tally_desk.specs.Respond.{IsAnswerOn}
-use Rattle.tally_desk.specs.Shown.{ShowsAll}
+use Rattle.tally_overview.specs.Views.{ShowsAll}
 use Rattle.tally_report.specs.declared.report.Report.{Report}
 
 -- ---- what is shown

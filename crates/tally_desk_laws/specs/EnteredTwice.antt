@@ -20,7 +20,7 @@ use Rattle.tally_keeper.specs.Keeper.{Event, request, whole_import, failed_impor
 use Rattle.tally_keeper.specs.declared.import.Row.{Row}
 use Rattle.tally_records.specs.declared.separator.Sep.{Sep}
 use Rattle.tally_import.specs.ReturnRows.{text_coming}
-use Rattle.tally_door.specs.Connection.{Connection}
+use Rattle.tally_message.specs.Connection.{Connection}
 use Rattle.tally_message.specs.Message.{IsMessageOrFault}
 use Rattle.tally_message.specs.declared.message.Message.{Message}
 use Rattle.tally_desk.specs.Serving.{Serves}

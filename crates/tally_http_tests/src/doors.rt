@@ -9,7 +9,7 @@ use std::io::{ErrorKind, Read, Write};
 use std::net::{Shutdown, TcpListener, TcpStream};
 use std::test::Fail;
 use std::time::{Clock, Duration, Instant};
-use tally_door::{Door, DoorFault, MemoryConn, MemoryDoor, TcpDoor, write_all};
+use tally_message::{Door, DoorFault, MemoryConn, MemoryDoor, TcpDoor, write_all};
 
 // A connection that gives a text.
 fn conn(

@@ -1,5 +1,5 @@
-//! Tests of the crates that read and write messages of HTTP, `tally_door`, `tally_message` and
-//! `tally_answer`. They are checked once, over the finished proofs of these crates. Nothing here is
+//! Tests of the crates that read and write messages of HTTP, `tally_message` and `tally_answer`.
+//! They are checked once, over the finished proofs of these crates. Nothing here is
 //! public, so there are no must-fail edits. Routes and bodies are tried on the program.
 #![tactic(auto)]
 

@@ -2,8 +2,7 @@
 
 use std::alloc::Global;
 use std::test::Fail;
-use tally_door::{Door, DoorFault};
-use tally_message::{Message, read_message};
+use tally_message::{Door, DoorFault, Message, read_message};
 
 /// A door of one connection, which gives its text by so many bytes at a time and then ends or
 /// fails.

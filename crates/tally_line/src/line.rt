@@ -55,7 +55,7 @@ const MOST_PORT: u64 = 65535;
 const MOST_COUNT: u64 = 1_000_000;
 
 /// What a command line asks for. A text is as it was given.
-#[derive(Debug, PartialEq, Eq, Drop)]
+#[derive(Drop)]
 pub enum Line {
     /// Check the returns on standard input, and with `rows` name each row that is not lodged.
     Check {
@@ -91,7 +91,7 @@ pub enum Line {
 }
 
 /// Why a command line asks for nothing that can be done.
-#[derive(Debug, Drop)]
+#[derive(Drop)]
 pub enum LineFault {
     /// A wrong command line, or one that asks for help or the version: `clap`'s error has the text.
     Usage(clap::Error),

@@ -12,7 +12,7 @@ use Rattle.httparse.specs.declared.spans.RequestSpans.{RequestSpans}
 use Rattle.httparse.proofs.GrammarLemmas.{ReadsRequest-append}
 use Rattle.std.specs.List.{list_any}
 use Rattle.std.specs.Str.Parse.{digits_value}
-use Rattle.tally_door.specs.Connection.{Connection}
+use Rattle.tally_message.specs.Connection.{Connection}
 use Rattle.tally_message.specs.internal.Reading.{IsBodyOrFault}
 use Rattle.tally_message.specs.Message.{OnlyReadsInput, FailsAs, head_limit, field_limit, body_limit, NameAndValue, is_field_named, values_of, single_value, is_content_length, content_length, length_by, BeginsWithHead, Announces, IsFault, IsMessageOrFault, HasCutBody, announced_length, body_length}
 use Rattle.tally_message.specs.internal.Start.{IsStart, IsFaultyStart}

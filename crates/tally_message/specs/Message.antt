@@ -10,7 +10,7 @@ use Rattle.std.specs.Str.Parse.{digits_value}
 use Rattle.http.specs.Token.{IsToken}
 use Rattle.httparse.specs.Grammar.{RequestHead, ReadsRequest, print_request}
 use Rattle.httparse.specs.Spans.{name_and_value}
-use Rattle.tally_door.specs.Connection.{Connection}
+use Rattle.tally_message.specs.Connection.{Connection}
 use Rattle.tally_message.specs.declared.message.Message.{Message}
 use Rattle.tally_message.specs.declared.message.MessageFault.{MessageFault}
 use Rattle.tally_message.specs.declared.message.MessageFault.TheVariants.{BadHead, HeadTooLong}

@@ -1,13 +1,13 @@
 //! Reading a body.
 
 ghost use Rattle.std.specs.Prelude.{◌≡◌, ◌<◌, ◌≤◌, true, length, vec_len};
-ghost use Rattle.tally_door.specs.Connection.{ChangesCurrent};
+ghost use Rattle.tally_message.specs.Connection.{ChangesCurrent};
 ghost use Rattle.tally_message.specs.Message.{TakesAtMost};
 ghost use Rattle.tally_message.specs.internal.Reading.{ReadsBody};
 
+use crate::door::Door;
 use crate::input::{Input, read_more};
 use crate::message::MessageFault;
-use tally_door::Door;
 
 /// Reads the rest of a body of `count` bytes, of which the first may have come. It comes by way of
 /// `piece`.

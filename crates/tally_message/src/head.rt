@@ -3,18 +3,18 @@
 ghost use Rattle.std.specs.Prelude.{◌≡◌, ◌≤◌, true, length, take, IfOk, IfErr, IfSome, IfNone};
 ghost use Rattle.httparse.specs.Grammar.{HasNoRequest};
 ghost use Rattle.httparse.specs.Spans.{IsRequestWithin, IsRequestOf, RequestOverflows};
-ghost use Rattle.tally_door.specs.Connection.{ChangesCurrent};
+ghost use Rattle.tally_message.specs.Connection.{ChangesCurrent};
 ghost use Rattle.tally_message.specs.Message.{head_limit, field_limit, TakesAtMost};
 ghost use Rattle.tally_message.specs.internal.Lines.{lines_of};
 ghost use Rattle.tally_message.specs.internal.Reading.{ReadsHead};
 ghost use Rattle.tally_message.specs.declared.message.MessageFault.TheVariants.{BadHead};
 
+use crate::door::Door;
 use crate::input::{Input, read_more};
 use crate::lines::Lines;
 use crate::message::MessageFault;
 use httparse::Status;
 use httparse::spans::{HeaderSpan, RequestSpans, parse_request};
-use tally_door::Door;
 
 /// The most bytes of a head.
 pub(crate) const HEAD_LIMIT: usize = 16_384;

@@ -1,12 +1,12 @@
 //! Reading what comes next of a connection.
 
 ghost use Rattle.std.specs.Prelude.{◌≡◌, ◌≤◌, ◌<◌, ◌-◌, true, length, take};
-ghost use Rattle.tally_door.specs.Connection.{ChangesCurrent};
+ghost use Rattle.tally_message.specs.Connection.{ChangesCurrent};
 ghost use Rattle.tally_message.specs.Message.{TakesAtMost};
 ghost use Rattle.tally_message.specs.internal.Reading.{ReadsOnto};
 ghost use Rattle.tally_message.specs.declared.input.Input.TheVariants.{Bytes};
 
-use tally_door::Door;
+use crate::door::Door;
 
 /// What a read of a connection came to.
 #[derive(Clone, Copy)]

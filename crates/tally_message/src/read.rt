@@ -1,16 +1,16 @@
 //! Reading a message.
 
 ghost use Rattle.std.specs.Prelude.{◌≡◌, true};
-ghost use Rattle.tally_door.specs.Connection.{ChangesCurrent};
+ghost use Rattle.tally_message.specs.Connection.{ChangesCurrent};
 ghost use Rattle.tally_message.specs.Message.{HasReadMessage, TakesWithinLimits, FailsAs};
 
 use crate::body::read_body;
+use crate::door::Door;
 use crate::head::{FIELD_LIMIT, HEAD_LIMIT, read_head};
 use crate::message::{Message, MessageFault};
 use crate::start::start_in;
 use httparse::spans::EMPTY_HEADER_SPAN;
 use std::alloc::Global;
-use tally_door::Door;
 
 /// Reads a message from the current connection. What follows its body is not looked at. Nothing is
 /// written.

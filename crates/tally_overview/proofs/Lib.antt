@@ -1,2 +1,4 @@
 pub mod TotalLemmas
 pub mod WritingLemmas
+pub mod ViewLemmas
+pub mod CountryLemmas

@@ -3,3 +3,4 @@ pub mod CountryText
 pub mod ReturnsText
 pub mod Shown
 pub mod StationsText
+pub mod Views

@@ -23,7 +23,7 @@ use std::alloc::{AllocError, Global};
 use std::collections::BTreeMap;
 use tally_report::{CODE_WIDTH, ReportFault, push_left, push_number};
 use tally_returns::ConView;
-use tally_setup::{Code, Constituency, ListEntry};
+use tally_setup::{Code, Constituency, ListEntry, Setup};
 
 /// The seats and the votes of a list over constituencies.
 #[derive(Clone, Copy)]
@@ -81,6 +81,19 @@ pub fn country_text(
     text.push_str("\n")?;
     push_pair(&mut text, "seats", seats, "majority", seats / 2 + 1)?;
     Ok(text)
+}
+
+/// The country of a setup, whose constituencies have these views.
+pub fn country_report(
+    alloc: Global,
+    setup: &Setup,
+    views: &[ConView],
+) -> Result<String, ReportFault>
+    requires { AllZip FitsView setup.now views.now }
+    ensures text { IfOk result (λ text. string_bytes text ≡ country_text setup.now views.now) }
+    ensures fault { IfErr result (λ fault. fault ≡ Memory) }
+{
+    country_text(alloc, setup.cons(), views)
 }
 
 /// What is counted of the views of constituencies.

@@ -1,13 +1,16 @@
-//! The texts that go over many stations or constituencies: the returns of a constituency as CSV,
-//! its stations, and the country; and the names of all that is shown of an office.
+//! What a keeper shows for reports; the texts that go over many stations or constituencies: the
+//! returns of a constituency as CSV, its stations, and the country; and the names of all that is
+//! shown of an office.
 #![tactic(auto)]
 
 mod country;
 mod returns;
 mod shown;
 mod stations;
+mod views;
 
-pub use country::country_text;
+pub use country::{country_report, country_text};
 pub use returns::returns_text;
 pub use shown::{Shown, StationsReport, stations_report_text};
 pub use stations::stations_text;
+pub use views::{all_views, progress_of, view_for};

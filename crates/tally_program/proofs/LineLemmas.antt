@@ -10,7 +10,8 @@ use Rattle.tally_line.specs.Line.{CheckSeen, ImportSeen, IsRefusal, LineSeen, Ne
 use Rattle.tally_line.specs.declared.line.LineFault.{LineFault}
 use Rattle.tally_line.specs.declared.line.LineFault.TheVariants.{Usage, NoCon, Memory}
 use Rattle.tally_line.proofs.CommandLemmas.{lacks_con_alone}
-use Rattle.tally_program.specs.Commands.{AtPath, AtPort, Bytes, IsAnyText, IsOutcomeReported, IsWritten, NotListening, OpeningOutcome, Resource, TakesCourse, command_status}
+use Rattle.tally_commands.specs.Offices.{AtPath, AtPort, OpeningOutcome, Resource}
+use Rattle.tally_program.specs.Commands.{Bytes, IsAnyText, IsOutcomeReported, IsWritten, NotListening, TakesCourse, command_status}
 use Rattle.tally_program.specs.Perform.{Performs, PerformsLine}
 use Rattle.tally_program.specs.internal.Fault.{fault_status}
 use Rattle.tally_program.specs.Troubles.{IsTroubleOfServe}

@@ -9,7 +9,8 @@ use Rattle.tally_commands.specs.Served.{IsServedText, listening_line, served_lin
 use Rattle.tally_commands.specs.Reported.{IsReported}
 use Rattle.tally_commands.specs.declared.trouble.Trouble.{Trouble}
 use Rattle.tally_commands.specs.declared.trouble.Trouble.TheVariants as trouble
-use Rattle.tally_program.specs.Commands.{Bytes, IsAnyText, IsTroubleOfListening, IsWritten, Listened, NotListening, OpeningOutcome, TakesCourse}
+use Rattle.tally_commands.specs.Offices.{OpeningOutcome}
+use Rattle.tally_program.specs.Commands.{Bytes, IsAnyText, IsTroubleOfListening, IsWritten, Listened, NotListening, TakesCourse}
 use Rattle.tally_program.specs.Troubles.{IsTroubleOfEnding, IsTroubleBeforeServing}
 
 appends-nothing : (held : Option (List ℕ)) → Appends held held []

@@ -2,6 +2,7 @@
 -- contract says what is in its files.
 use Rattle.std.specs.Prelude.{◌≡◌, ◌⊎◌, ℕ, List, Option, Result, Ok, Err, IfErr, take}
 use Rattle.std.specs.Io.KnownBytes.{Appends}
+use Rattle.tally_commands.specs.Offices.{OpeningOutcome}
 use Rattle.tally_commands.specs.Served.{IsServedText, listening_line}
 use Rattle.tally_commands.specs.Reported.{IsReported}
 use Rattle.tally_commands.specs.Trouble.{IsTroubleOfOpening, trouble_line, trouble_status}
@@ -74,19 +75,6 @@ pub data Course : Type 0 where
 abbrev pub outcome_of : Course → Result (Unit {0}) Trouble
 outcome_of (NotListening t) = Err t
 outcome_of (Listened outcome) = outcome
-
--- what a server opens: the office at a path, and a port to listen on
-pub data Resource : Type 0 where
-  AtPath : List ℕ → Resource
-  AtPort : ℕ → Resource
-
--- what opening one came to: it is open, or it is not, for this trouble
-abbrev pub OpeningOutcome : Type 1
-OpeningOutcome = Result (Unit {0}) Trouble → Type 0
-
-abbrev pub opening_of : {Opened : Type 0} → Result Opened Trouble → Result (Unit {0}) Trouble
-opening_of (Ok opened) = Ok tt
-opening_of (Err t) = Err t
 
 -- Why a server whose office is open does not listen: it is out of memory; or it cannot listen on
 -- its port, which is what opening the port came to.

@@ -11,8 +11,9 @@ use Rattle.tally_commands.specs.Trouble.{check_trouble}
 use Rattle.tally_commands.specs.declared.trouble.Trouble.{Trouble}
 use Rattle.tally_line.specs.Line.{CheckSeen, ImportSeen, LacksCon, LineSeen, NewSeen, ServeSeen}
 use Rattle.tally_line.specs.Line.{ShowSeen, line_of}
-use Rattle.tally_program.specs.Commands.{AtPath, AtPort, Bytes, EndsCommand, EndsServer, IsAnyText}
-use Rattle.tally_program.specs.Commands.{IsOutcomeReported, OpeningOutcome, Resource, Streams}
+use Rattle.tally_commands.specs.Offices.{AtPath, AtPort, OpeningOutcome, Resource}
+use Rattle.tally_program.specs.Commands.{Bytes, EndsCommand, EndsServer, IsAnyText}
+use Rattle.tally_program.specs.Commands.{IsOutcomeReported, Streams}
 use Rattle.tally_program.specs.Commands.{command_status}
 use Rattle.tally_program.specs.Troubles.{IsTroubleOfImport, IsTroubleOfNew, IsTroubleOfShow}
 

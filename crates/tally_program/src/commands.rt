@@ -7,12 +7,13 @@ ghost use Rattle.tally_keeper.specs.StaysKeeper.{StaysKeeper};
 ghost use Rattle.tally_records.specs.Watch.{NotesNothing, has_failed};
 ghost use Rattle.tally_desk.specs.Respond.{office_of};
 ghost use Rattle.tally_commands.specs.Imported.{IsCountText};
+ghost use Rattle.tally_commands.specs.Offices.{AtPath, AtPort};
 ghost use Rattle.tally_commands.specs.Made.{IsMadeText, constituencies_text};
 ghost use Rattle.tally_commands.specs.Served.{IsServedText, listening_line};
 ghost use Rattle.tally_commands.specs.Reported.{IsReported};
 ghost use Rattle.tally_overview.specs.Shown.{needs_con};
-ghost use Rattle.tally_program.specs.Commands.{AtPath, AtPort, IsAnyText, IsTroubleOfListening};
-ghost use Rattle.tally_program.specs.Commands.{IsWritten, TakesCourse};
+ghost use Rattle.tally_program.specs.Commands.{IsAnyText, IsTroubleOfListening, IsWritten};
+ghost use Rattle.tally_program.specs.Commands.{TakesCourse};
 ghost use Rattle.tally_program.specs.internal.Served.{IsReportOfServing};
 ghost use Rattle.tally_program.specs.Troubles.{IsTroubleOfEnding, IsTroubleOfImport};
 ghost use Rattle.tally_program.specs.Troubles.{IsTroubleOfFileImport, IsTroubleOfNew};
@@ -22,12 +23,11 @@ ghost use Rattle.tally_program.specs.internal.Worked.{IsFileImported, IsFileTrou
 ghost use Rattle.tally_program.specs.internal.Worked.{IsShowTrouble};
 
 use crate::files::{open_file, read_setup_text};
-use crate::offices::Offices;
 use std::alloc::Global;
 use std::fs::File;
 use std::io::Write;
 use tally_commands::{
-    CONSTITUENCIES_ROOM, LISTENING_ROOM, SERVED_ROOM, Sep, Shown, Trouble, Watch,
+    CONSTITUENCIES_ROOM, LISTENING_ROOM, Offices, SERVED_ROOM, Sep, Shown, Trouble, Watch,
     constituencies_text, has_con, import_returns, judge_setup, listening_text, served_text,
     show_country, show_progress, show_report, show_stations, tell,
 };

@@ -1,23 +1,15 @@
 //! The files that a command reads: a setup, and returns. Errors are matched and returned, and not
 //! passed on by `?`, since the `?` of an enum that holds a text (`Trouble`) has no proof yet.
 
-ghost use Rattle.std.specs.Prelude.{◌≡◌, ◌↔◌, IfErr, IsTrue};
-ghost use Rattle.std.specs.IoError.{error_kind};
+ghost use Rattle.std.specs.Prelude.{IfErr};
 ghost use Rattle.tally_program.specs.Troubles.{IsTroubleOfFile, IsTroubleOfReading};
 
 use std::fs::File;
-use std::io::{self, ErrorKind, Read};
-use tally_commands::Trouble;
+use std::io::Read;
+use tally_commands::{Trouble, is_memory};
 
 /// How much of a setup is read: a text that is longer than this less one byte is over its limit.
 const SETUP_BYTES: u64 = 8_388_609;
-
-/// Whether a call of the system failed because it was out of memory.
-pub fn is_memory(error: &io::Error) -> bool
-    ensures { IsTrue result ↔ error_kind error.now ≡ ErrorKind.OutOfMemory }
-{
-    matches!(error.kind(), ErrorKind::OutOfMemory)
-}
 
 /// Opens a file that is read.
 pub fn open_file(rt: &HostRuntime, path: &str) -> Result<File, Trouble>

@@ -4,10 +4,7 @@
 
 mod commands;
 mod files;
-mod offices;
 mod performing;
 
-pub use files::is_memory;
-pub use offices::Offices;
 pub use performing::{DONE, USAGE, perform, report_start};
-pub use tally_commands::{FAILED, REFUSED, Trouble};
+pub use tally_commands::{FAILED, Offices, REFUSED, Trouble};

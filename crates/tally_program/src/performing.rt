@@ -8,9 +8,8 @@ ghost use Rattle.tally_program.specs.Perform.{Performs, check_outcome, not_text_
 ghost use Rattle.tally_program.specs.internal.Fault.{fault_status};
 
 use crate::commands::{import, make, serve_office, show};
-use crate::offices::Offices;
 use std::io::{self, ErrorKind, Read, Write};
-use tally_commands::{FAILED, Trouble, tell};
+use tally_commands::{FAILED, Offices, Trouble, tell};
 use tally_import::{CheckFault, check_csv};
 use tally_line::{Line, LineFault, read_line};
 

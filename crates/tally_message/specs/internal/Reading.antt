@@ -1,7 +1,7 @@
 -- What the steps of reading a message leave.
 use Rattle.std.specs.Prelude.{◌≡◌, ℕ, ◌<◌, ◌≤◌, Bool, true, false, List, [], ◌++◌, length, take}
 use Rattle.std.specs.Prelude.{Result, Ok, Err, IfOk, IfErr, ⊤}
-use Rattle.tally_door.specs.Connection.{Connection}
+use Rattle.tally_message.specs.Connection.{Connection}
 use Rattle.httparse.specs.declared.spans.RequestSpans.{RequestSpans}
 use Rattle.tally_message.specs.Message.{OnlyReadsInput, IsFault, FailsAs}
 use Rattle.tally_message.specs.declared.message.MessageFault.{MessageFault}

@@ -1,6 +1,6 @@
 -- What is reported of the connections of a door that were served.
 use Rattle.std.specs.Prelude.{◌≡◌, ◌+◌, ℕ, List, Option}
-use Rattle.tally_door.specs.Connection.{Connections}
+use Rattle.tally_message.specs.Connection.{Connections}
 use Rattle.tally_desk.specs.Serving.{IsServing}
 use Rattle.tally_desk.specs.Respond.{Answers, Office}
 use Rattle.tally_commands.specs.Served.{served_line}

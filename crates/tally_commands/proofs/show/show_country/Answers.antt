@@ -2,7 +2,7 @@ use Rattle.std.proofs.Common.{◌≡◌, ◌∙◌, List, ap, subst, string_byte
 use Rattle.std.proofs.lemmas.Result.{IfOk-weaker}
 use Rattle.tally_setup.specs.Constituency.{Constituency}
 use Rattle.tally_overview.specs.CountryText.{country_text}
-use Rattle.tally_desk.specs.Shown.{ShowsAll}
+use Rattle.tally_overview.specs.Views.{ShowsAll}
 use Rattle.tally_commands.specs.Show.{IsCountryShown}
 use Rattle.tally_commands.proofs.show.show_country.Goals as goal
 

@@ -3,7 +3,7 @@ use Rattle.std.proofs.lemmas.Result.{IfOk-weaker, IfErr-weaker}
 use Rattle.tally_keeper.specs.Keeper.{Happens, request}
 use Rattle.tally_returns.specs.declared.ask.Ask.TheVariants.{ShowProgress}
 use Rattle.tally_report.specs.ProgressText.{progress_text}
-use Rattle.tally_desk.specs.Shown.{as_progress}
+use Rattle.tally_overview.specs.Views.{as_progress}
 use Rattle.tally_commands.specs.Show.{IsProgressShown, IsProgressTrouble}
 use Rattle.tally_commands.specs.declared.trouble.Trouble.TheVariants as trouble
 use Rattle.tally_commands.specs.declared.trouble.Trouble.{Trouble}

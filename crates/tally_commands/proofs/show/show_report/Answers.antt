@@ -3,8 +3,8 @@ use Rattle.std.proofs.lemmas.Result.{IfOk-weaker, IfErr-weaker}
 use Rattle.tally_setup.specs.Constituency.{Constituency}
 use Rattle.tally_setup.specs.Setup.{constituency_with}
 use Rattle.tally_returns.specs.View.{View}
-use Rattle.tally_desk.specs.Shown.{ShowsFor}
-use Rattle.tally_desk.proofs.DeskLemmas.{fault-whole, report-whole}
+use Rattle.tally_overview.specs.Views.{ShowsFor}
+use Rattle.tally_overview.proofs.ViewLemmas.{fault-whole, report-whole}
 use Rattle.tally_report.specs.declared.fault.ReportFault.{ReportFault}
 use Rattle.tally_report.specs.Reports.{IsEnoughFor, report_fault}
 use Rattle.tally_commands.specs.Show.{IsGiven, IsReportShown, IsReportTrouble}

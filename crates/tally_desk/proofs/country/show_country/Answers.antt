@@ -6,7 +6,7 @@ use Rattle.tally_overview.specs.CountryText.{country_text}
 use Rattle.tally_returns.specs.View.{View}
 use Rattle.tally_setup.specs.Constituency.{Constituency}
 use Rattle.tally_desk.specs.Requests.{ShowsCountry}
-use Rattle.tally_desk.specs.Shown.{ShowsAll}
+use Rattle.tally_overview.specs.Views.{ShowsAll}
 use Rattle.tally_desk.proofs.DeskLemmas.{gives}
 use Rattle.tally_desk.proofs.country.show_country.Goals as goal
 

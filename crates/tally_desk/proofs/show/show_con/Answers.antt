@@ -10,7 +10,8 @@ use Rattle.tally_returns.specs.declared.reply.Reply.TheVariants as reply
 use Rattle.tally_keeper.specs.Shown.{AnswersShowCon}
 use Rattle.tally_desk.specs.Requests as desk
 use Rattle.tally_desk.specs.Requests.{AtCon}
-use Rattle.tally_desk.proofs.DeskLemmas.{gives, con-answer, kept-shown}
+use Rattle.tally_desk.proofs.DeskLemmas.{gives, con-answer}
+use Rattle.tally_overview.proofs.ViewLemmas.{kept-shown}
 use Rattle.tally_desk.proofs.show.show_con.Goals as goal
 
 pub returns-in-Err-clause-gives : goal.returns-in-Err-clause-gives

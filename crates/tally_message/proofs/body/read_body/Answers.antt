@@ -1,6 +1,6 @@
 use Rattle.std.proofs.Common.{take, arith, ◌∙◌}
 use Rattle.std.proofs.lemmas.List.{length-take}
-use Rattle.tally_door.specs.Connection.{Connection}
+use Rattle.tally_message.specs.Connection.{Connection}
 use Rattle.tally_message.proofs.InputLemmas.{put_behind}
 use Rattle.tally_message.proofs.StartLemmas.{reads_on, refused_body, refused_failure, no_longer}
 use Rattle.tally_message.proofs.body.read_body.Goals as goal

@@ -1,5 +1,5 @@
 use Rattle.std.proofs.Common.{◌≡◌, ◌≤◌, ◌-◌, ◌++◌, true, vec_len}
-use Rattle.tally_door.specs.Connection.{ChangesCurrent}
+use Rattle.tally_message.specs.Connection.{ChangesCurrent}
 use Rattle.tally_message.specs.Message.{OnlyReadsInput}
 use Rattle.tally_message.proofs.body.read_body.Given as goal
 

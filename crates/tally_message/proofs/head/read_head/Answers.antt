@@ -1,7 +1,7 @@
 use Rattle.std.proofs.Common.{rules, ◌≡◌, ◌≤◌, ◌++◌, ℕ, [], Err, length, take, refl, subst, sym, ◌∙◌, ap, arith}
 use Rattle.std.proofs.lemmas.List.{length-take}
 use Rattle.httparse.specs.Grammar.{HasNoRequest}
-use Rattle.tally_door.specs.Connection.{Connection}
+use Rattle.tally_message.specs.Connection.{Connection}
 use Rattle.tally_message.specs.internal.Reading.{ReadsHead}
 use Rattle.tally_message.specs.internal.Lines.{no_lines, lines_after}
 use Rattle.tally_message.specs.Message.{head_limit, FailsAs}

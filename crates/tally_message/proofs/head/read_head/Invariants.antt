@@ -1,6 +1,6 @@
 use Rattle.std.proofs.Common.{◌≡◌, ◌≤◌, ◌-◌, ◌++◌, true, length, take}
 use Rattle.httparse.specs.Grammar.{HasNoRequest}
-use Rattle.tally_door.specs.Connection.{ChangesCurrent}
+use Rattle.tally_message.specs.Connection.{ChangesCurrent}
 use Rattle.tally_message.specs.internal.Lines.{no_lines, lines_after}
 use Rattle.tally_message.specs.Message.{head_limit, field_limit, OnlyReadsInput}
 use Rattle.tally_message.proofs.head.read_head.Given as goal

@@ -1,5 +1,5 @@
 use Rattle.std.proofs.Common.{◌≡◌, ◌++◌, rules, List, ℕ, Bool, Err, Ok, take, sym, ap, subst, refl, arith}
-use Rattle.tally_door.specs.Connection.{Connection}
+use Rattle.tally_message.specs.Connection.{Connection}
 use Rattle.tally_message.specs.Message.{IsFault, IsMessageOrFault, TakesWithinLimits}
 use Rattle.tally_message.specs.internal.Reading.{IsBodyOrFault}
 use Rattle.tally_message.specs.internal.Start.{IsStart}

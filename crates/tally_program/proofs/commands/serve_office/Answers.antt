@@ -1,6 +1,7 @@
 use Rattle.std.proofs.Common.{inl, inr, refl, string_bytes}
 use Rattle.tally_commands.specs.Served.{IsServedText}
-use Rattle.tally_program.specs.Commands.{AtPath, AtPort, IsTroubleOfListening, NotListening}
+use Rattle.tally_commands.specs.Offices.{AtPath, AtPort}
+use Rattle.tally_program.specs.Commands.{IsTroubleOfListening, NotListening}
 use Rattle.tally_program.specs.Troubles.{IsTroubleOfServe}
 use Rattle.tally_program.proofs.WrittenLemmas.{ended, ended-named, served, serving, takes, unwritten}
 use Rattle.tally_program.proofs.commands.serve_office.Goals as goal

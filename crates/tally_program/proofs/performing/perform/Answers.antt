@@ -1,6 +1,7 @@
 use Rattle.std.proofs.Common.{◌≡◌, ℕ, List, Some, map, rules, string_bytes, subst}
 use Rattle.tally_line.specs.Line.{ServeSeen, line_of}
-use Rattle.tally_program.specs.Commands.{AtPath, AtPort, TakesCourse}
+use Rattle.tally_commands.specs.Offices.{AtPath, AtPort}
+use Rattle.tally_program.specs.Commands.{TakesCourse}
 use Rattle.tally_program.proofs.LineLemmas.{refused, serves}
 use Rattle.tally_program.proofs.performing.perform.Goals as goal
 

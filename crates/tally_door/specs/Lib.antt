@@ -1,2 +1,0 @@
-pub mod Connection
-pub mod Memory
