@@ -1,9 +1,11 @@
 //! The program `office`: an electoral office on the command line.
 #![tactic(auto)]
 
+mod databases;
+
+use databases::Databases;
 use std::process::ExitCode;
 use std::{env, io};
-use tally_databases::Databases;
 use tally_program::{perform, report_start};
 
 fn main(rt: HostRuntime) -> ExitCode {
