@@ -24,7 +24,9 @@ def divisor(method, k):
         return Fraction(k)
     if method == "modified-sainte-lague" and k == 1:
         return Fraction(14, 10)
-    return Fraction(2 * k - 1)
+    if method in ("sainte-lague", "modified-sainte-lague"):
+        return Fraction(2 * k - 1)
+    sys.exit(f"unknown method: {method}")
 
 
 def place(index, lot, alternating, k):

@@ -39,6 +39,7 @@ echo "$*" >>"$here/calls"
 if [ "$1" = all ]; then
     echo $$ >"$here/pid"
     cat >"$here/given"
+    { pwd; cat BUILD.bazel src/lib.rt; } >"$here/below"
     . "$here/plan"
     exit
 fi
@@ -61,15 +62,16 @@ echo "the program's own output"
 . "$here/end"
 """
 
-# What `rt all check` says of crates that it proves, and last of one that was proved already.
+# What `rt all check` says of a crate that it proves, of one that was proved already, and of the
+# library without code that uses them.
 PROVED = """
 echo "only=0 proved=0"
-for crate in tally_frac tally_office; do
-    echo "== $crate"
-    echo "fn $crate::main: proved"
-    echo "logic=proved functions=28 sum=0"
-done
+echo "== tally_frac"
+echo "fn tally_frac::share::Share::new: proved"
+echo "logic=proved functions=28 sum=0"
 echo "== tally_rules"
+echo "== below"
+echo "logic=proved functions=0 sum=0"
 printf '== summary\\ntally_frac: ok\\n'
 """
 
@@ -271,6 +273,10 @@ def first_launch_builds_and_the_next_does_not(copy):
     first, second = copy.calls()
     assert re.fullmatch("all check --jobs [1-9][0-9]*", first) and second == "run -- check", (first, second)
     assert (copy.bin / "input").read_text() == "station,slip,blank,spoiled,A\n"
+    folder, *lines = (copy.bin / "below").read_text().splitlines()
+    labels = re.findall('"//crates/([a-z_]+)"', "".join(lines))
+    assert sorted([*labels, "tally_office"]) == NAMES and lines[-1] == "#![tactic(auto)]", lines
+    assert folder == str(copy.out / "below") and not Path(folder).exists(), folder
     assert copy.run("check") == (1, f"build 1\n{copy.folder}\ncheck\n", "an error\n")
     assert copy.runs() == 1
 
@@ -550,7 +556,8 @@ def a_build_says_what_it_needs_and_how_many_crates_are_left(copy):
     assert all(need in lines[1] for need in ("8 GB of disk", "of memory", "some 40 minutes")), lines
     assert lines[2:] == [
         f"office: tally_frac is proved, 28 functions: {CRATES - 1} of {CRATES} crates left",
-        f"office: tally_office is proved, 28 functions: {CRATES - 2} of {CRATES} crates left",
+        f"office: 1 of {CRATES} crates were proved before and are taken over",
+        f"office: tally_office is proved, 28 functions: {CRATES - 3} of {CRATES} crates left",
         "office: the program is built",
         "an error",
     ], lines
@@ -670,7 +677,7 @@ def what_an_earlier_build_left_is_taken_over(copy):
 
 
 def a_build_notes_when_its_parts_ended(copy):
-    copy.plan(TIMED.format(3).replace("printf", "echo '== tally_message'; echo '== tally_office'; echo logic=proved functions=1; printf"))
+    copy.plan(TIMED.format(3).replace("printf", "echo '== tally_message'; echo '== below'; echo logic=proved functions=0; printf"))
     begun = time.monotonic()
     copy.run("check")
     took = time.monotonic() - begun

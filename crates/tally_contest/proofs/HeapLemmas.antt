@@ -62,6 +62,11 @@ if_marked poll l h = by_test (get_or poll.eligible l false) h
     by_test true h = refl
     by_test false h = absurd (omega (arith, h))
 
+-- a heap without pairs holds none of an eligible list
+pub some_next : (terms : Terms) (n : ℕ) (a : List ℕ) (items : List Keyed) → AreNext terms n a items → length items ≡ 0 → (l : ℕ) → l < n → IsEligible terms.poll l → ⊥
+some_next terms n a [] next e l lt el = omega (arith, next.once l lt, marked terms.poll l el)
+some_next terms n a (x ∷ xs) next e l lt el = omega (arith, e)
+
 module _ (terms : Terms) (n : ℕ) (a : List ℕ) (items rest : List Keyed) (x : Keyed) (next : AreNext terms n a items) (popped : IsPermutation items (x ∷ rest)) where
   abbrev Next : List ℕ → Keyed → Type 0
   Next a y = y ≡ keyed_pair terms y.1 (get_or a y.1 0 + 1)

@@ -12,6 +12,8 @@ pub mod Scan
 pub mod ListSetLemmas
 pub mod PollLemmas
 pub mod Room
+pub mod Floors
+pub mod AboveLemmas
 pub mod NeedInPlaces
 pub mod WonLemmas
 pub mod HeapLemmas

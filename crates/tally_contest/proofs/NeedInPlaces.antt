@@ -1,12 +1,12 @@
 -- The need of a lot, seen from seats that the places allow.
-use Rattle.std.proofs.Common.{ℕ, ◌+◌, ◌≤◌, List, Bool, length, get_or, arith}
+use Rattle.std.proofs.Common.{ℕ, ◌+◌, ◌*◌, ◌<◌, ◌≤◌, List, Bool, length, get_or, Fits, w32, w64, arith}
 use Rattle.tally_law.specs.LotNeed.{IsDecidedByVotes, IsNeed}
-use Rattle.tally_contest.specs.internal.Race.{IsFair, IsHighestNext, IsLowestLast}
+use Rattle.tally_contest.specs.internal.Race.{IsFair, IsPair, IsHighestNext, IsLowestLast}
 use Rattle.tally_contest.specs.internal.Sums.{sum_before, holds_at}
 use Rattle.tally_contest.specs.internal.Terms.{Terms, AreSound, IsClassOf, vote_race, placed_race}
-use Rattle.tally_contest.proofs.TermsRace.{races, fair_by_votes, highest_by_votes, lowest_by_votes}
+use Rattle.tally_contest.proofs.TermsRace.{races, pair_from_placed, within_placed, fair_by_votes, highest_by_votes, lowest_by_votes}
 use Rattle.tally_contest.proofs.NeedOfTie.{decided_if_no_tie, no_tie_without_last, no_tie_without_next, no_tie_if_above, tie_unless_above, need_if_tie}
-use Rattle.tally_contest.proofs.Scan.{count_is}
+use Rattle.tally_contest.proofs.Scan.{cap_small, count_is}
 
 module _ (terms : Terms) (sound : AreSound terms) (a : List ℕ) (f : IsFair (placed_race terms) terms.seats a) where
   pub decided_without_last : ((m : ℕ) → get_or a m 0 ≤ (placed_race terms).floor m) → IsDecidedByVotes terms.rule terms.poll terms.seats
@@ -35,3 +35,26 @@ module _ (terms : Terms) (sound : AreSound terms) (a : List ℕ) (f : IsFair (pl
 
   pub few_lists_of : length a ≤ 60
   few_lists_of = omega (arith, f.one_each, count_is terms sound, sound.few_lists)
+
+  -- the list that won last is one of the contest, and so is the next
+  pub last_listed : (l : ℕ) → IsLowestLast (placed_race terms) a l → l < length a
+  last_listed l last = omega (arith, within_placed terms (races terms sound) l (omega (arith, last.wins, f.high l)), f.one_each)
+
+  pub next_listed : (m : ℕ) → IsHighestNext (placed_race terms) a m → m < length a
+  next_listed m next = omega (arith, within_placed terms (races terms sound) m (omega (arith, next.runs, f.low m)), f.one_each)
+
+  pub listed_in : (l : ℕ) → l < length a → l < length terms.poll.votes
+  listed_in l lt = omega (arith, f.one_each, count_is terms sound)
+
+  -- .. at a place that fits
+  pub listed_fits : (l : ℕ) → l < length a → Fits w64 (l * 4)
+  listed_fits l lt = omega (arith, few_lists_of)
+
+  pub next_fits : (m : ℕ) → IsHighestNext (placed_race terms) a m → Fits w32 (get_or a m 0 + 1)
+  next_fits m next = omega (arith, cap_small terms sound m, next.runs)
+
+  pub last_is_pair : (l : ℕ) → IsLowestLast (placed_race terms) a l → IsPair (vote_race terms) l (get_or a l 0)
+  last_is_pair l last = pair_from_placed terms (races terms sound) l (get_or a l 0) (last.wins, f.high l)
+
+  pub next_is_pair : (m : ℕ) → IsHighestNext (placed_race terms) a m → IsPair (vote_race terms) m (get_or a m 0 + 1)
+  next_is_pair m next = pair_from_placed terms (races terms sound) m (get_or a m 0 + 1) (omega (arith, f.low m), omega (arith, next.runs))

@@ -1,5 +1,5 @@
 -- The lists of a contest hold fewer seats in any case than there are, and may hold as many.
-use Rattle.std.proofs.Common.{◌≡◌, ℕ, zero, suc, ◌*◌, ◌<◌, ◌≤◌, ◌⊎◌, List, false, true, cond, length, get_or, set, map, sum, replicate, refl, sym, ap, ◌∙◌, subst, inl, inr, arith}
+use Rattle.std.proofs.Common.{◌≡◌, ℕ, zero, suc, ◌+◌, ◌-◌, ◌*◌, ◌<◌, ◌≤◌, ◌⊎◌, List, false, true, cond, length, get_or, set, map, sum, replicate, refl, sym, ap, ◌∙◌, subst, inl, inr, arith}
 use Rattle.std.specs.List.{range_with_len}
 use Rattle.std.proofs.lemmas.Bool.{cases_lt, cases_eq, cases_Bool}
 use Rattle.std.proofs.lemmas.List.{get_or_past, get_or-set_same, get_or-set_other, get_or-replicate, length-replicate, length-map, length-set}
@@ -154,3 +154,10 @@ floors_sum terms sound l e a long each =
     let same = sum_before-same (λ i. get_or a i 0) (placed_race terms).floor (length a) each in
     let e' : sum_before (placed_race terms).floor (length a) ≡ sum_before (placed_race terms).floor (length terms.poll.votes) = ap (sum_before (placed_race terms).floor) long in
     omega (arith, sum-is a, floors_within terms sound l e)
+
+-- what is left of the seats, after what each list holds in any case
+pub left_is : (held counted given : List ℕ) (all seats certain : ℕ) → held ≡ given → counted ≡ given → seats ≡ all → certain ≡ sum counted → sum given ≤ all → all ≡ sum held + (seats - certain)
+left_is held counted given all seats certain h k s t le = omega (arith, ap sum h, ap sum k)
+
+pub sum_within : (a b : List ℕ) (n m : ℕ) → a ≡ b → sum b ≤ n → n ≤ m → sum a ≤ m
+sum_within a b n m e le lt = omega (arith, ap sum e)

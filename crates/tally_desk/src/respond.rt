@@ -11,7 +11,7 @@ use crate::command::{import, order_on_con, order_on_station};
 use crate::country::show_country;
 use crate::room::Room;
 use crate::show::{show_con, show_progress, show_report, show_return};
-use crate::stations::{Form, show_rows};
+use crate::stations::show_rows;
 use crate::trial::trial;
 use matchit::Router;
 use std::alloc::Global;
@@ -19,6 +19,7 @@ use tally_answer::Word;
 use tally_asks::{Route, route_of, takes, takes_get};
 use tally_keeper::Keeper;
 use tally_message::{Message, MessageFault};
+use tally_overview::StationsReport;
 
 /// An answer that is a word alone.
 fn say(alloc: Global, word: Word) -> Option<Vec<u8>>
@@ -67,8 +68,8 @@ fn answer_by_route<K: Keeper>(
         Route::Return => show_return(alloc, keeper, message),
         Route::Con => show_con(alloc, keeper, message),
         Route::Report(which) => show_report(alloc, keeper, message, which),
-        Route::Returns => show_rows(alloc, keeper, message, Form::Csv),
-        Route::Stations => show_rows(alloc, keeper, message, Form::Text),
+        Route::Returns => show_rows(alloc, keeper, message, StationsReport::Returns),
+        Route::Stations => show_rows(alloc, keeper, message, StationsReport::Stations),
         Route::Country => show_country(alloc, keeper),
         Route::OnStation(command) => order_on_station(alloc, keeper, command, message),
         Route::OnCon(command) => order_on_con(alloc, keeper, command, message),

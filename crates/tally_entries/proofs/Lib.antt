@@ -9,3 +9,4 @@ pub mod ViewLemmas
 pub mod StageLemmas
 pub mod StatusLemmas
 pub mod WholeViewLemmas
+pub mod LookLemmas

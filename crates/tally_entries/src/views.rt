@@ -12,6 +12,7 @@ ghost use Rattle.tally_entries.specs.internal.Constituencies.{FindsSums};
 ghost use Rattle.tally_entries.specs.internal.Constituencies.{FindsView};
 ghost use Rattle.tally_entries.specs.internal.Entries.{ChangesNothing, Finds, FindsFrom};
 ghost use Rattle.tally_entries.specs.internal.Found.{AreRowsFound, AreWithin, FindsKnownStatuses};
+ghost use Rattle.tally_entries.specs.internal.Found.{IsFoundIf};
 ghost use Rattle.tally_entries.specs.internal.Found.{FindsStatus, FindsStatuses, IsStageAmong};
 ghost use Rattle.tally_entries.specs.internal.Found.{certified_in, row_with, status_in};
 ghost use Rattle.tally_entries.specs.internal.Found.{view_of_rows, with_station};
@@ -88,6 +89,26 @@ fn rows_of_two<S: Alter>(
     Ok((of_first, of_second))
 }
 
+/// The rows of a constituency in `totals`, and those of its certificates on record where they are
+/// asked for.
+fn totals_and_past<S: Alter>(
+    alloc: Global,
+    tx: &mut Transaction<'_, S>,
+    con: &str,
+    with_past: bool,
+) -> Result<(Vec<Row>, Vec<Row>), Error>
+    ensures reads { OnlyReads S.Store tx.old tx.new result }
+    ensures found { Finds S.Store (λ seen rows.
+        IsFound KeyedTable.Totals con.now seen rows.0.items ×
+        IsFoundIf with_past KeyedTable.Past con.now seen rows.1.items) tx.old tx.new result }
+{
+    if !with_past {
+        let totals = rows_of_key(tx, KeyedTable::Totals, con)?;
+        return Ok((totals, Vec::new(alloc)));
+    }
+    rows_of_two(tx, KeyedTable::Totals, KeyedTable::Past, con)
+}
+
 /// The rows of a constituency in the tables that have it for their key.
 #[derive(Drop)]
 struct ConRows {
@@ -128,19 +149,7 @@ fn rows_of_con<S: Alter>(
 {
     let (cons, lots) = rows_of_two(tx, KeyedTable::Cons, KeyedTable::Lots, con)?;
     let (seats, gone) = rows_of_two(tx, KeyedTable::Seats, KeyedTable::Gone, con)?;
-    if !with_past {
-        let totals = rows_of_key(tx, KeyedTable::Totals, con)?;
-        let past = Vec::new(alloc);
-        return Ok(ConRows {
-            cons,
-            lots,
-            seats,
-            gone,
-            totals,
-            past,
-        });
-    }
-    let (totals, past) = rows_of_two(tx, KeyedTable::Totals, KeyedTable::Past, con)?;
+    let (totals, past) = totals_and_past(alloc, tx, con, with_past)?;
     Ok(ConRows {
         cons,
         lots,

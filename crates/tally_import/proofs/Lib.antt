@@ -1,6 +1,5 @@
 pub mod HeaderLemmas
 pub mod NumberLemmas
-pub mod CountLemmas
 pub mod NamedLemmas
 pub mod FoundLemmas
 pub mod TotalsLemmas

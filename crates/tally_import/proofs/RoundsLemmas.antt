@@ -1,9 +1,8 @@
 -- The rounds of a check: one record more, or the last.
-use Rattle.std.proofs.Common.{◌≡◌, ◌≤◌, ◌++◌, ◌∷◌, ◌∙◌, ℕ, List, [], false, length, sym, ap, subst, arith}
+use Rattle.std.proofs.Common.{◌≡◌, ◌≤◌, ◌+◌, ◌++◌, ◌∷◌, ◌∙◌, ℕ, List, [], false, length, sym, ap, subst, arith}
 use Rattle.std.specs.Prelude.{if◌then◌else◌}
 use Rattle.std.proofs.lemmas.Bool.Decides.{nat_tests}
 use Rattle.std.proofs.lemmas.List.{map-append, length-map}
-use Rattle.tally_keeper.specs.declared.import.Row.{Row}
 use Rattle.std.proofs.Common.{Some, None, Ok, Err}
 use Rattle.std.specs.Prelude.{nat_lt}
 use Rattle.tally_keeper.specs.Source.{row_limit}
@@ -19,16 +18,18 @@ rows-more : (lists : ℕ) (records : List (List (List ℕ))) (fields : List (Lis
     → rows_of_records lists (records ++ fields ∷ []) ≡ rows_of_records lists records ++ row_of (every_code lists) lists fields ∷ []
 rows-more lists records fields = map-append (row_of (every_code lists) lists) records (fields ∷ [])
 
-pub length-rows : (lists : ℕ) (records : List (List (List ℕ))) → length (rows_of_records lists records) ≡ length records
+length-rows : (lists : ℕ) (records : List (List (List ℕ))) → length (rows_of_records lists records) ≡ length records
 length-rows lists records = length-map records (row_of (every_code lists) lists)
 
+-- the number of the row that comes next
+pub taken-next : (lists : ℕ) (records : List (List (List ℕ))) (taken : ℕ) → length records ≡ taken → taken + 1 ≡ length (rows_of_records lists records) + 1
+taken-next lists records taken are = ap (λ n. n + 1) (sym (length-rows lists records ∙ are))
+
 -- one more record was taken
-pub more-taken : (lists : ℕ) (records : List (List (List ℕ))) (new : Import) (fields : List (List ℕ)) (row : Row)
-    → row ≡ row_of (every_code lists) lists fields
-    → HasTaken (record { lists = lists; rows = rows_of_records lists records ++ row ∷ [] }) new
+pub more-taken : (lists : ℕ) (records : List (List (List ℕ))) (new : Import) (fields : List (List ℕ))
+    → HasTaken (record { lists = lists; rows = rows_of_records lists records ++ row_of (every_code lists) lists fields ∷ [] }) new
     → HasTaken (record { lists = lists; rows = rows_of_records lists (records ++ fields ∷ []) }) new
-more-taken lists records new fields row is h =
-    subst (λ rs. HasTaken (record { lists = lists; rows = rs }) new) (ap (λ r. rows_of_records lists records ++ r ∷ []) is ∙ sym (rows-more lists records fields)) h
+more-taken lists records new fields h = subst (λ rs. HasTaken (record { lists = lists; rows = rs }) new) (sym (rows-more lists records fields)) h
 
 -- what a whole text is
 pub examined-whole : (header : List (List ℕ)) (rest : List (List (List ℕ))) (lists : List (List ℕ))

@@ -2,7 +2,7 @@
 pub mod Totals
 pub mod Progress
 pub mod Rounds
-pub mod Notes
 pub mod ReturnRowsWithin
 pub mod FixedNames
 pub mod NextRow
+pub mod StationSet

@@ -16,7 +16,6 @@ ghost use Rattle.tally_import.specs.internal.Rounds.{ImportsRecords, IsOfReading
 use crate::header::lists_in_header;
 use crate::import::Import;
 use crate::output::write_watched;
-use crate::row::row_of;
 use crate::summary::import_text;
 use csv::ByteRecord;
 use std::alloc::{AllocError, Global};
@@ -238,16 +237,16 @@ fn check_rows<R: Read>(
 {
     let mut import = Import::new(alloc, lists)?;
     let mut record = ByteRecord::new(alloc);
-    for taken in 0..ROW_LIMIT {
+    let mut taken = 0;
+    loop {
         if let Some(end) = records.next(alloc, reader, watch, &mut record)? {
             return ended(import, end);
         }
-        let row = row_of(alloc, lists, &record)?;
-        import.take(alloc, taken + 1, row)?;
-    }
-    match records.next(alloc, reader, watch, &mut record)? {
-        Some(end) => ended(import, end),
-        None => Err(CheckFault::TooLong),
+        if taken == ROW_LIMIT {
+            return Err(CheckFault::TooLong);
+        }
+        taken += 1;
+        import.take_record(alloc, taken, &record)?;
     }
 }
 

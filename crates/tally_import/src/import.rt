@@ -3,20 +3,23 @@
 ghost use Rattle.std.specs.Prelude.{◌≡◌, ◌+◌, ◌≤◌, ◌++◌, List, [], ◌∷◌, length, IfOk};
 ghost use Rattle.std.specs.Prelude.{OnOk};
 ghost use Rattle.tally_frac.specs.Limits.{most_lists};
-ghost use Rattle.tally_keeper.specs.Import.{after_row, lodged_counts, RowAnswer, count_of, or_else};
+ghost use Rattle.tally_keeper.specs.Import.{after_row, lodged_counts};
 ghost use Rattle.tally_keeper.specs.NamedRows.{named_row};
 ghost use Rattle.tally_keeper.specs.Source.{row_limit};
 ghost use Rattle.tally_returns.specs.Lodge.{lodge};
 ghost use Rattle.tally_keeper.specs.declared.import.Row.{Row};
+ghost use Rattle.csv.specs.Records.{fields_of};
 ghost use Rattle.tally_import.specs.Check.{every_code};
-ghost use Rattle.tally_import.specs.internal.Notes.{with_row};
+ghost use Rattle.tally_import.specs.Rows.{row_of};
 
+use crate::row::row_of;
 use crate::totals::{Totals, add_return, no_totals};
+use csv::ByteRecord;
 use std::alloc::{AllocError, Global};
 use std::collections::HashMap;
 use tally_keeper::{
-    Ask, Counts, FirstRow, ImportCount, LodgeReply, NamedRow, Refusal, Return, Row, decide_lodge,
-    name_bad, name_refused,
+    Ask, Counts, ImportCount, LodgeReply, NamedRow, Refusal, Return, Row, decide_lodge, name_bad,
+    name_refused,
 };
 use tally_setup::{Code, MOST_ELECTORS};
 
@@ -55,9 +58,29 @@ impl Import {
         })
     }
 
-    /// Takes the next row, by its number. Once it is out of memory the import is of no further use.
-    /// It takes one layer off, which the prover needs.
-    pub(crate) fn take(&mut self, alloc: Global, number: u32, row: Row) -> Result<(), AllocError>
+    /// Takes the row that the next record is, by its number. Once it is out of memory the import is
+    /// of no further use.
+    pub(crate) fn take_record(
+        &mut self,
+        alloc: Global,
+        number: u32,
+        fields: &ByteRecord,
+    ) -> Result<(), AllocError>
+        requires so_far { (taken : Taken) × HasTaken taken self.old
+            × (number ≡ length taken.rows + 1) }
+        requires few { number ≤ row_limit }
+        ensures { OnOk result ((taken : Taken) → HasTaken taken self.old
+            → number ≡ length taken.rows + 1 → HasTaken (record taken {
+              rows = taken.rows
+                  ++ row_of (every_code taken.lists) taken.lists (fields_of fields.now) ∷ [];
+            }) self.new) }
+    {
+        let row = row_of(alloc, self.lists, None, fields)?;
+        self.take(alloc, number, row)
+    }
+
+    /// Takes the next row, by its number. It takes one layer off, which the prover needs.
+    fn take(&mut self, alloc: Global, number: u32, row: Row) -> Result<(), AllocError>
         requires so_far { (taken : Taken) × HasTaken taken self.old
             × (number ≡ length taken.rows + 1) }
         requires few { number ≤ row_limit }
@@ -68,12 +91,12 @@ impl Import {
         match row {
             Row::Lodge(ask) => {
                 let answer = self.lodge_row(alloc, number, ask)?;
-                count_row(&mut self.count, number, answer);
+                self.count.add_row(number, answer);
                 Ok(())
             }
             Row::Bad(why) => {
                 name_bad(&mut self.named, number, why)?;
-                count_row(&mut self.count, number, None);
+                self.count.add_row(number, None);
                 Ok(())
             }
         }
@@ -144,37 +167,4 @@ impl Import {
         self.returns.insert(station, lodged)?;
         Ok(answer)
     }
-}
-
-// Counts one more row, by its number and what it was answered. A count of this row alone shows what
-// it adds.
-fn count_row(count: &mut ImportCount, number: u32, answer: Option<Result<LodgeReply, Refusal>>)
-    requires before { (answered : List RowAnswer) × (count.old ≡ count_of answered)
-        × (number ≡ length answered + 1) }
-    requires few { number ≤ row_limit }
-    ensures { (answered : List RowAnswer) → count.old ≡ count_of answered
-        → number ≡ length answered + 1 → count.new ≡ count_of (answered ++ answer ∷ []) }
-{
-    let mut one = ImportCount::new();
-    one.add(1, answer);
-    count.lodged += one.lodged;
-    count.same += one.same;
-    count.differs += one.differs;
-    count.refused += one.refused;
-    count.bad += one.bad;
-    count.first = first_note(count.first, one.first, number);
-}
-
-// What was noted first: an earlier row, or the row with this number.
-fn first_note(front: Option<FirstRow>, one: Option<FirstRow>, row: u32) -> Option<FirstRow>
-    ensures { result ≡ or_else front (with_row row one) }
-{
-    if front.is_some() {
-        return front;
-    }
-    let first = one?;
-    Some(FirstRow {
-        row,
-        number: first.number,
-    })
 }

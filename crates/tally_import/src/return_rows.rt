@@ -9,14 +9,12 @@ ghost use Rattle.csv.specs.Records.{fields_of};
 ghost use Rattle.tally_frac.specs.Limits.{most_lists};
 ghost use Rattle.tally_setup.specs.Code.{code_cmp};
 ghost use Rattle.tally_setup.specs.Constituency.{Constituency, list_codes, station_codes};
-ghost use Rattle.tally_returns.specs.Lodge.{Stations};
 ghost use Rattle.tally_keeper.specs.Given.{with_given};
 ghost use Rattle.tally_keeper.specs.Source.{GivesNext, IsLodgeOrBad, at_end, ends_by, row_limit};
 ghost use Rattle.tally_keeper.specs.declared.source.ImportFault.{ImportFault};
 ghost use Rattle.tally_records.specs.Given.{IsReadingOn, WatchAgrees};
 ghost use Rattle.tally_records.specs.Watch.{flag_after_stop, has_failed};
 ghost use Rattle.tally_keeper.specs.declared.source.ImportFault.TheVariants as cause;
-ghost use Rattle.tally_import.specs.Rows.{row_of};
 ghost use Rattle.tally_import.specs.declared.return_rows.Stage.TheVariants.{Ended};
 ghost use Rattle.tally_records.specs.declared.separator.Sep.{Sep};
 ghost use Rattle.tally_import.specs.ReturnRowsValue.{HasGivenAll, rows_to_come, unread_rows};
@@ -36,7 +34,7 @@ use std::collections::BTreeSet;
 use std::io::Read;
 use std::marker::Model;
 use std::snapshot::Snapshot;
-use tally_keeper::{BadRow, Given, ImportFault, ROW_LIMIT, Row, RowSource};
+use tally_keeper::{Given, ImportFault, ROW_LIMIT, Row, RowSource};
 use tally_records::{End, Records, Sep, Stop, Watch, field};
 use tally_setup::{Code, Constituency, ListEntry, Station};
 
@@ -350,7 +348,7 @@ impl Rows {
         if self.came == ROW_LIMIT {
             return Err(ImportFault::TooLong);
         }
-        let row = station_row(alloc, self.lists, &self.stations, &self.fields)?;
+        let row = row_of(alloc, self.lists, Some(&self.stations), &self.fields)?;
         self.came += 1;
         Ok(Some(row))
     }
@@ -419,29 +417,4 @@ fn station_codes(alloc: Global, stations: &[Station]) -> Result<BTreeSet<Code>, 
         codes.insert(station.code)?;
     }
     Ok(codes)
-}
-
-/// The row that a record is, under a header of so many lists, where these are the stations.
-fn station_row(
-    alloc: Global,
-    lists: usize,
-    stations: &BTreeSet<Code>,
-    fields: &ByteRecord,
-) -> Result<Row, AllocError>
-    requires { lists ≤ most_lists }
-    ensures is { IfOk result (λ row. (limits : Stations)
-        → ((code : List ℕ) → contains code_cmp stations.now code ≡ is_some (limits code))
-        → row ≡ row_of limits lists (fields_of fields.now)) }
-    ensures row { IfOk result IsLodgeOrBad }
-{
-    if fields.len() != lists + FIXED_NAMES {
-        return Ok(Row::Bad(BadRow::Fields(fields.len())));
-    }
-    let Some(station) = Code::new(field(fields, 0)) else {
-        return Ok(Row::Bad(BadRow::BadStation));
-    };
-    if !stations.contains(&station) {
-        return Ok(Row::Bad(BadRow::NoStation));
-    }
-    row_of(alloc, lists, fields)
 }

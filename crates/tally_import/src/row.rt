@@ -1,14 +1,19 @@
 //! Rows of returns.
 
-ghost use Rattle.std.specs.Prelude.{◌≡◌, ◌≤◌, [], drop, map, Some, None, IfOk, if◌then◌else◌};
+ghost use Rattle.std.specs.Prelude.{◌≡◌, ◌≤◌, ℕ, List, [], drop, is_some, map, Some, None, IfOk};
+ghost use Rattle.std.specs.Prelude.{if◌then◌else◌};
+ghost use Rattle.std.specs.Option.{option_copied};
 ghost use Rattle.csv.specs.Records.{fields_of};
 ghost use Rattle.tally_frac.specs.Limits.{most_lists};
-ghost use Rattle.tally_import.specs.Check.{every_code};
+ghost use Rattle.tally_returns.specs.Lodge.{Stations};
+ghost use Rattle.tally_keeper.specs.Source.{IsLodgeOrBad};
 ghost use Rattle.tally_import.specs.Rows.{first_unread, is_number_text, row_of, written_number};
+ghost use Rattle.tally_import.specs.internal.StationSet.{is_station};
 
 use crate::header::FIXED_NAMES;
 use csv::ByteRecord;
 use std::alloc::{AllocError, Global};
+use std::collections::BTreeSet;
 use tally_keeper::{Ask, BadRow, Column, Counts, Row};
 use tally_records::field;
 use tally_setup::Code;
@@ -16,10 +21,18 @@ use tally_setup::Code;
 /// The most digits that a number may have.
 const DIGITS: usize = 9;
 
-/// The row that a record is, under a header of so many lists, where every code is a station.
-pub(crate) fn row_of(alloc: Global, lists: usize, fields: &ByteRecord) -> Result<Row, AllocError>
+/// The row that a record is, under a header of so many lists. Without stations every code is one.
+pub(crate) fn row_of(
+    alloc: Global,
+    lists: usize,
+    stations: Option<&BTreeSet<Code>>,
+    fields: &ByteRecord,
+) -> Result<Row, AllocError>
     requires { lists ≤ most_lists }
-    ensures { IfOk result (λ row. row ≡ row_of (every_code lists) lists (fields_of fields.now)) }
+    ensures is { IfOk result (λ row. (limits : Stations)
+        → ((code : List ℕ) → is_station (option_copied stations.entry) code ≡ is_some (limits code))
+        → row ≡ row_of limits lists (fields_of fields.now)) }
+    ensures row { IfOk result IsLodgeOrBad }
 {
     if fields.len() != lists + FIXED_NAMES {
         return Ok(Row::Bad(BadRow::Fields(fields.len())));
@@ -27,6 +40,9 @@ pub(crate) fn row_of(alloc: Global, lists: usize, fields: &ByteRecord) -> Result
     let Some(station) = Code::new(field(fields, 0)) else {
         return Ok(Row::Bad(BadRow::BadStation));
     };
+    if !is_station(stations, &station) {
+        return Ok(Row::Bad(BadRow::NoStation));
+    }
     let Some(slip) = Code::new(field(fields, 1)) else {
         return Ok(Row::Bad(BadRow::BadSlip));
     };
@@ -49,6 +65,16 @@ pub(crate) fn row_of(alloc: Global, lists: usize, fields: &ByteRecord) -> Result
             spoiled,
         },
     }))
+}
+
+/// Whether a code is one of these stations. Without stations every code is one.
+fn is_station(stations: Option<&BTreeSet<Code>>, code: &Code) -> bool
+    ensures { result ≡ is_station (option_copied stations.entry) code.now }
+{
+    match stations {
+        Some(stations) => stations.contains(code),
+        None => true,
+    }
 }
 
 /// Puts the numbers of a record's fields after the fixed ones into an empty list, up to the first

@@ -18,7 +18,7 @@ use tally_allot::{AllotFault, ListSet, allot};
 use tally_returns::{ConView, LAST_EDITION, Past, Refusal};
 use tally_setup::{Code, Constituency, good_note};
 
-/// A certificate that is no longer in force.
+/// What a reopening comes to.
 #[derive(Debug, Drop)]
 pub struct Reopening {
     /// The note that says why.

@@ -148,7 +148,7 @@ pub fn records_are_of_allotments()
 /// Where the returns of a constituency are entered twice, each closed one was, in every state that
 /// a run reaches from the opening one: a request brought it, and a later one brought the same slip
 /// and counts, with no other act on the station between them or after. So in a certified
-/// constituency every vote that counts was typed twice, and the same. One request alone enters no
+/// constituency every vote that counts was entered twice, and the same. One request alone enters no
 /// return twice.
 pub fn what_counts_was_entered_twice()
     ensures closed { entries.ClosedReturnsWereEnteredTwice }

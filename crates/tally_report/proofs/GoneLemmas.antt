@@ -41,8 +41,13 @@ one-more gone g n old new are more = record {
 }
 
 -- and of one more
-pub one_more_gone : (all : List GoneCandidate) (i : ℕ) (d : GoneCandidate) (n : ℕ) (old new : List (List ℕ)) → i < length all → AreByList (take i all) n old → IsOneMore (get_or all i d).list (get_or all i d).place old new → AreByList (take (i + 1) all) n new
-one_more_gone all i d n old new lt are more = rw (take_more all i d lt) (one-more (take i all) (get_or all i d) n old new are more)
+pub one_more_gone : (all items : List GoneCandidate) (i : ℕ) (g : GoneCandidate) (n : ℕ) (old new : List (List ℕ)) → items ≡ all → g ≡ get_or items i g → i < length items
+    → AreByList (take i all) n old → IsOneMore g.list g.place old new → AreByList (take (i + 1) all) n new
+one_more_gone all items i g n old new same is lt are more =
+    let found : g ≡ get_or all i g = rw same at is in
+    let inside : i < length all = rw same at lt in
+    let longer : take (i + 1) all ≡ take i all ++ g ∷ [] = take_more all i g inside ∙ ap (λ x. take i all ++ x ∷ []) (sym found) in
+    rw longer (one-more (take i all) g n old new are more)
 
 unlike : (a b : ℕ) (same : Bool) → (a == b) ≡ same → a ≢ b → same ≡ false
 unlike a b true is differ = absurd (differ (eqb-true a b is))

@@ -1,6 +1,7 @@
 //! Columns, and the first line of a report.
 
 ghost use Rattle.std.specs.Prelude.{◌≡◌, ◌++◌, OnOk, string_bytes};
+ghost use Rattle.std.specs.List.{flat_map};
 ghost use Rattle.tally_report.specs.Columns.{heading, left_cell, number, spaces};
 
 use std::alloc::AllocError;
@@ -41,4 +42,19 @@ pub fn push_number(text: &mut String, n: u64, width: usize) -> Result<(), AllocE
     ensures { OnOk result (string_bytes text.new ≡ string_bytes text.old ++ number width n) }
 {
     write!(text, "{n:>width$}")
+}
+
+/// Numbers, each at the right of a column of so many places.
+pub(crate) fn push_numbers(
+    text: &mut String,
+    numbers: &[u64],
+    width: usize,
+) -> Result<(), AllocError>
+    ensures { OnOk result (string_bytes text.new
+        ≡ string_bytes text.old ++ flat_map (number width) numbers.now) }
+{
+    for n in numbers {
+        push_number(text, *n, width)?;
+    }
+    Ok(())
 }

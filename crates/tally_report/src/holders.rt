@@ -92,7 +92,6 @@ fn push_seats(
 }
 
 /// The places of the candidates who are gone, those of each list, in one pass over them.
-#[tactic(auto, using(crate::proofs::GoneLemmas::none_gone, crate::proofs::GoneLemmas::one_more_gone))]
 fn gone_by_list(alloc: Global, view: &ConView, lists: usize) -> Result<Vec<Vec<u32>>, AllocError>
     ensures { IfOk result (λ gone.
         AreByList view.now.gone lists (map (λ places. places.items) gone.items)) }
@@ -105,7 +104,6 @@ fn gone_by_list(alloc: Global, view: &ConView, lists: usize) -> Result<Vec<Vec<u
 }
 
 /// No place for each of so many lists.
-#[tactic(auto, using(crate::proofs::GoneLemmas::one_more_none))]
 fn nobody(alloc: Global, lists: usize) -> Result<Vec<Vec<u32>>, AllocError>
     ensures { IfOk result (λ gone.
         map (λ places. places.items) gone.items ≡ replicate lists []) }

@@ -1,10 +1,12 @@
 //! How far the constituencies have come.
 
-ghost use Rattle.std.specs.Prelude.{◌≡◌, ◌++◌, IfOk, IfErr, OnOk, string_bytes};
+ghost use Rattle.std.specs.Prelude.{◌≡◌, ◌+◌, ◌-◌, ◌++◌, [], ◌∷◌, IfOk, IfErr, OnOk};
+ghost use Rattle.std.specs.Prelude.{codes, if◌then◌else◌, string_bytes};
+ghost use Rattle.tally_report.specs.Columns.{line_end};
 ghost use Rattle.tally_report.specs.ProgressText.{progress_line, progress_text};
 ghost use Rattle.tally_report.specs.declared.fault.ReportFault.TheVariants.{Memory};
 
-use crate::column::{CODE_WIDTH, push_left, push_number};
+use crate::column::{CODE_WIDTH, push_left, push_numbers};
 use crate::fault::ReportFault;
 use std::alloc::{AllocError, Global};
 use tally_returns::ProgressRow;
@@ -26,20 +28,35 @@ fn push_row(text: &mut String, row: &ProgressRow) -> Result<(), AllocError>
     ensures { OnOk result (string_bytes text.new
         ≡ string_bytes text.old ++ progress_line row.now) }
 {
+    push_left(text, row.con.as_str(), CODE_WIDTH)?;
+    push_numbers(text, &numbers_of(row), 7)?;
+    push_state(text, row.certified)
+}
+
+/// The numbers of a row, in the order of their columns.
+fn numbers_of(row: &ProgressRow) -> [u64; 7]
+    ensures { let r = row.now in result ≡ r.stations
+        ∷ (r.stations - (r.received + r.queried + r.corrected + r.closed))
+        ∷ r.received ∷ r.queried ∷ r.corrected ∷ r.closed ∷ r.edition ∷ [] }
+{
     let stations = u64::from(row.stations);
     let received = u64::from(row.received);
     let queried = u64::from(row.queried);
     let corrected = u64::from(row.corrected);
     let closed = u64::from(row.closed);
     let returns = received + queried + corrected + closed;
-    push_left(text, row.con.as_str(), CODE_WIDTH)?;
-    push_number(text, stations, 7)?;
-    push_number(text, stations.saturating_sub(returns), 7)?;
-    push_number(text, received, 7)?;
-    push_number(text, queried, 7)?;
-    push_number(text, corrected, 7)?;
-    push_number(text, closed, 7)?;
-    push_number(text, u64::from(row.edition), 7)?;
-    let state = if row.certified { "certified" } else { "open" };
+    let missing = stations.saturating_sub(returns);
+    let edition = u64::from(row.edition);
+    [
+        stations, missing, received, queried, corrected, closed, edition,
+    ]
+}
+
+fn push_state(text: &mut String, certified: bool) -> Result<(), AllocError>
+    ensures { OnOk result (string_bytes text.new
+        ≡ string_bytes text.old ++ codes " "
+        ++ (if certified then codes "certified" else codes "open") ++ line_end) }
+{
+    let state = if certified { "certified" } else { "open" };
     writeln!(text, " {state}")
 }

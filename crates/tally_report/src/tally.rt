@@ -1,8 +1,8 @@
 //! The votes of a constituency.
 
-ghost use Rattle.std.specs.Prelude.{◌≡◌, ◌≤◌, ◌<◌, ◌*◌, ◌++◌, IfOk, IfErr, OnOk, sum, string_bytes};
+ghost use Rattle.std.specs.Prelude.{◌≡◌, ◌≤◌, ◌<◌, ◌*◌, ◌++◌, IfOk, IfErr, OnOk, string_bytes};
 ghost use Rattle.tally_frac.specs.Limits.{most_votes};
-ghost use Rattle.tally_setup.specs.Threshold.{IsWithinVotes, base_of, eligible_lists};
+ghost use Rattle.tally_setup.specs.Threshold.{IsWithinVotes, eligible_lists};
 ghost use Rattle.tally_returns.specs.View.{FitsView};
 ghost use Rattle.tally_report.specs.Columns.{list_lines, right_cell};
 ghost use Rattle.tally_report.specs.TallyText.{hundredths, share, tally_columns, tally_line};
@@ -14,7 +14,7 @@ use crate::fault::ReportFault;
 use std::alloc::{AllocError, Global};
 use tally_frac::WHOLE_BASE;
 use tally_returns::ConView;
-use tally_setup::{Base, Constituency, ListEntry, eligible};
+use tally_setup::{Base, Constituency, ListEntry, base_of, eligible};
 
 /// The votes of the closed returns of a constituency: how many of its stations are closed, the
 /// valid, blank and spoiled votes, and of each list its votes, their share in the base of the
@@ -38,7 +38,7 @@ fn push_valid(text: &mut String, view: &ConView) -> Result<(), AllocError>
     requires { IsWithinVotes view.now.votes view.now.blank }
     ensures { OnOk result (string_bytes text.new ≡ string_bytes text.old ++ valid_line view.now) }
 {
-    let valid = base_of(Base::Valid, view);
+    let valid = base_of(Base::Valid, &view.votes, view.blank);
     let (blank, spoiled) = (view.blank, view.spoiled);
     writeln!(text, "valid {valid} blank {blank} spoiled {spoiled}")
 }
@@ -54,7 +54,7 @@ fn push_lists(
     ensures { OnOk result (string_bytes text.new
         ≡ string_bytes text.old ++ list_lines (tally_line con.now view.now) con.now) }
 {
-    let base = base_of(con.profile.base, view);
+    let base = base_of(con.profile.base, &view.votes, view.blank);
     for (place, list) in con.lists.iter().enumerate() {
         push_list(text, list, view.votes[place], base, marks[place])?;
     }
@@ -101,16 +101,4 @@ fn push_hundredths(text: &mut String, n: u64) -> Result<(), AllocError>
     let (tenths, rest) = (n / 10 % 10, n % 10);
     push_number(text, n / 100, 5)?;
     write!(text, ".{tenths}{rest}")
-}
-
-/// The votes that a threshold is a part of.
-fn base_of(base: Base, view: &ConView) -> u64
-    requires { IsWithinVotes view.now.votes view.now.blank }
-    ensures { result ≡ base_of base view.now.votes view.now.blank }
-{
-    let total = view.votes.iter().sum::<u64>();
-    match base {
-        Base::Valid => total + view.blank,
-        Base::Lists => total,
-    }
 }

@@ -1,5 +1,5 @@
 -- What an INSERT of several rows means and does, each with the next item and its number.
-use Rattle.std.proofs.Common.{◌≡◌, ℕ, ◌+◌, ◌-◌, ◌*◌, ◌/◌, ◌≤◌, ◌<◌, pos, suc, zero, List, [], ◌∷◌, ◌++◌, length, take, drop, set, get_or, Result, refl, sym, ap, ap₂, subst, ◌∙◌, arith, true, nat_lt, append_assoc}
+use Rattle.std.proofs.Common.{◌≡◌, Some, ℕ, ◌+◌, ◌-◌, ◌*◌, ◌/◌, ◌≤◌, ◌<◌, pos, suc, zero, List, [], ◌∷◌, ◌++◌, length, take, drop, set, get_or, Result, refl, sym, ap, ap₂, subst, ◌∙◌, arith, true, nat_lt, append_assoc}
 use Rattle.std.specs.List.{AllByRecursion, list_all, range_with_len}
 use Rattle.std.specs.Str.{IsAscii, IsCharBoundary}
 use Rattle.std.specs.List.Sorted.{IsPermutation}
@@ -15,17 +15,19 @@ use Rattle.sqlite_value.specs.declared.value.ValueRef.{ValueRef}
 use Rattle.sqlite_value.specs.Value.{owned}
 use Rattle.sqlite_value.specs.Order.{Row}
 use Rattle.sqlite_sql.specs.Term.{Term, lit, col}
+use Rattle.sqlite_schema.specs.declared.command.Command.{Command}
 use Rattle.sqlite_schema.specs.declared.command.Command.TheVariants.{Insert}
 use Rattle.sqlite_schema.specs.declared.command.Source.TheVariants.{Values}
+use Rattle.sqlite_resolve.specs.Compile.{compiled}
 use Rattle.sqlite_rules.specs.Cast.{cast_all}
 use Rattle.sqlite.specs.declared.error.Error.{Error}
 use Rattle.sqlite.specs.Effect.{value_rows}
 use Rattle.sqlite.specs.Values.{bound, bound_value}
-use Rattle.sqlite.specs.Listing.{understood}
 use Rattle.sqlite.specs.State.{State}
 use Rattle.sqlite_tied.specs.Compute.{everything}
 use Rattle.tally_schema.proofs.ManyLemmas.{unnumbered}
 use Rattle.tally_schema.proofs.StatementLemmas.{cast_int}
+use Rattle.tally_schema.specs.Tables.{office_schema}
 use Rattle.tally_statements.specs.declared.table.KeyedTable.{KeyedTable}
 use Rattle.tally_statements.specs.declared.numbered.NumberedTable.{NumberedTable}
 use Rattle.tally_statements.specs.declared.numbered.NumberedTable.TheVariants as numbered
@@ -34,7 +36,7 @@ use Rattle.tally_statements.specs.internal.Texts.{insert_rows_text, most_rows_te
 use Rattle.tally_statements.specs.internal.Numbered.{IsFront, keyed_table, pairs}
 use Rattle.tally_statements.proofs.TableLemmas.{table_number}
 use Rattle.tally_statements.proofs.TextLemmas.{on_ok}
-use Rattle.tally_statements.proofs.WriteLemmas.{Means, inserts_all}
+use Rattle.tally_statements.proofs.WriteLemmas.{Means, plain_command, understood_as, inserts_all}
 
 -- ---- the terms of the rows, from the parameter at this place on
 
@@ -65,38 +67,42 @@ terms t rows = terms_from (front_terms t) (front_length t) rows
 
 -- ---- what each text means
 
-abbrev MeansRows : NumberedTable → ℕ → Type 0
-MeansRows t rows = Means (insert_rows_text t rows) (Insert (table_number (keyed_table t)) (Values (terms t rows) (width t)))
+abbrev meant : NumberedTable → ℕ → Command
+meant t rows = Insert (table_number (keyed_table t)) (Values (terms t rows) (width t))
 
-counts_mean : AllByRecursion (MeansRows numbered.Counts) (range_with_len 1 16)
-unfolding understood everything
-counts_mean = (record { command = refl; plain = (refl, refl) }, (record { command = refl; plain = (refl, refl) }, (record { command = refl; plain = (refl, refl) }, (record { command = refl; plain = (refl, refl) }, (record { command = refl; plain = (refl, refl) }, (record { command = refl; plain = (refl, refl) }, (record { command = refl; plain = (refl, refl) }, (record { command = refl; plain = (refl, refl) }, (record { command = refl; plain = (refl, refl) }, (record { command = refl; plain = (refl, refl) }, (record { command = refl; plain = (refl, refl) }, (record { command = refl; plain = (refl, refl) }, (record { command = refl; plain = (refl, refl) }, (record { command = refl; plain = (refl, refl) }, (record { command = refl; plain = (refl, refl) }, (record { command = refl; plain = (refl, refl) }, tt))))))))))))))))
+abbrev IsCompiled : NumberedTable → ℕ → Type 0
+IsCompiled t rows = plain_command (compiled office_schema (insert_rows_text t rows)) ≡ Some (meant t rows)
 
-lots_mean : AllByRecursion (MeansRows numbered.Lots) (range_with_len 1 16)
-unfolding understood everything
-lots_mean = (record { command = refl; plain = (refl, refl) }, (record { command = refl; plain = (refl, refl) }, (record { command = refl; plain = (refl, refl) }, (record { command = refl; plain = (refl, refl) }, (record { command = refl; plain = (refl, refl) }, (record { command = refl; plain = (refl, refl) }, (record { command = refl; plain = (refl, refl) }, (record { command = refl; plain = (refl, refl) }, (record { command = refl; plain = (refl, refl) }, (record { command = refl; plain = (refl, refl) }, (record { command = refl; plain = (refl, refl) }, (record { command = refl; plain = (refl, refl) }, (record { command = refl; plain = (refl, refl) }, (record { command = refl; plain = (refl, refl) }, (record { command = refl; plain = (refl, refl) }, (record { command = refl; plain = (refl, refl) }, tt))))))))))))))))
+counts_compiled : AllByRecursion (IsCompiled numbered.Counts) (range_with_len 1 16)
+unfolding everything
+counts_compiled = (refl, (refl, (refl, (refl, (refl, (refl, (refl, (refl, (refl, (refl, (refl, (refl, (refl, (refl, (refl, (refl, tt))))))))))))))))
 
-seats_mean : AllByRecursion (MeansRows numbered.Seats) (range_with_len 1 16)
-unfolding understood everything
-seats_mean = (record { command = refl; plain = (refl, refl) }, (record { command = refl; plain = (refl, refl) }, (record { command = refl; plain = (refl, refl) }, (record { command = refl; plain = (refl, refl) }, (record { command = refl; plain = (refl, refl) }, (record { command = refl; plain = (refl, refl) }, (record { command = refl; plain = (refl, refl) }, (record { command = refl; plain = (refl, refl) }, (record { command = refl; plain = (refl, refl) }, (record { command = refl; plain = (refl, refl) }, (record { command = refl; plain = (refl, refl) }, (record { command = refl; plain = (refl, refl) }, (record { command = refl; plain = (refl, refl) }, (record { command = refl; plain = (refl, refl) }, (record { command = refl; plain = (refl, refl) }, (record { command = refl; plain = (refl, refl) }, tt))))))))))))))))
+lots_compiled : AllByRecursion (IsCompiled numbered.Lots) (range_with_len 1 16)
+unfolding everything
+lots_compiled = (refl, (refl, (refl, (refl, (refl, (refl, (refl, (refl, (refl, (refl, (refl, (refl, (refl, (refl, (refl, (refl, tt))))))))))))))))
 
-past_mean : AllByRecursion (MeansRows numbered.Past) (range_with_len 1 16)
-unfolding understood everything
-past_mean = (record { command = refl; plain = (refl, refl) }, (record { command = refl; plain = (refl, refl) }, (record { command = refl; plain = (refl, refl) }, (record { command = refl; plain = (refl, refl) }, (record { command = refl; plain = (refl, refl) }, (record { command = refl; plain = (refl, refl) }, (record { command = refl; plain = (refl, refl) }, (record { command = refl; plain = (refl, refl) }, (record { command = refl; plain = (refl, refl) }, (record { command = refl; plain = (refl, refl) }, (record { command = refl; plain = (refl, refl) }, (record { command = refl; plain = (refl, refl) }, (record { command = refl; plain = (refl, refl) }, (record { command = refl; plain = (refl, refl) }, (record { command = refl; plain = (refl, refl) }, (record { command = refl; plain = (refl, refl) }, tt))))))))))))))))
+seats_compiled : AllByRecursion (IsCompiled numbered.Seats) (range_with_len 1 16)
+unfolding everything
+seats_compiled = (refl, (refl, (refl, (refl, (refl, (refl, (refl, (refl, (refl, (refl, (refl, (refl, (refl, (refl, (refl, (refl, tt))))))))))))))))
 
-each_means : (t : NumberedTable) → AllByRecursion (MeansRows t) (range_with_len 1 16)
-each_means numbered.Counts = counts_mean
-each_means numbered.Lots = lots_mean
-each_means numbered.Seats = seats_mean
-each_means numbered.Past = past_mean
+past_compiled : AllByRecursion (IsCompiled numbered.Past) (range_with_len 1 16)
+unfolding everything
+past_compiled = (refl, (refl, (refl, (refl, (refl, (refl, (refl, (refl, (refl, (refl, (refl, (refl, (refl, (refl, (refl, (refl, tt))))))))))))))))
 
-means_rows : (t : NumberedTable) (rows : ℕ) → 1 ≤ rows → rows ≤ 16 → MeansRows t rows
+each_compiled : (t : NumberedTable) → AllByRecursion (IsCompiled t) (range_with_len 1 16)
+each_compiled numbered.Counts = counts_compiled
+each_compiled numbered.Lots = lots_compiled
+each_compiled numbered.Seats = seats_compiled
+each_compiled numbered.Past = past_compiled
+
+means_rows : (t : NumberedTable) (rows : ℕ) → 1 ≤ rows → rows ≤ 16 → Means (insert_rows_text t rows) (meant t rows)
 means_rows t rows some few =
     let place : ℕ = rows - 1 in
     let zeroth : ℕ = 0 in
     let low : place < 16 = omega (arith, some, few) in
     let at : 1 + place ≡ rows = omega (arith, some) in
-    subst (MeansRows t) (get_or-range_with_len 1 16 place zeroth low ∙ at) (All-from_recursion (MeansRows t) (range_with_len 1 16) (each_means t) place zeroth low)
+    let is : IsCompiled t rows = subst (IsCompiled t) (get_or-range_with_len 1 16 place zeroth low ∙ at) (All-from_recursion (IsCompiled t) (range_with_len 1 16) (each_compiled t) place zeroth low) in
+    (understood_as (insert_rows_text t rows) (meant t rows) is).0
 
 -- ---- where a text may end
 

@@ -1,5 +1,5 @@
 -- What the SELECTs of a key answer.
-use Rattle.std.proofs.Common.{◌≡◌, ℕ, List, [], ◌∷◌, map, drop, filter, codes, false, Less, refl, sym, ap, subst, ◌∙◌}
+use Rattle.std.proofs.Common.{◌≡◌, Some, ℕ, List, [], ◌∷◌, map, drop, filter, codes, false, Less, refl, sym, ap, subst, ◌∙◌}
 use Rattle.std.specs.List.{AllByRecursion}
 use Rattle.std.specs.List.Sorted.{IsPermutation}
 use Rattle.sqlite_value.specs.declared.value.Value.TheVariants.{Null, Text}
@@ -11,8 +11,10 @@ use Rattle.sqlite_trees.specs.Tree.{Trees}
 use Rattle.sqlite_sql.specs.Term.{Term, col}
 use Rattle.sqlite_sql.specs.Query.{Output, output, output_cmp}
 use Rattle.sqlite_sql.specs.Program.{overlay}
+use Rattle.sqlite_schema.specs.declared.command.Command.{Command}
 use Rattle.sqlite_schema.specs.declared.command.Command.TheVariants.{Select}
-use Rattle.sqlite.specs.Listing.{understood, reads_listing}
+use Rattle.sqlite_resolve.specs.Compile.{compiled}
+use Rattle.sqlite.specs.Listing.{reads_listing}
 use Rattle.sqlite.specs.State.{State, Shown}
 use Rattle.sqlite.proofs.Callers.{reads_as}
 use Rattle.sqlite_keyed.proofs.ListLemmas.{filter-map, filter_same, ascending_weaker}
@@ -25,7 +27,7 @@ use Rattle.tally_statements.specs.declared.table.KeyedTable.{KeyedTable}
 use Rattle.tally_statements.specs.declared.table.KeyedTable.TheVariants.{Returns, Counts, Cons, Lots, Seats, Gone, Totals, Past}
 use Rattle.tally_statements.specs.Office.{tree_of, rows_in, IsInside, key_cells, all_cells, IsFound}
 use Rattle.tally_statements.specs.internal.Texts.{rows_of_text}
-use Rattle.tally_statements.proofs.WriteLemmas.{Means}
+use Rattle.tally_statements.proofs.WriteLemmas.{Means, plain_command, understood_as}
 
 -- the columns that are shown
 abbrev pub columns_of : KeyedTable → List Term
@@ -59,27 +61,25 @@ names_of Gone = codes "con" ∷ codes "list" ∷ codes "place" ∷ codes "note" 
 names_of Totals = codes "con" ∷ codes "item" ∷ codes "n" ∷ []
 names_of Past = codes "con" ∷ codes "edition" ∷ codes "list" ∷ codes "n" ∷ []
 
-pub rows_of_means : (t : KeyedTable) → Means (rows_of_text t) (Select (record { lets = []; body = from_table (tree_of t) by_text (columns_of t) (order_of t) }) (names_of t))
-unfolding understood everything
-rows_of_means Returns = record { command = refl; plain = (refl, refl) }
-rows_of_means Counts = record { command = refl; plain = (refl, refl) }
-rows_of_means Cons = record { command = refl; plain = (refl, refl) }
-rows_of_means Lots = record { command = refl; plain = (refl, refl) }
-rows_of_means Seats = record { command = refl; plain = (refl, refl) }
-rows_of_means Gone = record { command = refl; plain = (refl, refl) }
-rows_of_means Totals = record { command = refl; plain = (refl, refl) }
-rows_of_means Past = record { command = refl; plain = (refl, refl) }
+abbrev rows_of_query : KeyedTable → Command
+rows_of_query t = Select (record { lets = []; body = from_table (tree_of t) by_text (columns_of t) (order_of t) }) (names_of t)
+
+rows_of_compiled : (t : KeyedTable) → plain_command (compiled office_schema (rows_of_text t)) ≡ Some (rows_of_query t)
+unfolding everything
+rows_of_compiled Returns = refl
+rows_of_compiled Counts = refl
+rows_of_compiled Cons = refl
+rows_of_compiled Lots = refl
+rows_of_compiled Seats = refl
+rows_of_compiled Gone = refl
+rows_of_compiled Totals = refl
+rows_of_compiled Past = refl
+
+pub rows_of_means : (t : KeyedTable) → Means (rows_of_text t) (rows_of_query t)
+rows_of_means t = (understood_as (rows_of_text t) (rows_of_query t) (rows_of_compiled t)).0
 
 unlisted : (t : KeyedTable) → reads_listing office_schema (rows_of_text t) ≡ false
-unfolding understood everything
-unlisted Returns = refl
-unlisted Counts = refl
-unlisted Cons = refl
-unlisted Lots = refl
-unlisted Seats = refl
-unlisted Gone = refl
-unlisted Totals = refl
-unlisted Past = refl
+unlisted t = (understood_as (rows_of_text t) (rows_of_query t) (rows_of_compiled t)).1
 
 pub plain : (t : KeyedTable) (trees : Trees) → overlay trees [] (tree_of t) ≡ trees (tree_of t)
 plain Returns trees = refl

@@ -1,5 +1,5 @@
 -- What the SELECTs of whole tables answer.
-use Rattle.std.proofs.Common.{◌≡◌, ℕ, List, [], ◌∷◌, None, map, drop, filter, true, false, Less, refl, sym, ap, ap₂, subst, ◌∙◌}
+use Rattle.std.proofs.Common.{◌≡◌, Some, ℕ, List, [], ◌∷◌, None, map, drop, filter, true, false, Less, refl, sym, ap, ap₂, subst, ◌∙◌}
 use Rattle.std.specs.List.{AllByRecursion}
 use Rattle.std.specs.List.Sorted.{IsPermutation}
 use Rattle.std.proofs.lemmas.Bool.{and_parts}
@@ -10,14 +10,16 @@ use Rattle.sqlite_trees.specs.Tree.{Trees}
 use Rattle.sqlite_sql.specs.Term.{Term}
 use Rattle.sqlite_sql.specs.Query.{IsAnswer, output_cmp}
 use Rattle.sqlite_sql.specs.Program.{overlay}
+use Rattle.sqlite_schema.specs.declared.command.Command.{Command}
 use Rattle.sqlite_schema.specs.declared.command.Command.TheVariants.{Select}
 use Rattle.sqlite_schema.specs.declared.schema.Column.{Column}
 use Rattle.sqlite_schema.specs.declared.schema.Schema.{Schema}
 use Rattle.sqlite_schema.specs.declared.schema.Table.{Table}
 use Rattle.sqlite_schema.specs.declared.schema.Constraint.TheVariants.{Datatype, NotNull}
 use Rattle.sqlite_schema.specs.Rules.{Keeps, passes, are_typed, has_computed}
+use Rattle.sqlite_resolve.specs.Compile.{compiled}
 use Rattle.sqlite.specs.Effect.{IsDatabase, Database}
-use Rattle.sqlite.specs.Listing.{understood, reads_listing}
+use Rattle.sqlite.specs.Listing.{reads_listing}
 use Rattle.sqlite.specs.State.{State, Shown}
 use Rattle.sqlite.proofs.Callers.{reads_as}
 use Rattle.sqlite_keyed.proofs.ListLemmas.{all_both, ascending_weaker}
@@ -31,7 +33,7 @@ use Rattle.tally_statements.specs.declared.table.KeyedTable.{KeyedTable}
 use Rattle.tally_statements.specs.declared.table.KeyedTable.TheVariants.{Returns, Counts, Cons, Lots, Seats, Gone, Totals, Past}
 use Rattle.tally_statements.specs.Office.{table_of, tree_of, HasTables, ShowsTable}
 use Rattle.tally_statements.specs.internal.Texts.{all_rows_text}
-use Rattle.tally_statements.proofs.WriteLemmas.{Means}
+use Rattle.tally_statements.proofs.WriteLemmas.{Means, plain_command, understood_as}
 use Rattle.tally_statements.proofs.SelectLemmas.{columns_of, order_of, names_of, plain, out_of, outputs_at, compared_at, shown_whole}
 
 -- ---- rows that obey their table have its columns and no more
@@ -90,27 +92,25 @@ shown_cells t (r ∷ rows) h = ap₂ (λ x l. x ∷ l) (sym (h.0 ∙ shown_is t 
 
 -- ---- what the texts mean
 
-pub all_rows_mean : (t : KeyedTable) → Means (all_rows_text t) (Select (record { lets = []; body = from_table (tree_of t) [] (columns_of t) (order_of t) }) (names_of t))
-unfolding understood everything
-all_rows_mean Returns = record { command = refl; plain = (refl, refl) }
-all_rows_mean Counts = record { command = refl; plain = (refl, refl) }
-all_rows_mean Cons = record { command = refl; plain = (refl, refl) }
-all_rows_mean Lots = record { command = refl; plain = (refl, refl) }
-all_rows_mean Seats = record { command = refl; plain = (refl, refl) }
-all_rows_mean Gone = record { command = refl; plain = (refl, refl) }
-all_rows_mean Totals = record { command = refl; plain = (refl, refl) }
-all_rows_mean Past = record { command = refl; plain = (refl, refl) }
+abbrev all_rows_query : KeyedTable → Command
+all_rows_query t = Select (record { lets = []; body = from_table (tree_of t) [] (columns_of t) (order_of t) }) (names_of t)
+
+all_rows_compiled : (t : KeyedTable) → plain_command (compiled office_schema (all_rows_text t)) ≡ Some (all_rows_query t)
+unfolding everything
+all_rows_compiled Returns = refl
+all_rows_compiled Counts = refl
+all_rows_compiled Cons = refl
+all_rows_compiled Lots = refl
+all_rows_compiled Seats = refl
+all_rows_compiled Gone = refl
+all_rows_compiled Totals = refl
+all_rows_compiled Past = refl
+
+pub all_rows_mean : (t : KeyedTable) → Means (all_rows_text t) (all_rows_query t)
+all_rows_mean t = (understood_as (all_rows_text t) (all_rows_query t) (all_rows_compiled t)).0
 
 all_unlisted : (t : KeyedTable) → reads_listing office_schema (all_rows_text t) ≡ false
-unfolding understood everything
-all_unlisted Returns = refl
-all_unlisted Counts = refl
-all_unlisted Cons = refl
-all_unlisted Lots = refl
-all_unlisted Seats = refl
-all_unlisted Gone = refl
-all_unlisted Totals = refl
-all_unlisted Past = refl
+all_unlisted t = (understood_as (all_rows_text t) (all_rows_query t) (all_rows_compiled t)).1
 
 -- ---- with no WHERE all rows are shown
 

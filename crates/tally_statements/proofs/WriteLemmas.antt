@@ -1,5 +1,5 @@
 -- What an INSERT, an UPDATE and a DELETE do to the tables of the office.
-use Rattle.std.proofs.Common.{◌≡◌, ℕ, ◌/◌, ℤ, pos, List, [], ◌∷◌, ◌++◌, length, drop, filter, not, ◌&&◌, cond, true, None, Ok, sym, ap, ap₂, subst, ◌∙◌}
+use Rattle.std.proofs.Common.{◌≡◌, ℕ, ◌/◌, ℤ, pos, List, [], ◌∷◌, ◌++◌, length, drop, filter, not, ◌&&◌, cond, true, false, Option, Some, None, Result, Ok, Err, refl, sym, ap, ap₂, subst, ◌∙◌}
 use Rattle.std.specs.List.{AllByRecursion}
 use Rattle.std.specs.List.Sorted.{IsPermutation}
 use Rattle.std.proofs.lemmas.List.Sorted.{IsPermutation-refl, IsPermutation-cons, IsPermutation-trans}
@@ -17,10 +17,13 @@ use Rattle.sqlite_sql.specs.Program.{overlay}
 use Rattle.sqlite_schema.specs.declared.command.Command.{Command}
 use Rattle.sqlite_schema.specs.declared.command.Command.TheVariants.{Insert, Update, Delete}
 use Rattle.sqlite_schema.specs.declared.command.Source.TheVariants.{Values}
+use Rattle.sqlite_resolve.specs.declared.compiled.Compiled.{Compiled}
+use Rattle.sqlite_resolve.specs.declared.error.CompileError.{CompileError}
+use Rattle.sqlite_resolve.specs.Compile.{compiled}
 use Rattle.sqlite_rules.specs.Cast.{cast_all}
 use Rattle.sqlite.specs.Does.{Does}
 use Rattle.sqlite.specs.Effect.{value_rows}
-use Rattle.sqlite.specs.Listing.{understood}
+use Rattle.sqlite.specs.Listing.{understood, reads_listing, listing_schema, misses_table, if_select}
 use Rattle.sqlite.specs.State.{State, Writes, mode_of, ExecutesInside}
 use Rattle.sqlite.proofs.Callers.{IsPlain, command_of, statement_of, runs_as, one_permutation}
 use Rattle.sqlite_keyed.proofs.ListLemmas.{IsPermutation-filter}
@@ -40,6 +43,33 @@ use Rattle.tally_statements.proofs.TableLemmas.{table_number, ordinary, no_index
 pub record Means (sql : List ℕ) (meant : Command) : Type 0 where
   pub command : command_of (understood office_schema sql) ≡ meant
   pub plain : IsPlain (understood office_schema sql)
+
+-- what a text is compiled to, if it has no RETURNING and does not read the time
+abbrev if_plain : {R F : Type 0} → Option R → List F → Command → Option Command
+if_plain None [] command = Some command
+if_plain None (format ∷ formats) command = None
+if_plain (Some returned) formats command = None
+
+abbrev pub plain_command : Result Compiled CompileError → Option Command
+plain_command (Ok c) = if_plain c.returning c.formats c.command
+plain_command (Err e) = None
+
+plain_is : {R F : Type 0} (returning : Option R) (formats : List F) (command meant : Command) → if_plain returning formats command ≡ Some meant → (command ≡ meant) × (returning ≡ None) × (formats ≡ [])
+plain_is None [] command meant is = (let e = is in cc, refl, refl)
+plain_is None (format ∷ formats) command meant is = absurd (let e = is in cc)
+plain_is (Some returned) formats command meant is = absurd (let e = is in cc)
+
+-- What a text is understood as. One equation on what it is compiled to is cheap: each part of a
+-- record or a product of several would compile the text again.
+pub understood_as : (sql : List ℕ) (meant : Command) → plain_command (compiled office_schema sql) ≡ Some meant → Means sql meant × (reads_listing office_schema sql ≡ false)
+unfolding understood
+understood_as sql meant is =
+    let parts = go (compiled office_schema sql) (if_select (compiled listing_schema sql)) is in
+    (record { command = parts.0; plain = parts.1 }, parts.2)
+  where
+    go : (u other : Result Compiled CompileError) → plain_command u ≡ Some meant → (command_of (cond (misses_table u) other u) ≡ meant) × IsPlain (cond (misses_table u) other u) × (misses_table u ≡ false)
+    go (Ok c) other it = let parts = plain_is c.returning c.formats c.command meant it in (parts.0, (parts.1, parts.2), refl)
+    go (Err e) other it = absurd (let k = it in cc)
 
 -- what a write did, under the schema of the office
 pub does : (sql : List ℕ) (params : Row) (command : Command) (old new : State) (count : ℕ) → old.now.schema ≡ office_schema → (w : Writes old new None command (statement_of sql (understood office_schema sql)) params count)

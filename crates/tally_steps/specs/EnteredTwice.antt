@@ -123,7 +123,7 @@ ClosedReturnsWereEnteredTwice =
     (setup : List Constituency) (t : State) (asks : List Ask) (rs : List (Result Reply Refusal))
     → IsRun setup (opening setup) asks rs t → ForClosedReturns setup t (IsEnteredTwice asks rs)
 
--- and each one of a certified constituency: every vote that counts was typed twice, and the same
+-- and each one of a certified constituency: every vote that counts was entered twice, and the same
 abbrev pub CertifiedReturnsWereEnteredTwice : Type 0
 CertifiedReturnsWereEnteredTwice =
     (setup : List Constituency) (t : State) (asks : List Ask) (rs : List (Result Reply Refusal))

@@ -26,7 +26,7 @@ IsClosedRow con row =
     (column row 1 ≡ Text con.code) × (column row 4 ≡ Int (pos (status_number Closed)))
 
 -- The row is that of a return that was entered twice by what happened, and the rows of `counts` of
--- its station have the counts that were typed twice.
+-- its station have the counts that were entered twice.
 pub record IsRowEnteredTwice (events : List Event) (con : Constituency) (seen : Seen) (row : Row)
     : Type 0 where
   pub station : List ℕ

@@ -41,7 +41,7 @@ pub fn certified_seats_are_the_allotment<S: Alter>(store: &Store<S>)
 /// As long as the disk has returned what was written and has not failed, each row of `returns` that
 /// is closed, of a constituency whose returns are entered twice, was entered twice by whatever
 /// happened since the store's content was the opening state of its setup, and the rows of `counts`
-/// are what was typed twice.
+/// are what was entered twice.
 pub fn closed_rows_were_entered_twice<S: Alter>(store: &Store<S>)
     ensures { HasRowsEnteredTwiceIn S.Store store.now }
 {

@@ -1,5 +1,5 @@
 -- Rows that read as a return are its rows, and the rows of a return read as it.
-use Rattle.std.proofs.Common.{◌≡◌, ◌<◌, ◌≤◌, ◌^◌, ◌+◌, ◌-◌, ℕ, suc, pos, Bool, true, false, cond, Option, Some, None, List, [], ◌∷◌, ◌++◌, map, length, take, drop, append_assoc, take-append-drop, length-append, get_or, refl, sym, ap, ap₂, subst, ◌∙◌, arith}
+use Rattle.std.proofs.Common.{◌≡◌, ◌<◌, ◌≤◌, ◌^◌, ◌+◌, ◌-◌, ℕ, suc, pos, Bool, true, false, cond, Option, Some, None, List, [], ◌∷◌, ◌++◌, map, length, take, drop, append_assoc, append-nil, take-append-drop, length-append, get_or, true≢false, refl, sym, ap, ap₂, subst, ◌∙◌, arith}
 use Rattle.std.specs.Prelude.{option_and_then, option_map, slice_index_or, slice_range, nat_le, ◌==◌}
 use Rattle.std.specs.List.{AllByRecursion, flat_map}
 use Rattle.std.specs.Str.{is_utf8}
@@ -301,6 +301,18 @@ one_entry setup so_far rows counts i row place e low at is enough found =
     moved None = refl
     moved (Some es) = ap Some (sym (append_assoc so_far (e ∷ []) es))
 
-pub too_many : (setup : List Constituency) (so_far : List (List ℕ × StationReturn)) (rows counts : List Row) (i : ℕ) → length rows ≤ i → 0 < length counts → Reading setup so_far (drop i rows) counts ≡ None
-too_many setup so_far rows [] i past some = absurd (omega (arith, some))
+-- where the rows of `counts` do not read as those of the return
+pub no_entry : (setup : List Constituency) (so_far : List (List ℕ × StationReturn)) (rows counts : List Row) (i : ℕ) (row : Row) (place : Constituency × Station) → i < length rows → row ≡ get_or rows i row → Some place ≡ station_of_row setup row
+    → length place.0.lists + 2 ≤ length counts → None ≡ entry_of place.0.code place.1.code row (take (length place.0.lists + 2) counts) → Reading setup so_far (drop i rows) counts ≡ None
+no_entry setup so_far rows counts i row place low at is enough none = with_entry setup so_far rows counts i row place None low at is enough none
+
+pub no_station : (setup : List Constituency) (so_far : List (List ℕ × StationReturn)) (rows counts : List Row) (i : ℕ) (row : Row) → i < length rows → row ≡ get_or rows i row → None ≡ station_of_row setup row → Reading setup so_far (drop i rows) counts ≡ None
+no_station setup so_far rows counts i row low at none = at_row setup so_far rows counts i row None low at none
+
+pub too_many : (setup : List Constituency) (so_far : List (List ℕ × StationReturn)) (rows counts : List Row) (i : ℕ) → length rows ≤ i → (length counts == 0) ≡ false → Reading setup so_far (drop i rows) counts ≡ None
+too_many setup so_far rows [] i past some = absurd (true≢false some)
 too_many setup so_far rows (c ∷ counts) i past some = ap (λ l. Reading setup so_far l (c ∷ counts)) (drop_all i rows past)
+
+pub none_left : (setup : List Constituency) (so_far : List (List ℕ × StationReturn)) (rows counts : List Row) (i : ℕ) → length rows ≤ i → (length counts == 0) ≡ true → Reading setup so_far (drop i rows) counts ≡ Some so_far
+none_left setup so_far rows [] i past none = ap (λ l. Reading setup so_far l []) (drop_all i rows past) ∙ ap Some (append-nil so_far)
+none_left setup so_far rows (c ∷ counts) i past none = absurd (omega (arith, eqb-true (length (c ∷ counts)) 0 none))

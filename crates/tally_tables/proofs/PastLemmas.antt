@@ -1,7 +1,7 @@
 -- A loop that reads certificates that were reopened.
-use Rattle.std.proofs.Common.{◌≡◌, ◌<◌, ◌≤◌, ◌+◌, ◌-◌, ℕ, zero, suc, false, cond, Option, Some, None, List, [], ◌∷◌, ◌++◌, length, take, drop, append_assoc, true≢false, refl, sym, ap, ◌∙◌, arith}
+use Rattle.std.proofs.Common.{◌≡◌, ◌<◌, ◌≤◌, ◌+◌, ◌-◌, ℕ, zero, suc, true, false, cond, Option, Some, None, List, [], ◌∷◌, ◌++◌, length, take, drop, append_assoc, append-nil, true≢false, refl, sym, ap, ◌∙◌, arith}
 use Rattle.std.specs.Prelude.{option_and_then, option_map, ◌==◌}
-use Rattle.std.proofs.lemmas.Bool.{le-leb, lt-leb}
+use Rattle.std.proofs.lemmas.Bool.{eqb-true, le-leb, lt-leb}
 use Rattle.sqlite_value.specs.Order.{Row}
 use Rattle.tally_returns.specs.PastSeats.{PastSeats}
 use Rattle.tally_tables.specs.Reading.{record_of, records_of}
@@ -16,9 +16,13 @@ too_few con lists so_far zero (row ∷ rows) some few = refl
 too_few con lists so_far (suc most) (row ∷ rows) some few =
     ap (λ b. option_map (λ rs. so_far ++ rs) (cond b (option_and_then (λ r. option_map (λ rs. r ∷ rs) (records_of con lists most (drop lists (row ∷ rows)))) (record_of con (take lists (row ∷ rows)))) None)) (lt-leb lists (length (row ∷ rows)) few)
 
-pub too_many : (con : List ℕ) (lists : ℕ) (so_far : List PastSeats) (rows : List Row) → 0 < length rows → Reading con lists so_far zero rows ≡ None
-too_many con lists so_far [] some = absurd (omega (arith, some))
-too_many con lists so_far (row ∷ rows) some = refl
+pub too_many : (con : List ℕ) (lists : ℕ) (so_far : List PastSeats) (most : ℕ) (rows : List Row) → most ≡ zero → (length rows == 0) ≡ false → Reading con lists so_far most rows ≡ None
+too_many con lists so_far most [] none some = absurd (true≢false some)
+too_many con lists so_far most (row ∷ rows) none some = ap (λ m. Reading con lists so_far m (row ∷ rows)) none
+
+pub none_left : (con : List ℕ) (lists : ℕ) (so_far : List PastSeats) (most : ℕ) (rows : List Row) → (length rows == 0) ≡ true → Reading con lists so_far most rows ≡ Some so_far
+none_left con lists so_far most [] none = ap Some (append-nil so_far)
+none_left con lists so_far most (row ∷ rows) none = absurd (omega (arith, eqb-true (length (row ∷ rows)) 0 none))
 
 -- with rows enough
 with_record : (con : List ℕ) (lists : ℕ) (so_far : List PastSeats) (most next : ℕ) (rows : List Row) (o : Option PastSeats) → most ≡ suc next → 0 < length rows → lists ≤ length rows → o ≡ record_of con (take lists rows)
@@ -38,6 +42,9 @@ one_record con lists so_far most i rows r low some enough e =
     moved : (o : Option (List PastSeats)) → option_map (λ rs. so_far ++ rs) (option_map (λ rs. r ∷ rs) o) ≡ option_map (λ rs. (so_far ++ r ∷ []) ++ rs) o
     moved None = refl
     moved (Some rs) = ap Some (sym (append_assoc so_far (r ∷ []) rs))
+
+pub no_record : (con : List ℕ) (lists : ℕ) (so_far : List PastSeats) (most i : ℕ) (rows : List Row) → i < most → 0 < length rows → lists ≤ length rows → None ≡ record_of con (take lists rows) → Reading con lists so_far (most - i) rows ≡ None
+no_record con lists so_far most i rows low some enough none = with_record con lists so_far (most - i) (most - (i + 1)) rows None (omega (arith, low)) some enough none
 
 -- a test that left rows
 pub some_left : {X : Type 0} (xs : List X) → (length xs == 0) ≡ false → 0 < length xs

@@ -1,7 +1,7 @@
 -- A loop that reads one row after another.
-use Rattle.std.proofs.Common.{◌≡◌, ◌<◌, ◌+◌, ℕ, Option, Some, None, List, [], ◌∷◌, ◌++◌, length, drop, get_or, append_assoc, refl, sym, ap, ◌∙◌}
+use Rattle.std.proofs.Common.{◌≡◌, ◌<◌, ◌≤◌, ◌+◌, ℕ, Option, Some, None, List, [], ◌∷◌, ◌++◌, length, drop, get_or, append_assoc, append-nil, refl, sym, ap, ◌∙◌}
 use Rattle.std.specs.Prelude.{option_and_then, option_map}
-use Rattle.std.proofs.lemmas.List.{drop_more}
+use Rattle.std.proofs.lemmas.List.{drop_more, drop_all}
 use Rattle.sqlite_value.specs.Order.{Row}
 use Rattle.tally_tables.specs.Reading.{read_all}
 
@@ -26,3 +26,9 @@ module _ {X : Type 0} (read : ℕ → Row → Option X) where
   pub reading_more : (so_far : List X) (first : ℕ) (rows : List Row) (i : ℕ) (row : Row) (x : X) → i < length rows → row ≡ get_or rows i row → Some x ≡ read first row
       → Reading so_far first (drop i rows) ≡ Reading (so_far ++ x ∷ []) (first + 1) (drop (i + 1) rows)
   reading_more so_far first rows i row x low at is = at_row so_far first rows i row (Some x) low at is ∙ moved so_far x (read_all read (first + 1) (drop (i + 1) rows))
+
+  pub reading_stops : (so_far : List X) (first : ℕ) (rows : List Row) (i : ℕ) (row : Row) → i < length rows → row ≡ get_or rows i row → None ≡ read first row → Reading so_far first (drop i rows) ≡ None
+  reading_stops so_far first rows i row low at is = at_row so_far first rows i row None low at is
+
+  pub reading_ends : (so_far : List X) (first : ℕ) (rows : List Row) (i : ℕ) → length rows ≤ i → Reading so_far first (drop i rows) ≡ Some so_far
+  reading_ends so_far first rows i past = ap (Reading so_far first) (drop_all i rows past) ∙ ap Some (append-nil so_far)

@@ -1,7 +1,8 @@
-use Rattle.std.proofs.Common.{refl}
+use Rattle.std.proofs.Common.{ℕ, List, refl, sym, subst}
 use Rattle.std.proofs.lemmas.Bool.{false≢true}
 use Rattle.tally_contest.specs.internal.ContestTerms.{divisor_terms}
 use Rattle.tally_contest.specs.internal.KeptPoll.{kept_poll}
+use Rattle.tally_contest.specs.internal.Terms.{AreFairSeats}
 use Rattle.tally_contest.proofs.TermsRace.{races, from_placed}
 use Rattle.tally_allot.proofs.AwardLemmas.{rows_of_won}
 use Rattle.tally_allot.proofs.KeyLemmas.{have_keys, few_in_lot}
@@ -41,3 +42,28 @@ pub returns-in-Right-clause-proper : goal.returns-in-Right-clause-proper
 returns-in-Right-clause-proper g c =
     let t = c.args.contest.now in
     proper_if_may (kept_poll t.poll) t.lot.now (c.if-not-may_be_taken.ensures.0 refl)
+
+pub returns-then-not-has_eligible-clause-fault : goal.returns-then-not-has_eligible-clause-fault
+returns-then-not-has_eligible-clause-fault g c = λ e. false≢true (c.if-not-has_eligible.ensures.1 e)
+
+pub award_from_heap-requires-clause-eligible : goal.award_from_heap-requires-clause-eligible
+award_from_heap-requires-clause-eligible g c = c.if-not-has_eligible.ensures.0 refl
+
+pub verdict_on_lot-requires-clause-fair : goal.verdict_on_lot-requires-clause-fair
+verdict_on_lot-requires-clause-fair g c =
+    subst (λ (a : List ℕ). AreFairSeats (divisor_terms g.D.Divisors.divisor g.D.Divisors.unit_of c.args.contest.now) a) (sym c.deref.ensures.value) c.in_ok-awarded.ensures.fair
+
+pub returns-in-Right-clause-won : goal.returns-in-Right-clause-won
+returns-in-Right-clause-won g c = c.in_ok-awarded.ensures.won
+
+pub returns-in-Right-clause-lot_taken : goal.returns-in-Right-clause-lot_taken
+returns-in-Right-clause-lot_taken g c = c.in-Right.ensures
+
+pub returns-in-Right-clause-eligible : goal.returns-in-Right-clause-eligible
+returns-in-Right-clause-eligible g c = c.if-not-has_eligible.ensures.0 refl
+
+pub returns-in-Missing-clause-fault : goal.returns-in-Missing-clause-fault
+returns-in-Missing-clause-fault g c = (c.if-not-has_eligible.ensures.0 refl, c.in-Missing.ensures.0, c.in-Missing.ensures.1)
+
+pub returns-in-Wrong-clause-fault : goal.returns-in-Wrong-clause-fault
+returns-in-Wrong-clause-fault g c = (c.if-not-has_eligible.ensures.0 refl, c.in-Wrong.ensures)

@@ -1,16 +1,21 @@
-use Rattle.std.proofs.Common.{◌≡◌, ℕ, ◌+◌, List, [], ◌∷◌, ◌++◌, length, get_or, set, take, drop, heap_items, sym, ap, ◌∙◌, subst, arith}
+use Rattle.std.proofs.Common.{◌≡◌, ℕ, ◌+◌, ◌<◌, List, [], ◌∷◌, ◌++◌, length, get_or, set, take, drop, heap_items, sum, sym, ap, ◌∙◌, subst, arith}
 use Rattle.std.proofs.Math.Seq.{take-append_seam}
 use Rattle.std.proofs.lemmas.List.{length-set}
 use Rattle.tally_contest.specs.internal.ContestTerms.{divisor_terms}
 use Rattle.tally_contest.specs.declared.won.WonSeat.{WonSeat}
 use Rattle.tally_contest.specs.internal.NextPairs.{AreNext}
 use Rattle.tally_contest.specs.internal.Race.{IsFair, IsHighestNext}
-use Rattle.tally_contest.specs.internal.Terms.{placed_race}
-use Rattle.tally_contest.specs.internal.WonSeat.{AreWon}
+use Rattle.tally_contest.specs.internal.Terms.{AreFairSoFar, placed_race}
+use Rattle.tally_contest.specs.internal.WonSeat.{AreWon, none_held}
+use Rattle.tally_contest.specs.internal.KeptPoll.{kept_poll}
+use Rattle.tally_contest.proofs.Floors.{at_end, none_fair, none_won}
 use Rattle.tally_contest.proofs.AwardStep.{award, one_more}
 use Rattle.tally_contest.proofs.TermsRace.{races, within_placed, total_placed}
 use Rattle.tally_contest.proofs.WonLemmas.{won_more}
 use Rattle.tally_contest.proofs.heap_award.award_from_heap.Goals as goal
+
+room_for : (a b : List ℕ) (n m k : ℕ) → a ≡ b → sum b ≡ n → n < m → m ≡ k → sum a < k
+room_for a b n m k e t lt q = omega (arith, ap sum e)
 
 pub loop-seat-preserved : goal.loop-seat-preserved
 loop-seat-preserved g c =
@@ -41,3 +46,40 @@ loop-seat-preserved g c =
       order = step.order;
       next = subst E (sym back) step.next;
     }
+
+pub loop-seat-init : goal.loop-seat-init
+loop-seat-init g c =
+    let t = c.args.contest.now in
+    let terms = divisor_terms g.D.Divisors.divisor g.D.Divisors.unit_of t in
+    let e = c.in_ok-seats.ensures ∙ ap none_held c.count.ensures.count in
+    record {
+      fair = subst (λ (a : List ℕ). IsFair (placed_race terms) 0 a) (sym e) (none_fair (g.D.Divisors.divisor t.divisors) t.lot_rule (kept_poll t.poll) t.lot.now t.seats);
+      won = subst (λ (a : List ℕ). AreWon (placed_race terms) a c.in_ok-pairs.pairs.items) (sym e) (subst (λ (rows : List WonSeat). AreWon (placed_race terms) (none_held (length t.poll.votes.now)) rows) (sym c.in_ok-pairs.ensures.items) (none_won (placed_race terms) (length t.poll.votes.now)));
+      order = c.in_ok-next.ensures.order;
+      next = subst (λ (a : List ℕ). AreNext terms (length t.poll.votes.now) a (heap_items c.in_ok-next.next)) (sym e) c.in_ok-next.ensures.next;
+    }
+
+pub award_next-requires-clause-fair : goal.award_next-requires-clause-fair
+award_next-requires-clause-fair g c =
+    let terms = divisor_terms g.D.Divisors.divisor g.D.Divisors.unit_of c.args.contest.now in
+    let i = c.loop-seat.invariant.fair in
+    subst (λ (a : List ℕ). AreFairSoFar terms a) (sym c.deref_mut.ensures.value) (subst (λ (n : ℕ). IsFair (placed_race terms) n c.loop-seat.seats.items) (sym i.total) i)
+
+pub award_next-requires-clause-room : goal.award_next-requires-clause-room
+award_next-requires-clause-room g c = room_for _ _ _ _ _ c.deref_mut.ensures.value c.loop-seat.invariant.fair.total c.loop-seat-test.true c.seats-seat-end.ensures
+
+pub award_next-requires-clause-order : goal.award_next-requires-clause-order
+award_next-requires-clause-order g c = c.loop-seat.invariant.order
+
+pub award_next-requires-clause-next : goal.award_next-requires-clause-next
+award_next-requires-clause-next g c =
+    let t = c.args.contest.now in
+    subst (λ (a : List ℕ). AreNext (divisor_terms g.D.Divisors.divisor g.D.Divisors.unit_of t) (length t.poll.votes.now) a (heap_items c.loop-seat.next)) (sym c.deref_mut.ensures.value) c.loop-seat.invariant.next
+
+pub returns-clause-fair : goal.returns-clause-fair
+returns-clause-fair g c =
+    let all = at_end _ _ _ c.loop-seat-test.false c.loop-seat.auto._seat-end c.seats-seat-end.ensures in
+    subst (λ (n : ℕ). IsFair (placed_race (divisor_terms g.D.Divisors.divisor g.D.Divisors.unit_of c.args.contest.now)) n c.loop-seat.seats.items) all c.loop-seat.invariant.fair
+
+pub returns-clause-won : goal.returns-clause-won
+returns-clause-won g c = c.loop-seat.invariant.won

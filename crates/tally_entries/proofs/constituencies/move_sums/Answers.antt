@@ -6,6 +6,7 @@ use Rattle.tally_returns.specs.Counts.{VoteCounts}
 use Rattle.tally_statements.specs.declared.table.KeyedTable.TheVariants.{Totals}
 use Rattle.tally_entries.specs.internal.Constituencies.{DifferBy}
 use Rattle.tally_entries.specs.internal.Written.{HasItems}
+use Rattle.tally_statements.proofs.StaysLemmas.{stays-both}
 use Rattle.tally_entries.proofs.CountLemmas.{blank_set, spoiled_after, counts_then}
 use Rattle.tally_entries.proofs.constituencies.move_sums.Goals as goal
 
@@ -16,6 +17,14 @@ move_list_sums-requires g c =
     let first = ap length c.as_slice.ensures.value in
     let second = ap length c.as_slice-2.ensures.value in
     record { few = omega (arith, second, sums, c.requires.few); lists = omega (arith, first, second, by, sums, c.requires.lists) }
+
+pub returns-in_err-move_list_sums-clause-stays : goal.returns-in_err-move_list_sums-clause-stays
+returns-in_err-move_list_sums-clause-stays g c = stays-both g.S.Store c.args.tx.now c.move_sum.new.tx c.move_list_sums.new.tx c.move_sum.ensures.stays c.move_list_sums.ensures.stays
+
+pub returns-clause-stays : goal.returns-clause-stays
+returns-clause-stays g c =
+    let two = stays-both g.S.Store c.args.tx.now c.move_sum.new.tx c.move_list_sums.new.tx c.move_sum.ensures.stays c.move_list_sums.ensures.stays in
+    stays-both g.S.Store c.args.tx.now c.move_list_sums.new.tx c.move_sum-2.new.tx two c.move_sum-2.ensures.stays
 
 pub returns-clause-moved : goal.returns-clause-moved
 returns-clause-moved g c clean inside v rest differ none held =

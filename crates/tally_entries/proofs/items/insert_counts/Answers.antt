@@ -1,13 +1,27 @@
-use Rattle.std.proofs.Common.{map, subst, arith}
+use Rattle.std.proofs.Common.{◌≡◌, map, length, ap, subst, arith}
 use Rattle.std.proofs.lemmas.Result.{IfOk-weaker}
 use Rattle.sqlite.specs.State.{HasCleanDisk}
 use Rattle.sqlite.specs.Held.{state}
 use Rattle.tally_statements.specs.declared.table.KeyedTable.TheVariants.{Counts}
 use Rattle.tally_returns.specs.Counts.{VoteCounts}
 use Rattle.tally_tables.specs.Cells.{item_row, items_of}
+use Rattle.tally_statements.proofs.StaysLemmas.{stays-both}
 use Rattle.tally_entries.specs.internal.Written.{Adds}
 use Rattle.tally_entries.proofs.RowLemmas.{adds_counts, numbers_are}
 use Rattle.tally_entries.proofs.items.insert_counts.Goals as goal
+
+pub insert_numbers-requires-2 : goal.insert_numbers-requires-2
+insert_numbers-requires-2 g c =
+    let votes : length c.counts.inside.votes.items ≡ length c.args.counts.now.votes = ap (λ (v : VoteCounts). length v.votes) c.counts.view_is in
+    record { low = omega (arith, ap length c.as_slice.ensures.value, votes, c.requires) }
+
+pub returns-in_err-insert_numbers-2-clause-stays : goal.returns-in_err-insert_numbers-2-clause-stays
+returns-in_err-insert_numbers-2-clause-stays g c = stays-both g.S.Store c.args.tx.now c.insert_numbers.new.tx c.insert_numbers-2.new.tx c.insert_numbers.ensures.stays c.insert_numbers-2.ensures.stays
+
+pub returns-clause-stays : goal.returns-clause-stays
+returns-clause-stays g c =
+    let two = stays-both g.S.Store c.args.tx.now c.insert_numbers.new.tx c.insert_numbers-2.new.tx c.insert_numbers.ensures.stays c.insert_numbers-2.ensures.stays in
+    stays-both g.S.Store c.args.tx.now c.insert_numbers-2.new.tx c.insert_numbers-3.new.tx two c.insert_numbers-3.ensures.stays
 
 pub returns-clause-added : goal.returns-clause-added
 returns-clause-added g c clean inside =

@@ -5,8 +5,17 @@ use Rattle.sqlite.specs.Held.{state}
 use Rattle.tally_returns.specs.Counts.{VoteCounts}
 use Rattle.tally_statements.specs.declared.table.KeyedTable.TheVariants.{Counts}
 use Rattle.tally_entries.specs.internal.Written.{HasCounts}
+use Rattle.tally_statements.proofs.StaysLemmas.{stays-both}
 use Rattle.tally_entries.proofs.CountLemmas.{blank_set, spoiled_after, counts_then}
 use Rattle.tally_entries.proofs.items.update_counts.Goals as goal
+
+pub returns-in_err-update_votes-clause-stays : goal.returns-in_err-update_votes-clause-stays
+returns-in_err-update_votes-clause-stays g c = stays-both g.S.Store c.args.tx.now c.update_count.new.tx c.update_votes.new.tx c.update_count.ensures.stays c.update_votes.ensures.stays
+
+pub returns-clause-stays : goal.returns-clause-stays
+returns-clause-stays g c =
+    let two = stays-both g.S.Store c.args.tx.now c.update_count.new.tx c.update_votes.new.tx c.update_count.ensures.stays c.update_votes.ensures.stays in
+    stays-both g.S.Store c.args.tx.now c.update_votes.new.tx c.update_count-2.new.tx two c.update_count-2.ensures.stays
 
 pub returns-clause-set : goal.returns-clause-set
 returns-clause-set g c clean inside v rest same none held =

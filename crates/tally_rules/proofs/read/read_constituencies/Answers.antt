@@ -1,6 +1,6 @@
-use Rattle.std.proofs.Common.{◌≡◌, ◌++◌, ◌∷◌, [], Ok, ap, ◌∙◌, sym, List}
+use Rattle.std.proofs.Common.{◌≡◌, ◌++◌, ◌∷◌, [], Ok, ap, ◌∙◌, sym, arith, refl}
 use Rattle.std.proofs.lemmas.List.{map-append}
-use Rattle.std.proofs.lemmas.List.Elements.{All-push}
+use Rattle.std.proofs.lemmas.List.Elements.{All-push, All-nil}
 use Rattle.std.proofs.lemmas.Result.{err_from_is_err_and}
 use Rattle.toml.specs.View.{view}
 use Rattle.tally_setup.specs.Constituency.{Constituency, station_codes}
@@ -10,7 +10,13 @@ use Rattle.tally_rules.specs.Reading.{read_constituencies, constituency_entry}
 use Rattle.tally_setup.specs.Setup.{constituency_codes, all_station_codes}
 use Rattle.tally_rules.proofs.ReadLemmas.{read-more, array-fault, array-end, IsFoundAt-same}
 use Rattle.tally_setup.proofs.SetupLemmas.{all_station_codes-push}
+use Rattle.tally_rules.proofs.StepLemmas.{placed-passed, placed-first, placed-nowhere}
 use Rattle.tally_rules.proofs.read.read_constituencies.Goals as goal
+
+pub returns-in_err-entries-clause-fault : goal.returns-in_err-entries-clause-fault
+unfolding read_constituencies
+returns-in_err-entries-clause-fault c =
+    placed-passed _ _ _ c.from_residual.ensures.1 (placed-first _ _ _ (placed-nowhere _ _ c.in_err-entries.ensures.fault))
 
 pub returns-in_err-con-clause-fault : goal.returns-in_err-con-clause-fault
 unfolding read_constituencies
@@ -42,3 +48,23 @@ pub returns-clause-setup : goal.returns-clause-setup
 unfolding read_constituencies
 returns-clause-setup c =
     array-end (constituency_entry c.args.profiles.now) _ _ _ _ (ap nowhere c.in_ok-entries.ensures.array) c.loop-con.invariant.0 c.loop-con-test.false ∙ ap Ok (sym c.in_ok-new.ensures)
+
+pub new-requires-clause-limits : goal.new-requires-clause-limits
+new-requires-clause-limits c = record {
+  some_constituency = omega (arith, c.in_ok-entries.ensures.some, c.loop-con.invariant.0.count);
+  constituencies = omega (arith, c.in_ok-entries.ensures.limit, c.loop-con.invariant.0.count);
+  each_constituency = c.loop-con.invariant.5;
+  codes = rw c.loop-con.invariant.1 at c.loop-con.invariant.3;
+  station_codes = rw c.loop-con.invariant.2 at c.loop-con.invariant.4;
+}
+
+pub loop-con-init : goal.loop-con-init
+loop-con-init c =
+    rw (c.in_ok-cons.ensures.items, c.new-codes.ensures, c.new-stations.ensures) (
+      record { whole = refl; count = refl },
+      refl,
+      refl,
+      λ i j d _ within _. absurd (omega arith),
+      λ i j d _ within _. absurd (omega arith),
+      All-nil IsConstituency,
+    )

@@ -1,6 +1,6 @@
-use Rattle.std.proofs.Common.{◌≡◌, ◌++◌, ◌∷◌, [], Ok, ap, ◌∙◌, sym, List, Result}
+use Rattle.std.proofs.Common.{◌≡◌, ◌++◌, ◌∷◌, [], Ok, ap, ◌∙◌, sym, List, Result, arith, refl}
 use Rattle.std.proofs.lemmas.List.{map-append}
-use Rattle.std.proofs.lemmas.List.Elements.{All-push}
+use Rattle.std.proofs.lemmas.List.Elements.{All-push, All-nil}
 use Rattle.std.proofs.lemmas.Result.{err_from_is_err_and}
 use Rattle.toml.specs.Data.{Data}
 use Rattle.toml.specs.View.{view}
@@ -10,10 +10,16 @@ use Rattle.tally_setup.specs.Limits.{IsListEntry}
 use Rattle.tally_rules.specs.declared.place.Holder.{Holder}
 use Rattle.tally_rules.specs.Reading.{read_lists, list_entry}
 use Rattle.tally_rules.proofs.ReadLemmas.{read-more, array-fault, array-end, IsFoundAt-same}
+use Rattle.tally_rules.proofs.StepLemmas.{placed-passed, placed-first}
 use Rattle.tally_rules.proofs.read.entry.read_lists.Goals as goal
 
 abbrev read : Holder → List ListEntry → Data → Result ListEntry Placed
 read con before = list_entry con (list_codes before)
+
+pub returns-in_err-entries-clause-fault : goal.returns-in_err-entries-clause-fault
+unfolding read_lists
+returns-in_err-entries-clause-fault c =
+    placed-passed _ _ _ c.from_residual.ensures.1 (placed-first _ _ _ (rw c.constituency_way-here.ensures at c.in_err-entries.ensures.fault))
 
 pub returns-in_err-list_entry-clause-fault : goal.returns-in_err-list_entry-clause-fault
 unfolding read_lists
@@ -39,3 +45,21 @@ loop-list-preserved c =
 pub returns-clause-lists : goal.returns-clause-lists
 unfolding read_lists
 returns-clause-lists c = array-end (read c.args.con.now) _ _ _ _ (rw c.constituency_way-here.ensures at c.in_ok-entries.ensures.array) c.loop-list.invariant.0 c.loop-list-test.false
+
+pub returns-clause-some : goal.returns-clause-some
+returns-clause-some c = omega (arith, c.in_ok-entries.ensures.some, c.loop-list.invariant.0.count)
+
+pub returns-clause-limit : goal.returns-clause-limit
+returns-clause-limit c = omega (arith, c.in_ok-entries.ensures.limit, c.loop-list.invariant.0.count)
+
+pub returns-clause-distinct : goal.returns-clause-distinct
+returns-clause-distinct c = rw c.loop-list.invariant.1 at c.loop-list.invariant.2
+
+pub loop-list-init : goal.loop-list-init
+loop-list-init c =
+    rw (c.in_ok-lists.ensures.items, c.new-codes.ensures) (
+      record { whole = refl; count = refl },
+      refl,
+      λ i j d _ within _. absurd (omega arith),
+      All-nil IsListEntry,
+    )
