@@ -188,7 +188,7 @@ def seconds_of_ends(ends):
         free[first] = ended[crate]
         if how[crate] == ["new"]:
             took[crate] = ended[crate] - begun
-    if "building" in ended:
+    if "building" in ended and TOP in ended:
         took["building"] = ended["building"] - ended[TOP]
     return took
 

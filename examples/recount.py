@@ -62,6 +62,11 @@ def allotted(con, profile, votes, blank, lot):
     return by_quotients(votes, taking_part, con["seats"], profile, lot)
 
 
+def turned(con, profile, votes, blank):
+    """The seats if each tie went the other way round: others than without a lot, where one is missing."""
+    return allotted(con, profile | {"lot": "fixed"}, votes, blank, list(range(len(votes), 0, -1)))
+
+
 def recount(select, con, profile):
     """What does not agree in one constituency, as a list of words."""
     code, numbers = [con["code"]], range(1, len(con["list"]) + 1)  # of the lists, in the setup's order
@@ -71,10 +76,12 @@ def recount(select, con, profile):
         "SELECT item, sum(n) FROM counts JOIN returns USING (station) WHERE con = ? AND status = 4 GROUP BY item", code))
     lot = [row[0] for row in select("SELECT list FROM lots WHERE con = ? ORDER BY place", code)]
     [(edition, certified)] = select("SELECT edition, certified FROM cons WHERE con = ?", code)
-    seats = allotted(con, profile, [counted[i] for i in numbers], counted[0], lot) if certified else []
+    votes, blank = [counted[i] for i in numbers], counted[0]
+    seats = allotted(con, profile, votes, blank, lot) if certified else []
     wrong = [words for words, differs in (
         ("totals", counted != dict(select("SELECT item, n FROM totals WHERE con = ?", code))),
         ("seats", dict(zip(numbers, seats)) != dict(select("SELECT list, n FROM seats WHERE con = ?", code))),
+        ("a lot is missing", certified and not lot and seats != turned(con, profile, votes, blank)),
         (f"{len(stations - closed)} of {len(stations)} stations not closed", certified and stations - closed),
         ("stations of no setup", closed - stations)) if differs]
     if select("SELECT name FROM sqlite_master WHERE name = 'past'").fetchone():  # which version 1 of the tables lacks
@@ -95,9 +102,9 @@ def from_returns(con, profile, rows, lot):
         raise ValueError(f"{con['code']}: a station twice, or of another constituency")
     blank, _, *votes = [sum(map(int, column)) for column in list(zip(*rows))[2:]] if rows else [0] * (len(codes) + 2)
     named = [codes.index(code) + 1 for code in lot]
-    seats, turned = (allotted(con, profile, votes, blank, order) if any(votes) else [0] * len(codes)
-                     for order in (named, named or list(range(len(codes), 0, -1))))
-    return seats, f"{len(rows)} of {len(stations)} stations" + ("; a lot is missing" if seats != turned else "")
+    seats = allotted(con, profile, votes, blank, named) if any(votes) else [0] * len(codes)
+    is_missing = any(votes) and not named and seats != turned(con, profile, votes, blank)
+    return seats, f"{len(rows)} of {len(stations)} stations" + ("; a lot is missing" if is_missing else "")
 
 
 def count_returns(setup, profiles, folder, lots):

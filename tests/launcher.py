@@ -723,6 +723,7 @@ def a_launcher_that_is_ended_ends_its_build(copy):
         assert ran.returncode == -number, ran.returncode
         for name in ("pid", "child"):
             assert ends(int((copy.bin / name).read_text())), f"{number.name}: the build goes on"
+        assert not (copy.out / "below").exists(), f"{number.name}: rt ci refuses what is left"
         waiting.terminate()
         waiting.communicate(timeout=PATIENCE / 2)
         assert waiting.returncode == -signal.SIGTERM

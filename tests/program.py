@@ -1367,6 +1367,21 @@ def test_a_recount_finds_stations_that_are_not_closed():
     spoiled("c1 differs: 1 of 3 stations not closed, stations of no setup\n")
 
 
+def test_a_recount_finds_a_lot_that_is_missing():
+    """Of a tie for the third seat, which is the second of the list that has it, so that lots that alternate are turned round."""
+    Path("published").mkdir()
+    write("published/c1.csv", "station,slip,blank,spoiled,A,B\ns1,p1,0,0,100,100\n")
+    for kind in ("fixed", "alternating"):
+        setup, db = SETUP.replace('base = "valid"\n', f'base = "valid"\nlot = "{kind}"\n'), f"{kind}.db"
+        new(setup, db=db)
+        close_return("s1", "c1", [100, 100], db=db)
+        certify("c1", 3, [2, 1], db=db)
+        spoiled("c1 differs: a lot is missing\n", db)
+        words = (sys.executable, ROOT / "examples/recount.py", "--setup", "setup.toml", "--returns", "published")
+        counted = subprocess.run(words, capture_output=True, text=True, timeout=PATIENCE)
+        same(Ran(counted.returncode, counted.stdout, counted.stderr), Ran(1, "c1 A 2 B 1 (1 of 1 stations; a lot is missing)\n", ""))
+
+
 def test_a_recount_of_version_1():
     twin_town()
     change("DROP TABLE past")
