@@ -1,3 +1,4 @@
+pub mod AppLemmas
 pub mod LeafLemmas
 pub mod CommandLemmas
 pub mod NumberLemmas

@@ -2,10 +2,11 @@
 
 ghost use Rattle.std.specs.Prelude.{◌≡◌, ◌≤◌, IfOk, IfErr, Some, true, false, codes, is_some, map};
 ghost use Rattle.std.specs.Prelude.{option_map, string_bytes};
-ghost use Rattle.clap.specs.Words.{app_of, first_of, kind_of, new_app, rule_of};
-ghost use Rattle.clap.specs.declared.builder.command.Command.TheViews.{out-Command};
+ghost use Rattle.std.specs.Result.{IsOkAnd};
+ghost use Rattle.clap.specs.Words.{AddsSubcommand, app_of, first_of, kind_of, new_app};
+ghost use Rattle.clap.specs.Words.{with_subcommand};
 ghost use Rattle.clap.specs.declared.error.ErrorKind.TheVariants.{InvalidValue};
-ghost use Rattle.tally_line.specs.Line.{GivesLine, IsRefusal, IsLineWithinLimits, bare_import_app};
+ghost use Rattle.tally_line.specs.Line.{GivesLine, IsRefusal, IsLineWithinLimits, bare_office_app};
 ghost use Rattle.tally_line.specs.Line.{check_app, flag_rule, import_app, import_line, is_set};
 ghost use Rattle.tally_line.specs.Line.{line_of, line_of_command, new_line, new_office_app};
 ghost use Rattle.tally_line.specs.Line.{number_given, number_rule, office_app, sep_given};
@@ -13,6 +14,7 @@ ghost use Rattle.tally_line.specs.Line.{serve_app, serve_line, show_app, show_li
 ghost use Rattle.tally_line.specs.Line.{value_rule, wanted_rule, with_commands};
 ghost use Rattle.tally_line.specs.internal.Arguments.{IsCommandFault, IsShowFault, given_rows, has};
 ghost use Rattle.tally_line.specs.internal.Arguments.{has_arguments, has_count, has_port};
+ghost use Rattle.tally_line.specs.internal.Commands.{HasRule, Offers, OffersAll};
 
 use crate::help;
 use clap::builder::ValueParser;
@@ -287,62 +289,79 @@ fn no_report(alloc: Global, name: &str) -> Result<clap::Error, AllocError>
         "invalid value '{name}' for '--report <NAME>'\n{}",
         help::REPORTS
     )?;
+    show_error(alloc, message.as_str())
+}
+
+// An error of `show` with this message, and its usage line.
+fn show_error(alloc: Global, message: &str) -> Result<clap::Error, AllocError>
+    ensures { IfOk result (λ error. kind_of error ≡ InvalidValue) }
+{
     let mut command = show_command(alloc)?.bin_name("office show")?;
-    command.error(ErrorKind::InvalidValue, message.as_str())
+    command.error(ErrorKind::InvalidValue, message)
 }
 
 fn office_command<'a>(alloc: Global) -> Result<Command<'a>, AllocError>
     ensures { IfOk result (λ c. app_of c ≡ office_app) }
 {
-    let office = Command::new(alloc, "office")
+    let office = with_command(bare_office_command(alloc), check_command(alloc))?;
+    let office = with_command(office, new_command(alloc))?;
+    with_import_show_and_serve(alloc, office)
+}
+
+fn with_import_show_and_serve<'a>(
+    alloc: Global,
+    office: Command<'a>,
+) -> Result<Command<'a>, AllocError>
+    ensures { IfOk result (λ c. app_of c ≡
+        with_subcommand (with_commands (app_of office.entry) import_app show_app) serve_app.top) }
+{
+    let office = with_command(office, import_command(alloc))?;
+    let office = with_command(office, show_command(alloc))?;
+    with_command(office, serve_command(alloc))
+}
+
+// The program without its commands.
+fn bare_office_command<'a>(alloc: Global) -> Command<'a>
+    ensures { app_of result ≡ bare_office_app }
+{
+    Command::new(alloc, "office")
         .version(help::VERSION)
         .about(help::OFFICE)
         .after_help(help::OFFICE_EXAMPLE)
         .subcommand_required(true)
         .arg_required_else_help(true)
-        .subcommand(check_command(alloc)?)?;
-    let office = add_new_and_import(alloc, office)?;
-    add_show_and_serve(alloc, office)
 }
 
-fn add_new_and_import<'a>(alloc: Global, office: Command<'a>) -> Result<Command<'a>, AllocError>
-    ensures { IfOk result (λ c.
-        app_of c ≡ with_commands (app_of office.entry) new_office_app import_app) }
+// The program with one command more, where there was memory to make that.
+fn with_command<'a>(
+    office: Command<'a>,
+    command: Result<Command<'a>, AllocError>,
+) -> Result<Command<'a>, AllocError>
+    ensures { IfOk result (λ c. IsOkAnd command.entry (λ sub. AddsSubcommand office.entry sub c)) }
 {
-    office
-        .subcommand(new_command(alloc)?)?
-        .subcommand(import_command(alloc)?)
+    office.subcommand(command?)
 }
 
-fn add_show_and_serve<'a>(alloc: Global, office: Command<'a>) -> Result<Command<'a>, AllocError>
-    ensures { IfOk result (λ c.
-        app_of c ≡ with_commands (app_of office.entry) show_app serve_app) }
-{
-    office
-        .subcommand(show_command(alloc)?)?
-        .subcommand(serve_command(alloc)?)
-}
-
-// A command without arguments: its name, and the texts of its help.
+// A command: its name, the texts of its help, and its arguments.
 fn described_command<'a>(
     alloc: Global,
     name: &'a str,
     about: &'a str,
     long: &'a str,
     example: &'a str,
-) -> Command<'a>
-    ensures app { app_of result ≡ new_app name.now }
-    ensures local { (out-Command result).has_globals ≡ false }
+    arguments: Vec<Arg<'a>>,
+) -> Result<Command<'a>, AllocError>
+    ensures { IfOk result (OffersAll (new_app name.now) arguments.entry.items) }
 {
     Command::new(alloc, name)
         .about(about)
         .long_about(long)
         .after_long_help(example)
+        .args(arguments)
 }
 
 fn check_command<'a>(alloc: Global) -> Result<Command<'a>, AllocError>
-    ensures app { IfOk result (λ c. app_of c ≡ check_app) }
-    ensures local { IfOk result (λ c. (out-Command c).has_globals ≡ false) }
+    ensures { IfOk result (Offers check_app) }
 {
     described_command(
         alloc,
@@ -350,33 +369,31 @@ fn check_command<'a>(alloc: Global) -> Result<Command<'a>, AllocError>
         help::CHECK,
         help::CHECK_LONG,
         help::CHECK_EXAMPLE,
+        vec![in alloc;
+            flag_arg(alloc, SEMICOLON, help::SEMICOLON),
+            flag_arg(alloc, ROWS, help::ROWS),
+        ]?,
     )
-    .arg(flag_arg(alloc, SEMICOLON, help::SEMICOLON))?
-    .arg(flag_arg(alloc, ROWS, help::ROWS))
 }
 
 fn new_command<'a>(alloc: Global) -> Result<Command<'a>, AllocError>
-    ensures app { IfOk result (λ c. app_of c ≡ new_office_app) }
-    ensures local { IfOk result (λ c. (out-Command c).has_globals ≡ false) }
+    ensures { IfOk result (Offers new_office_app) }
 {
-    described_command(alloc, NEW, help::NEW, help::NEW_LONG, help::NEW_EXAMPLE)
-        .arg(wanted_arg(alloc, DB, "FILE", help::NEW_DB))?
-        .arg(wanted_arg(alloc, SETUP, "FILE", help::SETUP))
+    described_command(
+        alloc,
+        NEW,
+        help::NEW,
+        help::NEW_LONG,
+        help::NEW_EXAMPLE,
+        vec![in alloc;
+            wanted_arg(alloc, DB, "FILE", help::NEW_DB),
+            wanted_arg(alloc, SETUP, "FILE", help::SETUP),
+        ]?,
+    )
 }
 
 fn import_command<'a>(alloc: Global) -> Result<Command<'a>, AllocError>
-    ensures app { IfOk result (λ c. app_of c ≡ import_app) }
-    ensures local { IfOk result (λ c. (out-Command c).has_globals ≡ false) }
-{
-    bare_import_command(alloc)?
-        .arg(flag_arg(alloc, SEMICOLON, help::SEMICOLON))?
-        .arg(flag_arg(alloc, ROWS, help::ROWS))
-}
-
-// The command without its flags.
-fn bare_import_command<'a>(alloc: Global) -> Result<Command<'a>, AllocError>
-    ensures app { IfOk result (λ c. app_of c ≡ bare_import_app) }
-    ensures local { IfOk result (λ c. (out-Command c).has_globals ≡ false) }
+    ensures { IfOk result (Offers import_app) }
 {
     described_command(
         alloc,
@@ -384,25 +401,35 @@ fn bare_import_command<'a>(alloc: Global) -> Result<Command<'a>, AllocError>
         help::IMPORT,
         help::IMPORT_LONG,
         help::IMPORT_EXAMPLE,
+        vec![in alloc;
+            wanted_arg(alloc, DB, "FILE", help::DB),
+            wanted_arg(alloc, CON, "CODE", help::IMPORT_CON),
+            wanted_arg(alloc, CSV, "FILE", help::CSV),
+            flag_arg(alloc, SEMICOLON, help::SEMICOLON),
+            flag_arg(alloc, ROWS, help::ROWS),
+        ]?,
     )
-    .arg(wanted_arg(alloc, DB, "FILE", help::DB))?
-    .arg(wanted_arg(alloc, CON, "CODE", help::IMPORT_CON))?
-    .arg(wanted_arg(alloc, CSV, "FILE", help::CSV))
 }
 
 fn show_command<'a>(alloc: Global) -> Result<Command<'a>, AllocError>
-    ensures app { IfOk result (λ c. app_of c ≡ show_app) }
-    ensures local { IfOk result (λ c. (out-Command c).has_globals ≡ false) }
+    ensures { IfOk result (Offers show_app) }
 {
-    described_command(alloc, SHOW, help::SHOW, help::SHOW_LONG, help::SHOW_EXAMPLE)
-        .arg(wanted_arg(alloc, DB, "FILE", help::DB))?
-        .arg(wanted_arg(alloc, REPORT, "NAME", help::REPORT))?
-        .arg(value_arg(alloc, CON, "CODE", help::SHOW_CON))
+    described_command(
+        alloc,
+        SHOW,
+        help::SHOW,
+        help::SHOW_LONG,
+        help::SHOW_EXAMPLE,
+        vec![in alloc;
+            wanted_arg(alloc, DB, "FILE", help::DB),
+            wanted_arg(alloc, REPORT, "NAME", help::REPORT),
+            value_arg(alloc, CON, "CODE", help::SHOW_CON),
+        ]?,
+    )
 }
 
 fn serve_command<'a>(alloc: Global) -> Result<Command<'a>, AllocError>
-    ensures app { IfOk result (λ c. app_of c ≡ serve_app) }
-    ensures local { IfOk result (λ c. (out-Command c).has_globals ≡ false) }
+    ensures { IfOk result (Offers serve_app) }
 {
     described_command(
         alloc,
@@ -410,16 +437,17 @@ fn serve_command<'a>(alloc: Global) -> Result<Command<'a>, AllocError>
         help::SERVE,
         help::SERVE_LONG,
         help::SERVE_EXAMPLE,
+        vec![in alloc;
+            wanted_arg(alloc, DB, "FILE", help::DB),
+            number_arg(alloc, PORT, MOST_PORT, help::PORT),
+            number_arg(alloc, COUNT, MOST_COUNT, help::COUNT),
+        ]?,
     )
-    .arg(wanted_arg(alloc, DB, "FILE", help::DB))?
-    .arg(number_arg(alloc, PORT, MOST_PORT, help::PORT))?
-    .arg(number_arg(alloc, COUNT, MOST_COUNT, help::COUNT))
 }
 
 // An argument without a value, which may be left out.
 fn flag_arg<'a>(alloc: Global, name: &'a str, text: &'a str) -> Arg<'a>
-    ensures rule { rule_of result ≡ flag_rule name.now }
-    ensures local { result.global ≡ false }
+    ensures { HasRule (flag_rule name.now) result }
 {
     Arg::new(alloc, name)
         .long(name)
@@ -429,8 +457,7 @@ fn flag_arg<'a>(alloc: Global, name: &'a str, text: &'a str) -> Arg<'a>
 
 // An argument with one value, which may be left out.
 fn value_arg<'a>(alloc: Global, name: &'a str, value: &'a str, text: &'a str) -> Arg<'a>
-    ensures rule { rule_of result ≡ value_rule name.now }
-    ensures local { result.global ≡ false }
+    ensures { HasRule (value_rule name.now) result }
 {
     Arg::new(alloc, name)
         .long(name)
@@ -440,16 +467,14 @@ fn value_arg<'a>(alloc: Global, name: &'a str, value: &'a str, text: &'a str) ->
 
 // An argument with one value, which has to be given.
 fn wanted_arg<'a>(alloc: Global, name: &'a str, value: &'a str, text: &'a str) -> Arg<'a>
-    ensures rule { rule_of result ≡ wanted_rule name.now }
-    ensures local { result.global ≡ false }
+    ensures { HasRule (wanted_rule name.now) result }
 {
     value_arg(alloc, name, value, text).required(true)
 }
 
 // An argument that is a number from 1 to `most`, which has to be given.
 fn number_arg<'a>(alloc: Global, name: &'a str, most: u64, text: &'a str) -> Arg<'a>
-    ensures rule { rule_of result ≡ number_rule name.now 1 most }
-    ensures local { result.global ≡ false }
+    ensures { HasRule (number_rule name.now 1 most) result }
 {
     wanted_arg(alloc, name, "N", text).value_parser(ValueParser::unsigned(1, most))
 }

@@ -1,9 +1,11 @@
 -- What the end of a transaction leaves of a connection.
-use Rattle.std.proofs.Common.{◌≡◌, ◌∙◌, sym, IsTrue, Result, Ok, Err, OnErr, IfErr, true≢false, inl, inr}
-use Rattle.sqlite.specs.State.{State as Seen, IsRolledBack}
+use Rattle.std.proofs.Common.{◌≡◌, ◌∙◌, sym, IsTrue, Result, Ok, Err, OnErr, IfErr, true≢false, inl, inr, arith, true}
+use Rattle.sqlite.specs.State.{State as Seen, HasCleanDisk, IsRolledBack, KeepsCommit, Survives}
+use Rattle.sqlite_trees.specs.Tree.{Trees}
 use Rattle.sqlite.specs.Steps.{FailsToCommit}
 use Rattle.sqlite.specs.declared.error.Error.{Error}
 use Rattle.tally_opening.specs.Create.{IsAsBefore}
+use Rattle.tally_opening.specs.internal.Ending.{IsSettled}
 
 -- a transaction that began where all was committed, and committed nothing
 pub record Began (old last : Seen) : Type 0 where
@@ -27,3 +29,21 @@ failed old last new e began inside (inr late) now = absurd (true≢false (sym in
 pub failed_commit : (old last new : Seen) (r : Result Unit Error) → Began old last → IsTrue last.in_transaction → IfErr r (FailsToCommit last new) → IsTrue new.is_open → OnErr r (IsAsBefore old new)
 failed_commit old last new (Ok done) began inside fails now = tt
 failed_commit old last new (Err e) began inside fails now = failed old last new e began inside fails now
+
+-- the disk was clean before a call after which it is
+pub clean_first : {a b : Seen} {P : Trees → Type 0} → Survives a b P → HasCleanDisk b → HasCleanDisk a
+clean_first s clean = omega (arith, s.clean, clean)
+
+-- ---- a transaction that began there
+
+module _ {old bare last : Seen} (begun : bare ≡ record old { in_transaction = true }) where
+  pub has_begun : IsSettled old → KeepsCommit bare last → Began old last
+  has_begun settled kept =
+      let was_open = rw begun at kept.was_open in
+      let committed = rw begun at kept.committed in
+      record { settled = settled; was_open = was_open; committed = committed }
+
+  pub survives_begun : Survives bare last (λ _. ⊥) → Survives old last (λ _. ⊥)
+  survives_begun stays =
+      let s = rw begun at stays in
+      record { clean = s.clean; shield = s.shield; counts = s.counts; limit = s.limit; closes = s.closes; crash = s.crash }

@@ -1,10 +1,13 @@
 -- What is shown of the table `setup`.
-use Rattle.std.proofs.Common.{◌≡◌, ◌∙◌, ◌==◌, ℕ, pos, negsuc, true, false, Bool, nat_lt, ◌^◌, List, [], ◌∷◌, Option, Some, None, map, length, inl, inr, refl, ap, subst, arith}
+use Rattle.std.proofs.Common.{◌≡◌, ◌∙◌, ◌==◌, ℕ, pos, negsuc, true, false, Bool, nat_lt, ◌^◌, List, [], ◌∷◌, Option, Some, None, map, length, inl, inr, refl, ap, subst, sym, arith, Result, Ok, Err}
 use Rattle.std.specs.List.Sorted.{IsPermutation}
-use Rattle.std.specs.Prelude.{if◌then◌else◌, option_and_then, option_map, unwrap_or}
+use Rattle.std.specs.Prelude.{if◌then◌else◌, IfErr, IfOk, option_and_then, option_map, unwrap_or}
 use Rattle.std.proofs.lemmas.Bool.{eqb-true}
+use Rattle.std.proofs.lemmas.Result.{IfErr-weaker}
 use Rattle.sqlite.proofs.Callers.{one_permutation}
 use Rattle.sqlite.specs.State.{State as Seen}
+use Rattle.sqlite.specs.declared.error.Error.{Error}
+use Rattle.sqlite.specs.Effect.{Database}
 use Rattle.sqlite_value.specs.Order.{Row, column}
 use Rattle.sqlite_value.specs.declared.value.Value.{Value}
 use Rattle.sqlite_value.specs.declared.value.Value.TheVariants.{Blob, Int, Null, Real, Text}
@@ -14,7 +17,7 @@ use Rattle.tally_schema.specs.Cells.{setup_row}
 use Rattle.tally_schema.specs.Tables.{setup_tree}
 use Rattle.tally_statements.specs.Office.{ShowsSetup, shown_setup, stored_setup}
 use Rattle.tally_tables.specs.TablesOfState.{version}
-use Rattle.tally_opening.specs.internal.Opening.{HasSetupRow, HasShownRow, HasStoredRow, IsSetupFault, IsShownFault, IsShownSetup, IsTablesFault, OrFails, setup_shown, shown_of_row}
+use Rattle.tally_opening.specs.internal.Opening.{HasSetupRow, IsAnswerOf, IsJudgedFault, IsTodayFault, HasShownRow, HasStoredRow, IsSetupFault, IsShownFault, IsShownSetup, IsTablesFault, OrFails, setup_shown, shown_of_row}
 use Rattle.tally_keeper.specs.declared.fault.OpenFault.{OpenFault}
 use Rattle.tally_keeper.specs.declared.fault.OpenFault.TheVariants.{BadTables, Memory, NoTables, Setup, Store}
 
@@ -117,3 +120,15 @@ or_fails IsFault BadTables ensured = ensured
 or_fails IsFault (Setup fault) ensured = ensured
 or_fails IsFault Memory ensured = tt
 or_fails IsFault Store ensured = tt
+
+-- ---- what was answered in a transaction
+
+pub ok_answered : {X : Type 0} (got : Result (Result X OpenFault) Error) (r : Result X OpenFault) (Is : X → Type 0) → IsAnswerOf got r → IfOk got (λ answer. IfOk answer Is) → IfOk r Is
+ok_answered (Ok answer) r Is is so = subst (λ x. IfOk x Is) (sym is) so
+ok_answered (Err e) r Is (inl is) so = subst (λ x. IfOk x Is) (sym is) tt
+ok_answered (Err e) r Is (inr is) so = subst (λ x. IfOk x Is) (sym is) tt
+
+pub today_answered : {X : Type 0} (db : Database) (got : Result (Result X OpenFault) Error) (r : Result X OpenFault) → IsAnswerOf got r → IfOk got (λ answer. IfErr answer (IsJudgedFault version db)) → IfErr r (IsTodayFault db)
+today_answered db (Ok answer) r is so = subst (λ x. IfErr x (IsTodayFault db)) (sym is) (IfErr-weaker answer _ _ (or_fails (IsJudgedFault version db)) so)
+today_answered db (Err e) r (inl is) so = subst (λ x. IfErr x (IsTodayFault db)) (sym is) tt
+today_answered db (Err e) r (inr is) so = subst (λ x. IfErr x (IsTodayFault db)) (sym is) tt

@@ -1,29 +1,36 @@
 -- The tables of version 1, and what becomes of them as they are taken over.
-use Rattle.std.proofs.Common.{◌≡◌, ◌∙◌, ◌⊎◌, List, ℕ, inl, inr, refl, sym, ap, subst, Result, Ok, Err, OnOk, IsTrue}
-use Rattle.std.specs.Prelude.{IfErr, IfOk}
+use Rattle.std.proofs.Common.{◌≡◌, ◌∙◌, ◌⊎◌, List, ℕ, inl, inr, refl, sym, ap, subst, Result, Ok, Err, OnErr, OnOk, IsTrue, true, true≢false}
+use Rattle.std.specs.Prelude.{IfErr, IfOk, is_err}
+use Rattle.std.proofs.lemmas.Result.{IfOk-at_ok, IfOk-weaker}
 use Rattle.std.specs.BTreeMap.{BTreeMap}
 use Rattle.sqlite.specs.declared.error.Error.{Error}
 use Rattle.sqlite.specs.Effect.{Database, IsDatabase}
-use Rattle.sqlite.specs.State.{State as Seen, IsUnchanged}
+use Rattle.sqlite.specs.State.{State as Seen, HasCleanDisk, IsUnchanged, KeepsCommit, Survives}
+use Rattle.sqlite.proofs.StateLemmas.{survives_then}
 use Rattle.sqlite_trees.specs.Tree.{Trees}
 use Rattle.tally_schema.specs.Rows.{HaveDistinctRowids}
 use Rattle.tally_setup.specs.Constituency.{Constituency}
 use Rattle.tally_tables.specs.declared.views.Statuses.{Statuses}
 use Rattle.tally_steps.specs.LawfulState.{IsLawfulState}
 use Rattle.tally_returns.specs.State.{State}
-use Rattle.tally_schema.specs.Made.{AddsTable}
+use Rattle.tally_schema.specs.Made.{AddsTable, HasFirstTables}
 use Rattle.tally_schema.specs.Tables.{former_schema, office_schema, past_tree, setup_tree}
 use Rattle.tally_statements.specs.declared.table.KeyedTable.{KeyedTable}
 use Rattle.tally_statements.specs.declared.table.KeyedTable.TheVariants.{Returns, Counts, Cons, Lots, Seats, Gone, Totals, Past}
 use Rattle.tally_statements.specs.Office.{PutsSetup as SetsSetup, IsInside, tree_of}
 use Rattle.tally_tables.specs.TablesOfState.{AreTables, version}
-use Rattle.tally_opening.specs.Crash.{LeavesTakenOver}
+use Rattle.tally_opening.specs.Crash.{IsWholeOrNothing, LeavesTakenOver}
+use Rattle.tally_opening.specs.Create.{IsAsBefore}
+use Rattle.tally_opening.specs.internal.Ending.{IsSettled}
 use Rattle.tally_opening.specs.Open.{AreFormerTables, HasSetup, IsOpened, IsTakenOver, former_version, tables_taken_over}
-use Rattle.tally_opening.specs.internal.Opening.{AddsPast, AreFormerOfNone, AreOfNoStored, CountsFormer, CountsTables, HasSetupRow, HasFormerTables, HasStoredRow, IsFormerFault, IsJudged, IsJudgedFault, IsReady, IsTablesFault, AreTablesTakenOver, trees_with}
+use Rattle.tally_opening.specs.internal.Opening.{AddsPast, AreFormerOfNone, AreOfNoStored, CountsFormer, CountsTables, CommitsTakeover, EndsTakeover, HasFormerRowids, HasSetupRow, HasFormerTables, HasStoredRow, IsFormerFault, IsJudged, IsJudgedFault, IsReady, IsTablesFault, AreTablesTakenOver, trees_with}
 use Rattle.tally_keeper.specs.declared.fault.OpenFault.{OpenFault}
+use Rattle.tally_keeper.specs.declared.fault.OpenFault.TheVariants.{Memory, Store}
 use Rattle.tally_opening.proofs.JudgingLemmas.{tables_still}
 use Rattle.tally_opening.proofs.OpenedLemmas.{AreSame, beside_setup, forms_differ, same_back, same_tables}
+use Rattle.tally_opening.proofs.ReturnLemmas.{clean_first, has_begun, rolled_back, survives_begun}
 use Rattle.tally_opening.proofs.StoredLemmas.{fault_as, or_fails}
+use Rattle.tally_opening.proofs.UnwrittenLemmas.{on_err}
 use Rattle.tally_opening.proofs.WholeLemmas.{whole_left}
 
 -- ---- the table `past`
@@ -184,3 +191,74 @@ taken_now setup old bare last same h = record {
   left = subst (λ (d : Database). IsTakenOver h.text d.trees last.now.trees) same h.left;
   tables = h.tables;
 }
+
+pub taken_each : (judged : Result (List Constituency) OpenFault) (old mid new : Seen) → HasFormerTables old → IfOk judged (λ setup. IsReady setup old mid)
+    → (IsInside mid → (number : ℕ) (text : List ℕ) → HasSetup number text mid.now.trees → SetsSetup version text mid new) → IfOk judged (λ setup. AreTablesTakenOver setup old new)
+taken_each (Ok setup) old mid new has h sets = taken setup old mid new h (sets (ready_inside setup old mid has h) former_version h.stored.text (ready_row setup old mid h))
+taken_each (Err fault) old mid new has h sets = tt
+
+-- ---- the end of the transaction
+
+-- What was taken over in a transaction that began on a connection to tables of version 1.
+pub record Takes (known : BTreeMap (List ℕ) Statuses) (old bare last new : Seen) (got : Result (Result (List Constituency) OpenFault) Error) (r : Result (List Constituency) OpenFault) : Type 1 where
+  pub schema : old.now.schema ≡ former_schema
+  pub rowids : IsTrue old.is_open → HasFormerRowids old.now
+  pub settled : IsSettled old
+  pub begun : bare ≡ record old { in_transaction = true }
+  pub kept : HasCleanDisk last → HasFirstTables 8 bare → KeepsCommit bare last
+  pub survives : Survives bare last (λ _. ⊥)
+  pub taken : HasCleanDisk last → HasFormerTables bare → IfOk got (λ answer. IfOk answer (λ setup. AreTablesTakenOver setup bare last))
+  pub faults : HasCleanDisk last → HasFormerTables bare → IfOk got (λ answer. IfErr answer (IsFormerFault bare.now))
+  pub numbers : HasCleanDisk last → HasFormerTables bare → IfOk got (λ answer. IfOk answer (λ setup. CountsFormer known setup bare.now))
+  pub ends : EndsTakeover got last new r
+
+module _ {known : BTreeMap (List ℕ) Statuses} {old bare last new : Seen} {got : Result (Result (List Constituency) OpenFault) Error} {r : Result (List Constituency) OpenFault} (h : Takes known old bare last new got r) where
+  first : HasFormerTables bare
+  first = rw h.begun (record { first = record { schema = h.schema; inside = refl }; distinct = h.rowids })
+
+  same : bare.now ≡ old.now
+  same = ap (λ (s : Seen). s.now) h.begun
+
+  early : HasCleanDisk new → HasCleanDisk last
+  early = clean_first h.ends.survives
+
+  taken_here : (setup : List Constituency) → got ≡ Ok (Ok setup) → HasCleanDisk new → AreTablesTakenOver setup old last
+  taken_here setup is clean = taken_now setup old bare last same (IfOk-at_ok (λ answer. IfOk answer (λ setup. AreTablesTakenOver setup bare last)) is (h.taken (early clean) first))
+
+  pub whole_or_nothing : IsWholeOrNothing (LeavesTakenOver old.now) r old new
+  whole_or_nothing = record {
+    ended = h.ends.ended;
+    same = λ clean now. elim h.ends.how [
+      | inl it ↦ subst (λ x. OnErr x (IsAsBefore old new)) (sym it.is) tt
+      | inr up ↦ on_err r (rolled_back old last new (has_begun h.begun h.settled (h.kept (early clean) first.first)) (up.undone clean (IfOk-weaker got _ _ (λ answer so. IfOk-weaker answer _ _ (λ setup was. was.inside.inside) so) (h.taken (early clean) first))) now)
+    ];
+    crash = survives_then old last new _ _ (LeavesTakenOver old.now) (λ _ db none. absurd none) (λ clean db it. leaves_taken it.0 old last db h.schema (taken_here it.0 it.1 clean) it.2) (survives_begun h.begun h.survives) h.ends.survives;
+  }
+
+  if_taken : (Is : List Constituency → Type 0) → ((it : CommitsTakeover got last new r) → Is it.setup) → IfOk r Is
+  if_taken Is so = elim h.ends.how [
+    | inl it ↦ subst (λ x. IfOk x Is) (sym it.is) (so it)
+    | inr up ↦ subst (λ x. IfOk x Is) (sym up.is) tt
+  ]
+
+  pub opened_taken : HasCleanDisk new → IfOk r (λ setup. IsOpened setup old new)
+  opened_taken clean = if_taken _ (λ it. let shown = it.shown clean in opened_former it.setup old last new h.schema (taken_here it.setup it.taken clean) shown.now_is shown.committed_is)
+
+  pub numbers_taken : HasCleanDisk new → IfOk r (λ setup. CountsFormer known setup old.now)
+  numbers_taken clean = if_taken _ (λ it. subst (CountsFormer known it.setup) same (IfOk-at_ok (λ answer. IfOk answer (λ setup. CountsFormer known setup bare.now)) it.taken (h.numbers (early clean) first)))
+
+  pub fault_taken : HasCleanDisk new → IfErr r (IsFormerFault old.now)
+  fault_taken clean = elim h.ends.how [
+    | inl it ↦ subst (λ x. IfErr x (IsFormerFault old.now)) (sym it.is) tt
+    | inr up ↦ subst (λ x. IfErr x (IsFormerFault old.now)) (sym up.is) (why up.why up.own)
+  ]
+    where
+      why : (fault : OpenFault) → (got ≡ Ok (Err fault)) ⊎ ((fault ≡ Memory) ⊎ (fault ≡ Store)) → IsFormerFault old.now fault
+      why fault (inl is) = subst (λ (d : Database). IsFormerFault d fault) same (IfOk-at_ok (λ answer. IfErr answer (IsFormerFault bare.now)) is (h.faults (early clean) first))
+      why fault (inr (inl is)) = subst (IsFormerFault old.now) (sym is) tt
+      why fault (inr (inr is)) = subst (IsFormerFault old.now) (sym is) tt
+
+-- a failed call gives nothing
+pub ok_none : {X E : Type 0} (r : Result X E) (Is : X → Type 0) → is_err r ≡ true → IfOk r Is
+ok_none (Ok x) Is is = absurd (true≢false (sym is))
+ok_none (Err e) Is is = tt

@@ -1,12 +1,16 @@
 -- An opening that wrote nothing.
-use Rattle.std.proofs.Common.{◌≡◌, ◌∙◌, inl, inr, IsTrue, OnErr, OnOk, Result, Ok, Err, sym, ap, refl, arith}
+use Rattle.std.proofs.Common.{◌≡◌, true, false, ◌∙◌, inl, inr, IsTrue, OnErr, OnOk, Result, Ok, Err, sym, ap, refl, arith}
 use Rattle.std.specs.Prelude.{IfOk}
-use Rattle.sqlite.specs.Effect.{Database}
-use Rattle.sqlite.specs.State.{State as Seen, HasCleanDisk, IsRolledBack, IsUnchanged, KeepsCounts, Survives}
+use Rattle.sqlite.specs.Effect.{Database, IsDatabase}
+use Rattle.sqlite.specs.State.{State as Seen, HasCleanDisk, IsRolledBack, IsUnchanged, KeepsCommit, KeepsCounts, Survives}
+use Rattle.sqlite.proofs.StateLemmas.{survives_then}
 use Rattle.sqlite_trees.specs.Tree.{Trees}
+use Rattle.tally_schema.specs.Tables.{office_schema}
+use Rattle.tally_statements.specs.Office.{HasTables}
 use Rattle.tally_opening.specs.Crash.{CountsNothing, IsUnwritten, IsWholeOrNothing}
 use Rattle.tally_opening.specs.Create.{IsAsBefore}
 use Rattle.tally_opening.specs.internal.Ending.{EndsUnchanged, IsSettled}
+use Rattle.tally_opening.proofs.ReturnLemmas.{Began, clean_first, has_begun, rolled_back, survives_begun}
 
 -- a crash leaves the last commit of a connection that is open, and
 -- nothing else: a law of every store
@@ -50,7 +54,7 @@ pub counts_nothing : {X E : Type 0} (r : Result X E) (old new : Seen) → (HasCl
 counts_nothing (Ok x) old new ensured = λ _ clean. ensured clean
 counts_nothing (Err e) old new ensured = tt
 
-on_err : {X E P : Type 0} (r : Result X E) → P → OnErr r P
+pub on_err : {X E P : Type 0} (r : Result X E) → P → OnErr r P
 on_err (Ok x) p = tt
 on_err (Err e) p = p
 
@@ -71,3 +75,29 @@ ends_whole Leaves r old new ends = record {
     ];
   };
 }
+
+-- the tables of today's version in a transaction that has begun
+pub begun_tables : (old bare : Seen) → bare ≡ record old { in_transaction = true } → old.now.schema ≡ office_schema → (IsTrue old.is_open → IsDatabase old.now) → HasTables bare
+begun_tables old bare begun schema sound = rw begun (record { schema = schema; sound = sound; inside = refl })
+
+-- what was read there, and undone, counts nothing
+pub counts_undone : {X E F : Type 0} (r : Result (Result X E) F) (old bare last new : Seen) → bare ≡ record old { in_transaction = true } → OnOk r (IsUnchanged bare last) → IsRolledBack last new → IfOk r (λ answer. IfOk answer (λ _. KeepsCounts old new))
+counts_undone (Err e) old bare last new begun same undone = tt
+counts_undone (Ok (Err e)) old bare last new begun same undone = tt
+counts_undone (Ok (Ok x)) old bare last new begun same undone =
+    let kept = counts_after bare last new same undone in
+    let moved = rw begun at kept in
+    record { changes = moved.changes; last_rowid = moved.last_rowid }
+
+-- and ends with nothing changed
+pub ends_undone : (old bare last new : Seen) → bare ≡ record old { in_transaction = true } → IsSettled old → (HasCleanDisk last → KeepsCommit bare last) → Survives bare last (λ _. ⊥)
+    → new.in_transaction ≡ false → (HasCleanDisk new → IsRolledBack last new) → Survives last new (λ _. ⊥) → EndsUnchanged old new
+ends_undone old bare last new begun settled kept stays ended undone survives = record {
+  ended = ended;
+  was_open = λ clean now. (began clean).was_open ((undone clean).was_open now);
+  same = λ clean now. rolled_back old last new (began clean) (undone clean) now;
+  survives = survives_then old last new _ _ (λ _. ⊥) (λ _ db none. none) (λ _ db none. none) (survives_begun begun stays) survives;
+}
+  where
+    began : HasCleanDisk new → Began old last
+    began clean = has_begun begun settled (kept (clean_first survives clean))

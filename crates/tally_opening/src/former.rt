@@ -4,14 +4,16 @@ ghost use Rattle.std.specs.Prelude.{◌≡◌, false, IsTrue};
 ghost use Rattle.sqlite.specs.Held.{state};
 ghost use Rattle.tally_schema.specs.Made.{HasFirstTables};
 ghost use Rattle.tally_schema.specs.Tables.{former_schema};
-ghost use Rattle.tally_statements.specs.internal.Inside.{StaysFrom};
+ghost use Rattle.tally_statements.specs.internal.Inside.{InDatabase, Stays, StaysFrom};
+ghost use Rattle.tally_statements.specs.Office.{SetsVersion};
+ghost use Rattle.tally_tables.specs.TablesOfState.{version};
 ghost use Rattle.tally_opening.specs.Calls.{Accepts, OnDisk, Rejects, Yields};
 ghost use Rattle.tally_opening.specs.Crash.{EndsWhole, LeavesTakenOver};
 ghost use Rattle.tally_opening.specs.Open.{IsOpened};
 ghost use Rattle.tally_opening.specs.internal.Ending.{IsSettled};
 ghost use Rattle.tally_opening.specs.internal.Opening.{AreTablesTakenOver, CountsFormer};
-ghost use Rattle.tally_opening.specs.internal.Opening.{HasFormerRowids, IsFormerFault, IsReady};
-ghost use Rattle.tally_opening.specs.internal.Opening.{SeesFormer};
+ghost use Rattle.tally_opening.specs.internal.Opening.{EndsTakeover, HasFormerRowids, IsReady};
+ghost use Rattle.tally_opening.specs.internal.Opening.{IsFormerFault, SeesFormer};
 
 use crate::making::VERSION;
 use crate::opening::{judge_stored, open_fault_of};
@@ -42,6 +44,14 @@ fn judge_with_past<S: Alter>(
     judge_stored(alloc, tx, FORMER_VERSION, known)
 }
 
+/// Writes today's version into the table `setup`.
+fn raise_version<S: Alter>(tx: &mut Transaction<'_, S>) -> Result<(), Error>
+    ensures stays { Stays S.Store tx.old tx.new }
+    ensures raised { InDatabase S.Store (SetsVersion version) tx.old tx.new result }
+{
+    update_version(tx, VERSION)
+}
+
 /// Takes the tables of version 1 over, where they are those of a lawful state.
 fn take_over<S: Alter>(
     alloc: Global,
@@ -53,12 +63,37 @@ fn take_over<S: Alter>(
     ensures fault { SeesFormer S.Store (Rejects IsFormerFault) tx.old tx.new result }
     ensures numbers { SeesFormer S.Store (Accepts (CountsFormer known.new)) tx.old tx.new result }
 {
-    let setup = match judge_with_past(alloc, tx, known)? {
-        Ok(setup) => setup,
-        Err(fault) => return Ok(Err(fault)),
-    };
-    update_version(tx, VERSION)?;
-    Ok(Ok(setup))
+    let judged = judge_with_past(alloc, tx, known)?;
+    if judged.is_err() {
+        return Ok(judged);
+    }
+    raise_version(tx)?;
+    Ok(judged)
+}
+
+/// Ends the transaction in which the tables are taken over: with a commit where they were, and
+/// where not, what was written is undone.
+fn end_takeover<S: Alter>(
+    tx: Transaction<'_, S>,
+    got: Result<Result<Setup, OpenFault>, Error>,
+) -> Result<Setup, OpenFault>
+    ensures { EndsTakeover got
+        (state S.Store tx.entry.conn.now) (state S.Store tx.exit.0.now) result }
+{
+    match got {
+        Ok(Ok(setup)) => match tx.commit() {
+            Ok(()) => Ok(setup),
+            Err(error) => Err(open_fault_of(&error)),
+        },
+        Ok(Err(fault)) => {
+            tx.rollback();
+            Err(fault)
+        }
+        Err(error) => {
+            tx.rollback();
+            Err(open_fault_of(&error))
+        }
+    }
 }
 
 /// The setup of an office whose tables were of version 1. They are taken over in one transaction;
@@ -79,18 +114,6 @@ pub(crate) fn open_former<S: Alter>(
     ensures numbers { OnDisk S.Store (Accepts (CountsFormer known.new)) conn.old conn.new result }
 {
     let mut tx = conn.transaction();
-    match take_over(alloc, &mut tx, known) {
-        Ok(Ok(setup)) => match tx.commit() {
-            Ok(()) => Ok(setup),
-            Err(error) => Err(open_fault_of(&error)),
-        },
-        Ok(Err(fault)) => {
-            tx.rollback();
-            Err(fault)
-        }
-        Err(error) => {
-            tx.rollback();
-            Err(open_fault_of(&error))
-        }
-    }
+    let got = take_over(alloc, &mut tx, known);
+    end_takeover(tx, got)
 }

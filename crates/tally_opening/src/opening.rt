@@ -14,7 +14,7 @@ ghost use Rattle.tally_opening.specs.internal.Ending.{EndsUnchanged, IsSettled};
 ghost use Rattle.tally_opening.specs.internal.Opening.{CountsTables, HasSetupRow, IsJudged, Sees};
 ghost use Rattle.tally_opening.specs.internal.Opening.{IsJudgedFault, IsSetupFault, IsTodayFault};
 ghost use Rattle.tally_opening.specs.internal.Opening.{IsShownFault, IsShownSetup, IsTextFault};
-ghost use Rattle.tally_opening.specs.internal.Opening.{setup_shown, shown_of_row};
+ghost use Rattle.tally_opening.specs.internal.Opening.{IsAnswerOf, setup_shown, shown_of_row};
 
 use crate::judging::judge_office;
 use crate::making::VERSION;
@@ -129,6 +129,16 @@ pub(crate) fn open_fault_of(error: &Error) -> OpenFault
     }
 }
 
+// What a call in a transaction answered, or why it failed.
+fn answer_of(got: Result<Result<Setup, OpenFault>, Error>) -> Result<Setup, OpenFault>
+    ensures { IsAnswerOf got result }
+{
+    match got {
+        Ok(answer) => answer,
+        Err(error) => Err(open_fault_of(&error)),
+    }
+}
+
 /// The setup of an office whose tables are of today's version. Nothing is written. The numbers of
 /// its returns are put into a tree.
 pub(crate) fn open_today<S: Alter>(
@@ -151,8 +161,5 @@ pub(crate) fn open_today<S: Alter>(
     let mut tx = conn.transaction();
     let judged = judge_stored(alloc, &mut tx, VERSION, known);
     tx.rollback();
-    match judged {
-        Ok(answer) => answer,
-        Err(error) => Err(open_fault_of(&error)),
-    }
+    answer_of(judged)
 }

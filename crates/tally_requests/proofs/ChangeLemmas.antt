@@ -30,7 +30,7 @@ use Rattle.tally_returns.specs.declared.reply.Reply.TheVariants.{Edition, Vacate
 use Rattle.tally_returns.proofs.ClosedLemmas.{apart-untied, same-tied}
 use Rattle.tally_steps.specs.LawfulState.{IsLawfulState}
 use Rattle.tally_steps.specs.Outcome.{HasSeats, IsLawfulPast, IsOutcome, allotted}
-use Rattle.tally_steps.specs.Step.{ConChange, Decides, IsView, certified_with, con_change, edition_now, gone_for_good, lot_set, open_again, with_con}
+use Rattle.tally_steps.specs.Step.{ConChange, Decides, IsConDecision, IsView, certified_with, con_change, edition_now, gone_for_good, lot_set, open_again, with_con}
 use Rattle.tally_steps.proofs.ConStateLemmas.{con_state-changed, con_state-with_con, same_code}
 use Rattle.tally_steps.proofs.ConStepLemmas.{same-constituency}
 use Rattle.tally_steps.proofs.DecisionLemmas.{gone-once}
@@ -347,3 +347,10 @@ change_carried setup con view change decided old new r is carries clean inside =
     let both : Some decided ≡ Some other = sym is ∙ ensured in
     let same : decided ≡ other = cc in
     subst (λ (d : ConChange). IsChangeCarriedOut setup text s con (with_past_of con s view) d reply new) same (done text s lawful seen was)) (carries clean inside)
+
+-- and so it was decided
+pub decided-as : (con : Constituency) (view : View) (ask : Ask) (change : Change) (decided : ConChange) → con_change change ≡ Some decided → IsConDecision con view ask change → Decides con view ask (Ok decided)
+decided-as con view ask change decided is by =
+    let both : Some by.0 ≡ Some decided = sym by.1 ∙ is in
+    let same : by.0 ≡ decided = cc in
+    subst (λ (d : ConChange). Decides con view ask (Ok d)) same by.2

@@ -179,6 +179,11 @@ lodged-few limits found slip counts rev is few = go (first_refusal (counts_check
         let lists = eqb-true (length counts.votes) limits.lists (and_parts _ _ (and_parts _ _ (and_parts _ _ fit).0).0).0 in
         omega (arith, lists, few)
 
+-- and so of its answer
+pub reply-few : (lists electors : ℕ) (found : Option StationReturn) (slip : List ℕ) (counts : VoteCounts) (r : Result LodgeReply Refusal) (rev : ℕ) → r ≡ reply_at_station (limits_for lists electors Single) found slip counts → lists ≤ 60
+    → r ≡ Ok (Lodged rev) → length counts.votes ≤ 60
+reply-few lists electors found slip counts r rev is few lodged = lodged-few (limits_for lists electors Single) found slip counts rev (sym is ∙ lodged) few
+
 -- a Lodge that put no return
 pub lodged-nothing : (setup : List Constituency) (text : List ℕ) (s : State) (station slip : List ℕ) (counts : VoteCounts) (r : Result LodgeReply Refusal) (new : Seen)
     → r ≡ lodge_answer (stations_of setup) s.returns station slip counts → ((rev : ℕ) → r ≢ Ok (Lodged rev)) → IsInState setup text s new → IsLodged setup text s station slip counts r new

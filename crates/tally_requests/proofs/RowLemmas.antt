@@ -1,9 +1,10 @@
 -- An import in a transaction, so far.
-use Rattle.std.proofs.Common.{◌≡◌, ◌≤◌, ◌+◌, ◌∙◌, ℕ, List, [], ◌++◌, ◌∷◌, None, Some, Ok, Err, length, refl, sym, ap, subst, arith, length-append, append-nil}
+use Rattle.std.proofs.Common.{◌≡◌, ◌≢◌, ◌≤◌, ◌+◌, ◌∙◌, ℕ, List, [], ◌++◌, ◌∷◌, None, Some, Ok, Err, length, refl, sym, ap, subst, arith, length-append, append-nil}
 use Rattle.std.specs.FinMap.{empty}
 use Rattle.sqlite.specs.State.{State as Seen}
 use Rattle.tally_setup.specs.Constituency.{Constituency}
 use Rattle.tally_setup.specs.Limits.{IsSetup}
+use Rattle.tally_returns.specs.Counts.{VoteCounts}
 use Rattle.tally_returns.specs.Lodge.{Stations}
 use Rattle.tally_returns.specs.Return.{Returns}
 use Rattle.tally_returns.specs.State.{State, stations_of}
@@ -74,6 +75,17 @@ counted-next count more many answer was is = (
 pub unanswered : (number : ℕ) (named : List NamedRow) (asked : Ask) → named ≡ named ++ named_row number (row.Lodge asked) None
 unanswered number named (Lodge station slip counts) = sym (append-nil named)
 unanswered number named other = sym (append-nil named)
+
+-- another request than a Lodge brings no code
+pub other-coded : (asked : Ask) → ((station slip : List ℕ) (counts : VoteCounts) → asked ≢ Lodge station slip counts) → IsCodedRow (row.Lodge asked)
+other-coded (Lodge station slip counts) other = absurd (other station slip counts refl)
+other-coded asked other = tt
+
+-- and has no answer, and leaves the tables
+pub other-taken : (setup : List Constituency) (text : List ℕ) (s : State) (asked : Ask) (new : Seen) → ((station slip : List ℕ) (counts : VoteCounts) → asked ≢ Lodge station slip counts) → IsInState setup text s new
+    → IsRowTaken setup text s (row.Lodge asked) None new
+other-taken setup text s (Lodge station slip counts) new other here = absurd (other station slip counts refl)
+other-taken setup text s asked new other here = record { answered = refl; in_state = here }
 
 -- ---- what is known of the tables of a lawful state
 

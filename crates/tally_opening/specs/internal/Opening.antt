@@ -1,13 +1,13 @@
 -- What the steps of an opening see in a transaction. No public contract speaks of this.
 use Rattle.std.specs.Prelude.{◌≡◌, ◌≢◌, ◌⊎◌, ◌==◌, if◌then◌else◌, List, [], ◌∷◌, ℕ, Option, None}
-use Rattle.std.specs.Prelude.{Some, Result, Ok, IfOk, IsTrue, OnSome, codes, false, length}
-use Rattle.std.specs.Prelude.{option_and_then, option_map, slice_index_or, true}
+use Rattle.std.specs.Prelude.{Some, Result, Ok, Err, IfOk, IsTrue, OnOk, OnSome, codes, false}
+use Rattle.std.specs.Prelude.{length, option_and_then, option_map, slice_index_or, true}
 use Rattle.std.specs.BTreeMap.{BTreeMap}
 use Rattle.sqlite.specs.declared.error.Error.{Error}
 use Rattle.sqlite.specs.declared.transaction.Transaction.{Transaction}
 use Rattle.sqlite.specs.Effect.{Database, IsDatabase}
 use Rattle.sqlite.specs.Held.{state}
-use Rattle.sqlite.specs.State.{State as Seen, HasCleanDisk}
+use Rattle.sqlite.specs.State.{State as Seen, HasCleanDisk, IsRolledBack, Shows, Survives}
 use Rattle.sqlite_schema.specs.declared.schema.Schema.{Schema}
 use Rattle.sqlite_trees.specs.declared.store.Store.{Ghosts}
 use Rattle.sqlite_trees.specs.Tree.{Trees}
@@ -220,6 +220,12 @@ IsJudgedFault number db = IsTablesFault number (HasStoredRow db) (AreOfNoStored 
 abbrev pub IsTodayFault : Database → OpenFault → Type 0
 IsTodayFault db = OrFails (IsJudgedFault version db)
 
+-- this is answered of what a call in a transaction gave: its answer, or that it failed
+abbrev pub IsAnswerOf : {X : Type 0} → Result (Result X OpenFault) Error → Result X OpenFault
+    → Type 0
+IsAnswerOf (Ok answer) result = result ≡ answer
+IsAnswerOf (Err error) result = (result ≡ Err Memory) ⊎ (result ≡ Err Store)
+
 -- ---- version 1
 
 -- The tables of version 1 are those of no lawful state over the setup that is stored.
@@ -270,6 +276,34 @@ pub record AreTablesTakenOver (setup : List Constituency) (old new : Seen) : Typ
   pub inside : IsInside new
   pub left : IsTakenOver text old.now.trees new.now.trees
   pub tables : AreTables setup text state new.now.trees
+
+-- ---- the end of the transaction in which they are taken over
+
+-- What was taken over is committed, and the setup is the answer.
+pub record CommitsTakeover {X : Type 0} (got : Result (Result X OpenFault) Error) (last new : Seen)
+    (r : Result X OpenFault) : Type 0 where
+  pub setup : X
+  pub taken : got ≡ Ok (Ok setup)
+  pub is : r ≡ Ok setup
+  pub shown : HasCleanDisk new → Shows last new last.now last.now false
+
+-- What was written is undone; after a takeover that is said only of a transaction that had not
+-- ended before. The fault is the one that was got, or that of the database.
+pub record UndoesTakeover {X : Type 0} (got : Result (Result X OpenFault) Error) (last new : Seen)
+    (r : Result X OpenFault) : Type 0 where
+  pub why : OpenFault
+  pub is : r ≡ Err why
+  pub own : (got ≡ Ok (Err why)) ⊎ ((why ≡ Memory) ⊎ (why ≡ Store))
+  pub undone : HasCleanDisk new → IfOk got (λ answer. OnOk answer (IsTrue last.in_transaction))
+      → IsRolledBack last new
+
+-- One of the two. A crash leaves what it could leave before, or what was taken over.
+pub record EndsTakeover {X : Type 0} (got : Result (Result X OpenFault) Error) (last new : Seen)
+    (r : Result X OpenFault) : Type 0 where
+  pub ended : new.in_transaction ≡ false
+  pub survives : Survives last new
+      (λ db. (setup : X) × (got ≡ Ok (Ok setup)) × (db ≡ last.now.trees))
+  pub how : CommitsTakeover got last new r ⊎ UndoesTakeover got last new r
 
 -- ---- the schema
 

@@ -1,25 +1,39 @@
-use Rattle.std.proofs.Common.{arith}
+use Rattle.std.proofs.Common.{◌∙◌, sym}
+use Rattle.std.specs.Prelude.{⊤}
 use Rattle.sqlite.specs.State.{HasCleanDisk}
 use Rattle.sqlite.specs.Held.{state}
-use Rattle.tally_opening.specs.Open.{former_version}
-use Rattle.tally_opening.specs.internal.Opening.{CountsFormer, IsReady}
-use Rattle.tally_opening.proofs.TakeoverLemmas.{ready_inside, ready_row, taken}
+use Rattle.tally_schema.specs.Made.{HasFirstTables}
+use Rattle.tally_statements.proofs.StaysLemmas.{stays-then}
+use Rattle.tally_opening.proofs.ReturnLemmas.{clean_first}
+use Rattle.tally_opening.proofs.TakeoverLemmas.{ok_none, taken_each}
 use Rattle.tally_opening.proofs.former.take_over.Goals as goal
 
 pub returns-clause-taken : goal.returns-clause-taken
-returns-clause-taken g c clean first =
+returns-clause-taken g c clean has =
     let old = state g.S.Store c.args.tx.now.conn.now in
     let mid = state g.S.Store c.judge_with_past.new.tx.conn.now in
-    let new = state g.S.Store c.update_version.new.tx.conn.now in
-    let early : HasCleanDisk mid = omega (arith, c.update_version.ensures.stays.survives.clean) in
-    let h : IsReady c.in-Ok.setup old mid = rw c.in-Ok.is at (c.in_ok-setup.ensures.ready early first) in
-    let set = c.in_ok-update_version.ensures.updated clean (ready_inside c.in-Ok.setup old mid first h) former_version h.stored.text (ready_row c.in-Ok.setup old mid h) in
-    taken c.in-Ok.setup old mid new h set
+    let early : HasCleanDisk mid = clean_first c.raise_version.ensures.stays.survives clean in
+    taken_each c.in_ok-judged.judged old mid (state g.S.Store c.raise_version.new.tx.conn.now) has (c.in_ok-judged.ensures.ready early has) (c.in_ok-raise_version.ensures.raised clean)
+
+pub returns-clause-fault : goal.returns-clause-fault
+returns-clause-fault g c clean has = c.in_ok-judged.ensures.fault (clean_first c.raise_version.ensures.stays.survives clean) has
 
 pub returns-clause-numbers : goal.returns-clause-numbers
-returns-clause-numbers g c clean first =
-    let old = state g.S.Store c.args.tx.now.conn.now in
-    let mid = state g.S.Store c.judge_with_past.new.tx.conn.now in
-    let early : HasCleanDisk mid = omega (arith, c.update_version.ensures.stays.survives.clean) in
-    let ensured : CountsFormer c.judge_with_past.new.known c.in-Ok.setup old.now = rw c.in-Ok.is at (c.in_ok-setup.ensures.numbers early first) in
-    ensured
+returns-clause-numbers g c clean has = c.in_ok-judged.ensures.numbers (clean_first c.raise_version.ensures.stays.survives clean) has
+
+pub returns-clause-stays : goal.returns-clause-stays
+returns-clause-stays g c =
+    stays-then (HasFirstTables 8) (λ _. ⊤) g.S.Store c.args.tx.now c.judge_with_past.new.tx c.raise_version.new.tx (λ _ _. tt) c.judge_with_past.ensures.stays c.raise_version.ensures.stays
+
+pub returns-in_err-raise_version-clause-stays : goal.returns-in_err-raise_version-clause-stays
+returns-in_err-raise_version-clause-stays g c =
+    stays-then (HasFirstTables 8) (λ _. ⊤) g.S.Store c.args.tx.now c.judge_with_past.new.tx c.raise_version.new.tx (λ _ _. tt) c.judge_with_past.ensures.stays c.raise_version.ensures.stays
+
+pub returns-then-is_err-clause-taken : goal.returns-then-is_err-clause-taken
+returns-then-is_err-clause-taken g c clean has = ok_none c.in_ok-judged.judged _ (sym c.is_err.ensures.value ∙ c.if-is_err.true)
+
+pub returns-then-is_err-clause-fault : goal.returns-then-is_err-clause-fault
+returns-then-is_err-clause-fault g c clean has = c.in_ok-judged.ensures.fault clean has
+
+pub returns-then-is_err-clause-numbers : goal.returns-then-is_err-clause-numbers
+returns-then-is_err-clause-numbers g c clean has = c.in_ok-judged.ensures.numbers clean has

@@ -11,6 +11,8 @@ use Rattle.tally_requests.proofs.AnswerLemmas.{on-answer, seen-carries, seen-kno
 use Rattle.tally_requests.specs.internal.Known.{AreKnown, known_of}
 use Rattle.tally_requests.proofs.KnownLemmas.{con-returns, forgets-answered, forgets-remembered}
 use Rattle.tally_requests.proofs.UnwrittenLemmas.{unwritten-then}
+use Rattle.tally_statements.specs.Office.{IsInside}
+use Rattle.tally_statements.proofs.StaysLemmas.{stays-then}
 use Rattle.tally_requests.proofs.constituencies.answer_on_con.Goals as goal
 
 pub returns-in_default-clause-answers : goal.returns-in_default-clause-answers
@@ -68,3 +70,11 @@ returns-clause-answers g c =
       unwritten = unwritten-then old mid new c.answer_seen.result earlier (λ early inside. c.in_ok-view.ensures.reads.same early inside) c.answer_seen.ensures.answers.unwritten;
       answered_open = λ clean. on-answer {P = IsTrue old.is_open} c.answer_seen.result (c.in_ok-view.ensures.reads.answered_open (earlier clean));
     }
+
+pub returns-clause-stays : goal.returns-clause-stays
+returns-clause-stays g c =
+    let old = state g.S.Store c.args.tx.now.conn.now in
+    let mid = state g.S.Store c.find_view.new.tx.conn.now in
+    stays-then IsInside IsInside g.S.Store c.args.tx.now c.find_view.new.tx c.answer_seen.new.tx
+    (λ early inside. (still-unchanged old mid (c.in_ok-view.ensures.reads.same early inside) inside).inside)
+    c.find_view.ensures.reads.stays c.answer_seen.ensures.stays

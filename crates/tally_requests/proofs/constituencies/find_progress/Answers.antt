@@ -104,3 +104,12 @@ pub returns-clause-found : goal.returns-clause-found
 returns-clause-found g c clean inside text s lawful held tables =
     let all = take_all c.loop-con.con-index c.cons-cons.result.now c.loop-con-test.false in
     c.loop-con.invariant.found clean inside text s lawful held tables ∙ ap (map (progress_row s)) (all ∙ c.cons-cons.ensures.cons)
+
+pub returns-clause-stays : goal.returns-clause-stays
+returns-clause-stays g c = c.loop-con.invariant.stays
+
+pub returns-clause-known : goal.returns-clause-known
+returns-clause-known g c = c.loop-con.invariant.known
+
+pub returns-clause-forgets : goal.returns-clause-forgets
+returns-clause-forgets g c = c.loop-con.invariant.forgets

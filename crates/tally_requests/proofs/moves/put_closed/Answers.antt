@@ -1,10 +1,13 @@
 use Rattle.std.proofs.Common.{◌≡◌, ◌∙◌, [], ◌∷◌, true, sym, ap, subst, arith}
+use Rattle.std.specs.Prelude.{⊤}
 use Rattle.sqlite.specs.Held.{state}
 use Rattle.sqlite.specs.State.{HasCleanDisk}
 use Rattle.tally_returns.specs.Return.{StationReturn}
 use Rattle.tally_entries.specs.internal.Entries.{ChangesReturn}
 use Rattle.tally_requests.specs.internal.Moves.{CountsSo}
 use Rattle.tally_requests.proofs.MovedLemmas.{closed_moved, closed_so, not_closed}
+use Rattle.tally_statements.specs.Office.{IsInside}
+use Rattle.tally_statements.proofs.StaysLemmas.{stays-then}
 use Rattle.tally_requests.proofs.moves.put_closed.Goals as goal
 
 pub returns-clause-put : goal.returns-clause-put
@@ -22,3 +25,6 @@ returns-clause-put g c clean inside setup place text s limits at lawful not_cert
     closed_moved setup text s con place station before standing old mid new c.change_return.result clean limits at not_certified stood c.requires.same_counts tables
     (c.in_ok-move_sums.ensures.moved early inside setup s station place before standing limits at lawful stood so tables.totals)
     (subst (λ k. ChangesReturn k standing mid new c.change_return.result) c.as_str.ensures.text c.change_return.ensures.changed)
+
+pub returns-clause-stays : goal.returns-clause-stays
+returns-clause-stays g c = stays-then IsInside (λ _. ⊤) g.S.Store c.args.tx.now c.move_sums.new.tx c.change_return.new.tx (λ _ _. tt) c.move_sums.ensures.stays c.change_return.ensures.stays

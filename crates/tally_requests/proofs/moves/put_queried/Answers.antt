@@ -1,4 +1,5 @@
 use Rattle.std.proofs.Common.{◌≡◌, ◌∙◌, [], ap, subst, arith}
+use Rattle.std.specs.Prelude.{⊤}
 use Rattle.sqlite.specs.Held.{state}
 use Rattle.sqlite.specs.State.{HasCleanDisk}
 use Rattle.tally_setup.specs.Constituency.{Constituency}
@@ -8,6 +9,8 @@ use Rattle.tally_entries.specs.internal.Constituencies.{HasLot}
 use Rattle.tally_entries.specs.internal.Entries.{ChangesReturn}
 use Rattle.tally_requests.proofs.MovedLemmas.{queried_moved, queried_so}
 use Rattle.tally_requests.proofs.WriteLemmas.{HasMoved}
+use Rattle.tally_statements.specs.Office.{IsInside}
+use Rattle.tally_statements.proofs.StaysLemmas.{stays-then}
 use Rattle.tally_requests.proofs.moves.put_queried.Goals as goal
 
 pub returns-clause-put : goal.returns-clause-put
@@ -27,3 +30,13 @@ returns-clause-put g c clean inside setup place text s limits at lawful not_cert
     let lots : HasMoved Lots lot_rows con.code (HasLot []) mid bare = subst (λ k. HasMoved Lots lot_rows k (HasLot []) mid bare) key (c.in_ok-put_lot.ensures.lots later sums.0.inside) in
     queried_moved setup text s con place station before standing old mid bare new c.change_return.result clean limits at lawful not_certified stood c.requires.same_counts tables sums lots
     (subst (λ k. ChangesReturn k standing bare new c.change_return.result) c.as_str-2.ensures.text c.change_return.ensures.changed)
+
+pub returns-in_err-put_lot-clause-stays : goal.returns-in_err-put_lot-clause-stays
+returns-in_err-put_lot-clause-stays g c =
+    stays-then IsInside (λ _. ⊤) g.S.Store c.args.tx.now c.uncount.new.tx c.put_lot.new.tx (λ _ _. tt) c.uncount.ensures.stays c.put_lot.ensures.stays
+
+pub returns-clause-stays : goal.returns-clause-stays
+returns-clause-stays g c =
+    stays-then IsInside (λ _. ⊤) g.S.Store c.args.tx.now c.put_lot.new.tx c.change_return.new.tx (λ _ _. tt)
+    (stays-then IsInside (λ _. ⊤) g.S.Store c.args.tx.now c.uncount.new.tx c.put_lot.new.tx (λ _ _. tt) c.uncount.ensures.stays c.put_lot.ensures.stays)
+    c.change_return.ensures.stays

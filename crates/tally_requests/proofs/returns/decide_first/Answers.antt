@@ -2,7 +2,8 @@ use Rattle.std.proofs.Common.{◌≡◌, length, ap, arith}
 use Rattle.std.specs.Option.{option_copied}
 use Rattle.sqlite.specs.Held.{state}
 use Rattle.tally_setup.specs.Constituency.{Constituency}
-use Rattle.tally_requests.proofs.LodgedLemmas.{decided-is}
+use Rattle.tally_requests.proofs.LodgedLemmas.{decided-is, reply-few}
+use Rattle.tally_requests.proofs.FoundLemmas.{few-lists}
 use Rattle.tally_requests.proofs.returns.decide_first.Goals as goal
 
 pub returns-clause-decided : goal.returns-clause-decided
@@ -13,3 +14,22 @@ returns-clause-decided g c clean inside text s lawful tables =
     let many : lists ≡ length con.lists = omega (arith, same, c.len-lists.ensures, c.con.inside.lists.ok.0) in
     decided-is c.args.setup.now text s c.args.station c.args.slip c.args.counts.now con c.args.place.now lists (state g.S.Store c.args.tx.now.conn.now) c.in_ok-found.found (option_copied c.as_ref.result) c.decide_lodge.result c.requires.limits lawful tables c.requires.known many
     (c.in_ok-found.ensures.found clean inside) c.as_ref.ensures.value c.decide_lodge.ensures
+
+pub decide_lodge-requires : goal.decide_lodge-requires
+decide_lodge-requires g c =
+    let con = c.args.con.now in
+    let same : length c.con.inside.lists.items ≡ length con.lists = ap (λ (k : Constituency). length k.lists) c.con.view_is in
+    let few = few-lists c.args.setup.now c.args.station con c.args.place.now c.requires.limits c.requires.known in
+    omega (arith, same, few, c.len-lists.ensures, c.con.inside.lists.ok.0)
+
+pub returns-clause-reads : goal.returns-clause-reads
+returns-clause-reads g c =
+    let found = c.in_ok-found.ensures.reads in
+    record { stays = c.find_return.ensures.reads.stays; same = found.same; answered_open = found.answered_open }
+
+pub returns-clause-few : goal.returns-clause-few
+returns-clause-few g c rev lodged =
+    let con = c.args.con.now in
+    let same : length c.con.inside.lists.items ≡ length con.lists = ap (λ (k : Constituency). length k.lists) c.con.view_is in
+    let few = few-lists c.args.setup.now c.args.station con c.args.place.now c.requires.limits c.requires.known in
+    reply-few c.len-lists.result c.args.place.now.electors (option_copied c.as_ref.result) c.args.slip c.args.counts.now c.decide_lodge.result rev c.decide_lodge.ensures (omega (arith, same, few, c.len-lists.ensures, c.con.inside.lists.ok.0)) lodged

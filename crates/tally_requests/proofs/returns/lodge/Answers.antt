@@ -1,4 +1,5 @@
 use Rattle.std.proofs.Common.{◌∙◌, Ok, Err, refl, sym, ap, subst, arith, true≢false}
+use Rattle.std.specs.Prelude.{⊤}
 use Rattle.sqlite.specs.State.{HasCleanDisk}
 use Rattle.sqlite.specs.Held.{state}
 use Rattle.tally_keeper.specs.Events.{as_answer}
@@ -10,6 +11,8 @@ use Rattle.tally_requests.specs.internal.Counting.{known_after_lodge}
 use Rattle.tally_requests.specs.internal.Lodging.{IsLodgeAnswer}
 use Rattle.tally_requests.proofs.KnownLemmas.{lodge-counted}
 use Rattle.tally_requests.proofs.LodgedLemmas.{answer-nowhere, lodged-first, lodged-refused, lodged-same, still}
+use Rattle.tally_statements.specs.Office.{IsInside}
+use Rattle.tally_statements.proofs.StaysLemmas.{stays-then}
 use Rattle.tally_requests.proofs.returns.lodge.Goals as goal
 
 pub returns-in_default-clause-lodged : goal.returns-in_default-clause-lodged
@@ -68,3 +71,11 @@ returns-clause-unwritten g c clean at acts = absurd (true≢false (sym (ap (λ r
 
 pub returns-clause-answered_open : goal.returns-clause-answered_open
 returns-clause-answered_open g c clean = c.in_ok-answer.ensures.reads.answered_open (omega (arith, clean, c.put_first.ensures.stays.survives.clean))
+
+pub returns-in_err-put_first-clause-stays : goal.returns-in_err-put_first-clause-stays
+returns-in_err-put_first-clause-stays g c =
+    stays-then IsInside (λ _. ⊤) g.S.Store c.args.tx.now c.decide_first.new.tx c.put_first.new.tx (λ _ _. tt) c.decide_first.ensures.reads.stays c.put_first.ensures.stays
+
+pub returns-clause-stays : goal.returns-clause-stays
+returns-clause-stays g c =
+    stays-then IsInside (λ _. ⊤) g.S.Store c.args.tx.now c.decide_first.new.tx c.put_first.new.tx (λ _ _. tt) c.decide_first.ensures.reads.stays c.put_first.ensures.stays

@@ -86,3 +86,27 @@ returns-clause-answers g c =
           (unwritten-then mid last new (Ok answer) later (λ early inside. c.in_ok-certified.ensures.reads.same early inside) c.in_ok-answer.ensures.answers.unwritten);
       answered_open = λ clean. c.in_ok-found.ensures.reads.answered_open (earlier clean);
     }
+
+pub returns-in_err-certified-clause-stays : goal.returns-in_err-certified-clause-stays
+returns-in_err-certified-clause-stays g c =
+    let old = state g.S.Store c.args.tx.now.conn.now in
+    let mid = state g.S.Store c.find_lawful.new.tx.conn.now in
+    stays-then IsInside IsInside g.S.Store c.args.tx.now c.find_lawful.new.tx c.find_certified.new.tx
+    (λ early inside. (still-unchanged old mid (c.in_ok-found.ensures.reads.same early inside) inside).inside)
+    c.find_lawful.ensures.reads.stays c.find_certified.ensures.reads.stays
+
+pub returns-clause-stays : goal.returns-clause-stays
+returns-clause-stays g c =
+    let old = state g.S.Store c.args.tx.now.conn.now in
+    let mid = state g.S.Store c.find_lawful.new.tx.conn.now in
+    let last = state g.S.Store c.find_certified.new.tx.conn.now in
+    let found = c.find_certified.ensures.reads.stays in
+    stays-then IsInside IsInside g.S.Store c.args.tx.now c.find_certified.new.tx c.move_found.new.tx
+    (λ later inside.
+    let early : HasCleanDisk mid = omega (arith, later, found.survives.clean) in
+    let one = still-unchanged old mid (c.in_ok-found.ensures.reads.same early inside) inside in
+    (still-unchanged mid last (c.in_ok-certified.ensures.reads.same later one.inside) one.inside).inside)
+    (stays-then IsInside IsInside g.S.Store c.args.tx.now c.find_lawful.new.tx c.find_certified.new.tx
+    (λ early inside. (still-unchanged old mid (c.in_ok-found.ensures.reads.same early inside) inside).inside)
+    c.find_lawful.ensures.reads.stays found)
+    c.move_found.ensures.stays

@@ -124,3 +124,12 @@ returns-in_default-clause-named g c clean inside text s lawful tables =
     let given = subst (λ r. GivesAt (left c.loop-before.source) (Ok r) (left c.next_row.new.self)) c.in_default.is (ensured.gives, ensured.gave, ensured.ends) in
     rows-named c.args.setup.now text s (left c.args.source.now) (left c.loop-before.source) (left c.next_row.new.self) c.loop-before.count c.loop-before.before (known_of c.args.known.now) (known_of c.loop-before.known)
     c.args.named.now.items c.loop-before.named.items _ (was.taken clean inside text s lawful tables) (omega (arith, c.loop-before-test.true)) given
+
+pub returns-in_default-clause-stays : goal.returns-in_default-clause-stays
+returns-in_default-clause-stays g c = c.loop-before.invariant.stays
+
+pub returns-in_err-row-clause-stays : goal.returns-in_err-row-clause-stays
+returns-in_err-row-clause-stays g c = c.loop-before.invariant.stays
+
+pub returns-clause-stays : goal.returns-clause-stays
+returns-clause-stays g c = c.loop-before.invariant.stays

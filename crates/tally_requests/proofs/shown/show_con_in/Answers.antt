@@ -43,3 +43,13 @@ returns-clause-known g c clean inside =
 pub returns-clause-forgets : goal.returns-clause-forgets
 returns-clause-forgets g c =
     forgets-remembered (known_of c.args.known.now) (known_of c.remember.new.known) c.con-2.inside.code c.statuses_of.result c.in_ok-remember.ensures
+
+pub returns-clause-reads : goal.returns-clause-reads
+returns-clause-reads g c =
+    let found = c.in_ok-view.ensures.reads in
+    record { stays = c.find_view.ensures.reads.stays; same = found.same; answered_open = found.answered_open }
+
+pub returns-in_default-clause-reads : goal.returns-in_default-clause-reads
+returns-in_default-clause-reads g c =
+    let opened = c.in_ok-see_open.ensures.reads in
+    record { stays = c.see_open.ensures.reads.stays; same = opened.same; answered_open = opened.answered_open }

@@ -1,0 +1,57 @@
+use Rattle.std.proofs.Common.{sym, subst}
+use Rattle.sqlite.specs.Held.{state}
+use Rattle.tally_requests.specs.internal.Found.{MovesTo, after_move}
+use Rattle.tally_requests.specs.internal.Moves.{PutsMoved}
+use Rattle.tally_requests.proofs.returns.put_moved.Goals as goal
+
+pub put_queried-requires : goal.put_queried-requires
+put_queried-requires g c =
+    let moves = subst (λ a. MovesTo c.args.con.now a c.args.before.now c.args.standing.now) c.in-Query.is c.requires.moves in
+    record { few = c.requires.few; queried = moves.0; same_counts = moves.1 }
+
+pub returns-in-Query-clause-put : goal.returns-in-Query-clause-put
+returns-in-Query-clause-put g c =
+    let con = c.args.con.now in
+    let before = c.args.before.now in
+    let old = state g.S.Store c.args.tx.now.conn.now in
+    let new = state g.S.Store c.put_queried.new.tx.conn.now in
+    subst (λ a. PutsMoved (after_move con c.args.station a c.args.standing.now) con c.args.station before old new c.put_queried.result) (sym c.in-Query.is) c.put_queried.ensures.put
+
+pub put_corrected-requires : goal.put_corrected-requires
+put_corrected-requires g c =
+    let moves = subst (λ a. MovesTo c.args.con.now a c.args.before.now c.args.standing.now) c.in-Correct.is c.requires.moves in
+    record { few = c.requires.few; queried = moves.0; corrected = moves.1; lists = moves.2 }
+
+pub returns-in-Correct-clause-put : goal.returns-in-Correct-clause-put
+returns-in-Correct-clause-put g c =
+    let con = c.args.con.now in
+    let before = c.args.before.now in
+    let old = state g.S.Store c.args.tx.now.conn.now in
+    let new = state g.S.Store c.put_corrected.new.tx.conn.now in
+    subst (λ a. PutsMoved (after_move con c.args.station a c.args.standing.now) con c.args.station before old new c.put_corrected.result) (sym c.in-Correct.is) c.put_corrected.ensures.put
+
+pub put_closed-requires : goal.put_closed-requires
+put_closed-requires g c =
+    let moves = subst (λ a. MovesTo c.args.con.now a c.args.before.now c.args.standing.now) c.in-Close.is c.requires.moves in
+    record { few = c.requires.few; «open» = moves.0; closed = moves.1; same_counts = moves.2 }
+
+pub returns-in-Close-clause-put : goal.returns-in-Close-clause-put
+returns-in-Close-clause-put g c =
+    let con = c.args.con.now in
+    let before = c.args.before.now in
+    let old = state g.S.Store c.args.tx.now.conn.now in
+    let new = state g.S.Store c.put_closed.new.tx.conn.now in
+    subst (λ a. PutsMoved (after_move con c.args.station a c.args.standing.now) con c.args.station before old new c.put_closed.result) (sym c.in-Close.is) c.put_closed.ensures.put
+
+pub put_closed-requires-in-Confirm : goal.put_closed-requires-in-Confirm
+put_closed-requires-in-Confirm g c =
+    let moves = subst (λ a. MovesTo c.args.con.now a c.args.before.now c.args.standing.now) c.in-Confirm.is c.requires.moves in
+    record { few = c.requires.few; «open» = moves.0; closed = moves.1; same_counts = moves.2 }
+
+pub returns-in-Confirm-clause-put : goal.returns-in-Confirm-clause-put
+returns-in-Confirm-clause-put g c =
+    let con = c.args.con.now in
+    let before = c.args.before.now in
+    let old = state g.S.Store c.args.tx.now.conn.now in
+    let new = state g.S.Store c.put_closed-in-Confirm.new.tx.conn.now in
+    subst (λ a. PutsMoved (after_move con c.args.station a c.args.standing.now) con c.args.station before old new c.put_closed-in-Confirm.result) (sym c.in-Confirm.is) c.put_closed-in-Confirm.ensures.put
