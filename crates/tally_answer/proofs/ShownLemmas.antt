@@ -1,9 +1,11 @@
 -- What is shown: the code of the list at a place, and that no number is a float.
-use Rattle.std.proofs.Common.{◌≡◌, ℕ, suc, List, [], ◌∷◌, map, Bool, false, ◌||◌, Option, Some, Result, Ok, Err, IfOk, String, Global, string_bytes, codes, refl, ap, ◌∙◌, option_map, unwrap_or}
+use Rattle.std.proofs.Common.{◌≡◌, ℕ, suc, ◌+◌, ◌<◌, List, [], ◌∷◌, ◌++◌, map, length, get_or, take, sym, Bool, false, ◌||◌, Option, Some, Result, Ok, Err, IfOk, String, Global, string_bytes, codes, refl, ap, ◌∙◌, option_map, unwrap_or}
 use Rattle.std.specs.List.{slice_get}
+use Rattle.std.proofs.lemmas.List.{map-append, take_more}
 use Rattle.std.specs.declared.alloc.AllocError.{AllocError}
 use Rattle.serde_json.specs.Data.{Data, Members, member, string}
-use Rattle.serde_json.specs.View.{items_of}
+use Rattle.serde_json.specs.View.{items_of, view}
+use Rattle.serde_json.specs.declared.value.Value.{Value}
 use Rattle.serde_json.specs.Written.{has_float, items_have_float, members_have_float, compact_text}
 use Rattle.tally_setup.specs.Constituency.{Constituency, ListEntry}
 use Rattle.tally_setup.specs.declared.constituency.Entry.{Entry}
@@ -16,6 +18,13 @@ use Rattle.tally_answer.specs.Shown.{all_gone, whole_value, code_at_place, membe
 pub code_at_place-some : (lists : List ListEntry) (place l : ℕ) (list : ListEntry) → place ≡ suc l → slice_get lists l ≡ Some list → code_at_place lists place ≡ list.code
 code_at_place-some lists place l list at found =
     ap (code_at_place lists) at ∙ ap (λ (f : Option ListEntry). unwrap_or (option_map (λ (e : ListEntry). e.code) f) []) found
+
+-- one more value after those of the elements so far
+pub shown_next : {X : Type 0} (f : X → Data) (xs : List X) (i : ℕ) (d : X) (items more : List Value) (value : Value) → i < length xs → more ≡ items ++ value ∷ [] → view value ≡ f (get_or xs i d) → map view items ≡ map f (take i xs)
+    → map view more ≡ map f (take (i + 1) xs)
+shown_next f xs i d items more value within is of_value before =
+    ap (map view) is ∙ map-append view items (value ∷ []) ∙ ap (λ (l : List Data). l ++ view value ∷ []) before ∙ ap (λ (v : Data). map f (take i xs) ++ v ∷ []) of_value
+    ∙ sym (ap (map f) (take_more xs i d within) ∙ map-append f (take i xs) (get_or xs i d ∷ []))
 
 wholes_free : (ns : List ℕ) → items_have_float (items_of (map whole_value ns)) ≡ false
 wholes_free [] = refl

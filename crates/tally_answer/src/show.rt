@@ -1,6 +1,6 @@
 //! What GET shows of a return and of a constituency.
 
-ghost use Rattle.std.specs.Prelude.{◌≡◌, IfOk, OnOk, string_bytes};
+ghost use Rattle.std.specs.Prelude.{◌≡◌, IfOk, OnOk, codes, string_bytes};
 ghost use Rattle.serde_json.specs.Data.{no_members, object, put as with_member, string};
 ghost use Rattle.serde_json.specs.View.{view, members_view};
 ghost use Rattle.serde_json.specs.Written.{compact_text};
@@ -10,30 +10,10 @@ ghost use Rattle.tally_answer.specs.Shown.{shown_gone, shown_return, whole_value
 ghost use Rattle.tally_answer.specs.Shown.{con_members, with_entry};
 ghost use Rattle.tally_setup.specs.declared.constituency.Entry.TheVariants.{Single};
 
-use serde_json::{Map, Value, json};
+use serde_json::{Map, Value};
 use std::alloc::{AllocError, Global};
 use tally_returns::{ConView, Gone, Return};
 use tally_setup::{Constituency, Entry, ListEntry};
-
-fn whole_values(alloc: Global, numbers: &[u32]) -> Result<Value, AllocError>
-    ensures { IfOk result (λ value. view value ≡ whole_values numbers.now) }
-{
-    let mut items = Vec::with_capacity(alloc, numbers.len())?;
-    for number in numbers {
-        items.push(Value::from(*number))?;
-    }
-    Ok(Value::from(items))
-}
-
-fn long_whole_values(alloc: Global, numbers: &[u64]) -> Result<Value, AllocError>
-    ensures { IfOk result (λ value. view value ≡ whole_values numbers.now) }
-{
-    let mut items = Vec::with_capacity(alloc, numbers.len())?;
-    for number in numbers {
-        items.push(Value::from(*number))?;
-    }
-    Ok(Value::from(items))
-}
 
 // Members are put in from the last to the first, so that each goes before those that are there.
 fn put_text(
@@ -52,12 +32,44 @@ fn put_number(
     map: &mut Map<String, Value>,
     alloc: Global,
     key: &str,
-    number: u32,
+    number: u64,
 ) -> Result<(), AllocError>
     ensures { OnOk result (members_view map.new.entries
         ≡ with_member key.now (whole_value number) (members_view map.old.entries)) }
 {
     serde_json::put(map, alloc, key, Value::from(number))
+}
+
+fn put_numbers(
+    map: &mut Map<String, Value>,
+    alloc: Global,
+    key: &str,
+    numbers: &[u32],
+) -> Result<(), AllocError>
+    ensures { OnOk result (members_view map.new.entries
+        ≡ with_member key.now (whole_values numbers.now) (members_view map.old.entries)) }
+{
+    let mut items = Vec::with_capacity(alloc, numbers.len())?;
+    for number in numbers {
+        items.push(Value::from(*number))?;
+    }
+    serde_json::put(map, alloc, key, Value::from(items))
+}
+
+fn put_long_numbers(
+    map: &mut Map<String, Value>,
+    alloc: Global,
+    key: &str,
+    numbers: &[u64],
+) -> Result<(), AllocError>
+    ensures { OnOk result (members_view map.new.entries
+        ≡ with_member key.now (whole_values numbers.now) (members_view map.old.entries)) }
+{
+    let mut items = Vec::with_capacity(alloc, numbers.len())?;
+    for number in numbers {
+        items.push(Value::from(*number))?;
+    }
+    serde_json::put(map, alloc, key, Value::from(items))
 }
 
 fn put_from_spoiled(
@@ -70,15 +82,10 @@ fn put_from_spoiled(
     ensures { OnOk result
         (members_view map.new.entries ≡ members_from_spoiled station.now kept.now) }
 {
-    serde_json::put(
-        map,
-        alloc,
-        "votes",
-        whole_values(alloc, &kept.counts.votes)?,
-    )?;
+    put_numbers(map, alloc, "votes", &kept.counts.votes)?;
     put_text(map, alloc, "status", kept.status.word())?;
     put_text(map, alloc, "station", station)?;
-    put_number(map, alloc, "spoiled", kept.counts.spoiled)
+    put_number(map, alloc, "spoiled", u64::from(kept.counts.spoiled))
 }
 
 fn put_return(
@@ -93,17 +100,9 @@ fn put_return(
 {
     put_from_spoiled(map, alloc, station, kept)?;
     put_text(map, alloc, "slip", kept.slip.as_str())?;
-    put_number(map, alloc, "rev", kept.rev)?;
+    put_number(map, alloc, "rev", u64::from(kept.rev))?;
     put_text(map, alloc, "note", &kept.note)?;
-    put_number(map, alloc, "blank", kept.counts.blank)
-}
-
-fn return_value(alloc: Global, station: &str, kept: &Return) -> Result<Value, AllocError>
-    ensures { IfOk result (λ value. view value ≡ shown_return station.now kept.now) }
-{
-    let mut map = Map::new(alloc);
-    put_return(&mut map, alloc, station, kept)?;
-    Ok(Value::Object(map))
+    put_number(map, alloc, "blank", u64::from(kept.counts.blank))
 }
 
 /// The JSON of a station's return.
@@ -111,7 +110,9 @@ pub fn return_text(alloc: Global, station: &str, kept: &Return) -> Result<String
     ensures { IfOk result
         (λ text. string_bytes text ≡ compact_text (shown_return station.now kept.now)) }
 {
-    return_value(alloc, station, kept)?.to_string(alloc)
+    let mut map = Map::new(alloc);
+    put_return(&mut map, alloc, station, kept)?;
+    Value::Object(map).to_string(alloc)
 }
 
 fn code_at_place(lists: &[ListEntry], place: u32) -> &str
@@ -126,34 +127,48 @@ fn code_at_place(lists: &[ListEntry], place: u32) -> &str
     }
 }
 
-fn codes_at_places(alloc: Global, lists: &[ListEntry], places: &[u32]) -> Result<Value, AllocError>
-    ensures { IfOk result (λ value. view value ≡ codes_at_places lists.now places.now) }
+fn put_codes(
+    map: &mut Map<String, Value>,
+    alloc: Global,
+    key: &str,
+    lists: &[ListEntry],
+    places: &[u32],
+) -> Result<(), AllocError>
+    ensures { OnOk result (members_view map.new.entries
+        ≡ with_member key.now (codes_at_places lists.now places.now)
+        (members_view map.old.entries)) }
 {
     let mut items = Vec::with_capacity(alloc, places.len())?;
     for place in places {
         items.push(Value::try_from_str(alloc, code_at_place(lists, *place))?)?;
     }
-    Ok(Value::from(items))
+    serde_json::put(map, alloc, key, Value::from(items))
 }
 
 fn gone_value(alloc: Global, lists: &[ListEntry], gone: &Gone) -> Result<Value, AllocError>
     ensures { IfOk result (λ value. view value ≡ shown_gone lists.now gone.now) }
 {
-    json!(in alloc; {
-        "list": code_at_place(lists, gone.list),
-        "note": &gone.note,
-        "place": gone.place
-    })
+    let mut map = Map::new(alloc);
+    put_number(&mut map, alloc, "place", u64::from(gone.place))?;
+    put_text(&mut map, alloc, "note", &gone.note)?;
+    put_text(&mut map, alloc, "list", code_at_place(lists, gone.list))?;
+    Ok(Value::Object(map))
 }
 
-fn all_gone(alloc: Global, lists: &[ListEntry], all: &[Gone]) -> Result<Value, AllocError>
-    ensures { IfOk result (λ value. view value ≡ all_gone lists.now all.now) }
+fn put_gone(
+    map: &mut Map<String, Value>,
+    alloc: Global,
+    lists: &[ListEntry],
+    all: &[Gone],
+) -> Result<(), AllocError>
+    ensures { OnOk result (members_view map.new.entries
+        ≡ with_member (codes "gone") (all_gone lists.now all.now) (members_view map.old.entries)) }
 {
     let mut items = Vec::with_capacity(alloc, all.len())?;
     for gone in all {
         items.push(gone_value(alloc, lists, gone)?)?;
     }
-    Ok(Value::from(items))
+    serde_json::put(map, alloc, "gone", Value::from(items))
 }
 
 fn put_after_gone(
@@ -165,17 +180,12 @@ fn put_after_gone(
     requires { members_view map.old.entries ≡ no_members }
     ensures { OnOk result (members_view map.new.entries ≡ members_after_gone con.now seen.now) }
 {
-    serde_json::put(map, alloc, "votes", long_whole_values(alloc, &seen.votes)?)?;
-    put_number(map, alloc, "stations", seen.stations)?;
-    serde_json::put(map, alloc, "spoiled", Value::from(seen.spoiled))?;
-    serde_json::put(map, alloc, "seats", whole_values(alloc, &seen.seats)?)?;
+    put_long_numbers(map, alloc, "votes", &seen.votes)?;
+    put_number(map, alloc, "stations", u64::from(seen.stations))?;
+    put_number(map, alloc, "spoiled", seen.spoiled)?;
+    put_numbers(map, alloc, "seats", &seen.seats)?;
     put_text(map, alloc, "note", &seen.note)?;
-    serde_json::put(
-        map,
-        alloc,
-        "lot",
-        codes_at_places(alloc, &con.lists, &seen.lot)?,
-    )
+    put_codes(map, alloc, "lot", &con.lists, &seen.lot)
 }
 
 fn put_con(
@@ -189,12 +199,12 @@ fn put_con(
         ≡ con_members con.now seen.now (with_entry Single)) }
 {
     put_after_gone(map, alloc, con, seen)?;
-    serde_json::put(map, alloc, "gone", all_gone(alloc, &con.lists, &seen.gone)?)?;
-    put_number(map, alloc, "edition", seen.edition)?;
+    put_gone(map, alloc, &con.lists, &seen.gone)?;
+    put_number(map, alloc, "edition", u64::from(seen.edition))?;
     put_text(map, alloc, "con", con.code.as_str())?;
-    put_number(map, alloc, "closed", seen.closed)?;
+    put_number(map, alloc, "closed", u64::from(seen.closed))?;
     serde_json::put(map, alloc, "certified", Value::from(seen.certified))?;
-    serde_json::put(map, alloc, "blank", Value::from(seen.blank))
+    put_number(map, alloc, "blank", seen.blank)
 }
 
 // This one comes last, so that the others are the same where it is missing.
@@ -213,19 +223,13 @@ fn put_entry(
     }
 }
 
-fn con_value(alloc: Global, con: &Constituency, seen: &ConView) -> Result<Value, AllocError>
-    ensures { IfOk result (λ value. view value ≡ shown_con con.now seen.now) }
-{
-    let mut map = Map::new(alloc);
-    put_con(&mut map, alloc, con, seen)?;
-    put_entry(&mut map, alloc, con, seen)?;
-    Ok(Value::Object(map))
-}
-
 /// The JSON of a constituency as it is seen.
 pub fn con_text(alloc: Global, con: &Constituency, seen: &ConView) -> Result<String, AllocError>
     ensures { IfOk result (λ text.
         string_bytes text ≡ compact_text (shown_con con.now seen.now)) }
 {
-    con_value(alloc, con, seen)?.to_string(alloc)
+    let mut map = Map::new(alloc);
+    put_con(&mut map, alloc, con, seen)?;
+    put_entry(&mut map, alloc, con, seen)?;
+    Value::Object(map).to_string(alloc)
 }

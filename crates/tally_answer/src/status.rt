@@ -6,7 +6,7 @@ ghost use Rattle.tally_answer.specs.Answer.{http_status, phrase, allow_line, typ
 use http::StatusCode;
 
 /// The statuses that are answered (RFC 9110, section 15).
-#[derive(Clone, Copy, Debug, PartialEq, Eq)]
+#[derive(Clone, Copy)]
 pub enum AnswerStatus {
     /// 200
     Done,
@@ -27,7 +27,7 @@ pub enum AnswerStatus {
 }
 
 /// What a body is.
-#[derive(Clone, Copy, Debug, PartialEq, Eq)]
+#[derive(Clone, Copy)]
 pub enum BodyType {
     Json,
     /// Plain text in UTF-8.

@@ -11,7 +11,7 @@ use crate::status::{AnswerStatus, BodyType};
 pub const WORD_ROOM: usize = 320;
 
 /// What is answered in place of a reply, a refusal or what is shown.
-#[derive(Clone, Copy, Debug, PartialEq, Eq)]
+#[derive(Clone, Copy)]
 pub enum Word {
     /// The bytes begin with no head.
     BadHead,

@@ -2,7 +2,7 @@
 
 ghost use Rattle.std.specs.Prelude.{◌≡◌, ◌≤◌, length};
 ghost use Rattle.tally_frac.specs.Limits.{most_lists};
-ghost use Rattle.tally_statements.specs.Office.{Inserts, SetsItem};
+ghost use Rattle.tally_statements.specs.Office.{Inserts};
 ghost use Rattle.tally_statements.specs.declared.table.KeyedTable.TheVariants.{Cons, Lots, Seats};
 ghost use Rattle.tally_statements.specs.declared.table.KeyedTable.TheVariants.{Totals};
 ghost use Rattle.tally_statements.specs.declared.table.KeyedTable.TheVariants as table;
@@ -13,7 +13,7 @@ ghost use Rattle.tally_entries.specs.internal.Constituencies.{HasRecord, HasEdit
 ghost use Rattle.tally_entries.specs.internal.Constituencies.{WritesSeats};
 ghost use Rattle.tally_entries.specs.internal.Written.{candidate_row};
 ghost use Rattle.tally_entries.specs.internal.Entries.{PutsNumbers};
-ghost use Rattle.tally_entries.specs.internal.Sums.{MovesItem, MovesItems, MovesNumbers};
+ghost use Rattle.tally_entries.specs.internal.Sums.{MovesItem, MovesNumbers};
 ghost use Rattle.tally_statements.specs.internal.Inside.{InDatabase, Stays};
 
 use sqlite::{Alter, Error, ErrorCode, Transaction};
@@ -107,24 +107,8 @@ pub fn put_record<S: Alter>(
     insert_past(tx, con, past.edition, past.seats.as_slice())
 }
 
-/// Sets the sum of an item of a constituency, if the database can hold it.
-fn update_sum<S: Alter>(
-    tx: &mut Transaction<'_, S>,
-    con: &str,
-    item: u32,
-    n: u64,
-) -> Result<(), Error>
-    ensures stays { Stays S.Store tx.old tx.new }
-    ensures updated { InDatabase S.Store (SetsItem Totals con.now item n) tx.old tx.new result }
-{
-    let Ok(n) = i64::try_from(n) else {
-        return Err(Error::SqliteFailure(ErrorCode::TooBig));
-    };
-    update_total(tx, con, item, n)
-}
-
-/// Sets the sum of an item that is moved by a number. One that is moved by 0 is as it was, and is
-/// not written.
+/// Sets the sum of an item that is moved by a number, if the database can hold it. One that is
+/// moved by 0 is as it was, and is not written.
 fn move_sum<S: Alter>(
     tx: &mut Transaction<'_, S>,
     con: &str,
@@ -138,7 +122,10 @@ fn move_sum<S: Alter>(
     if by == 0 {
         return Ok(());
     }
-    update_sum(tx, con, item, n)
+    let Ok(n) = i64::try_from(n) else {
+        return Err(Error::SqliteFailure(ErrorCode::TooBig));
+    };
+    update_total(tx, con, item, n)
 }
 
 /// Sets the sums of the lists of a constituency that are moved by these numbers, one by one.
@@ -162,24 +149,6 @@ fn move_list_sums<S: Alter>(
     Ok(())
 }
 
-/// Sets the sums of a constituency that are moved by these counts, number by number.
-fn move_sums<S: Alter>(
-    tx: &mut Transaction<'_, S>,
-    con: &str,
-    by: &Counts,
-    sums: &Sums,
-) -> Result<(), Error>
-    requires few { length sums.now.votes ≤ most_lists }
-    requires lists { length by.now.votes ≡ length sums.now.votes }
-    ensures stays { Stays S.Store tx.old tx.new }
-    ensures moved { InDatabase S.Store
-        (MovesItems Totals con.now by.now sums.now) tx.old tx.new result }
-{
-    move_sum(tx, con, 0, by.blank, sums.blank)?;
-    move_list_sums(tx, con, by.votes.as_slice(), sums.votes.as_slice())?;
-    move_sum(tx, con, SPOILED_ITEM, by.spoiled, sums.spoiled)
-}
-
 /// Writes the sums of a constituency in place of sums from which they differ by these counts. What
 /// a count of 0 does not move is not written.
 pub fn put_sums<S: Alter>(
@@ -194,5 +163,7 @@ pub fn put_sums<S: Alter>(
     ensures written { InDatabase S.Store
         (ChangesSums con.now by.now sums.now) tx.old tx.new result }
 {
-    move_sums(tx, con, by, sums)
+    move_sum(tx, con, 0, by.blank, sums.blank)?;
+    move_list_sums(tx, con, by.votes.as_slice(), sums.votes.as_slice())?;
+    move_sum(tx, con, SPOILED_ITEM, by.spoiled, sums.spoiled)
 }

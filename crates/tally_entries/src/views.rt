@@ -14,7 +14,7 @@ ghost use Rattle.tally_entries.specs.internal.Entries.{ChangesNothing, Finds, Fi
 ghost use Rattle.tally_entries.specs.internal.Found.{AreRowsFound, AreWithin, FindsKnownStatuses};
 ghost use Rattle.tally_entries.specs.internal.Found.{IsFoundIf};
 ghost use Rattle.tally_entries.specs.internal.Found.{FindsStatus, FindsStatuses, IsStageAmong};
-ghost use Rattle.tally_entries.specs.internal.Found.{certified_in, row_with, status_in};
+ghost use Rattle.tally_entries.specs.internal.Found.{certified_in, status_in};
 ghost use Rattle.tally_entries.specs.internal.Found.{view_of_rows, with_station};
 ghost use Rattle.tally_statements.specs.internal.Inside.{IsOpenInside, OnlyReads, StaysFrom};
 
@@ -23,7 +23,7 @@ use std::alloc::Global;
 use std::marker::Model;
 use tally_returns::{ConView, ProgressRow, Status};
 use tally_schema::{number_at, text_at};
-use tally_setup::{Code, Constituency, Setup, Station};
+use tally_setup::{Constituency, Setup, Station};
 use tally_statements::{KeyedTable, all_rows, rows_of_key};
 use tally_tables::{ConTables, Statuses, Sums, standing_in, status_of, sums_in, view_from_tables};
 
@@ -255,14 +255,16 @@ fn find_known<S: Alter>(
     }
 }
 
-/// What is seen of the constituency whose rows these are. Other rows are an error.
-fn view_of_rows(
+/// What is seen of the constituency whose rows these are. Other rows are an error, and so are rows
+/// that do not have the shape of a view of the constituency.
+fn fitting_view(
     alloc: Global,
     con: &Constituency,
     statuses: Statuses,
     rows: &ConRows,
 ) -> Result<ConView, Error>
-    ensures { IfOk result (λ view. view_of_rows con.now statuses rows.now ≡ Some view) }
+    ensures fits { IfOk result (λ view. FitsView con.now view) }
+    ensures read { IfOk result (λ view. view_of_rows con.now statuses rows.now ≡ Some view) }
 {
     if rows.cons.len() != 1 {
         return Err(Error::SqliteFailure(ErrorCode::DatabaseCorrupt));
@@ -275,27 +277,14 @@ fn view_of_rows(
         past: &rows.past,
     };
     match view_from_tables(alloc, con, statuses, &rows.cons[0], tables) {
-        Ok(Some(view)) => Ok(view),
+        Ok(Some(view)) => {
+            if !view.fits(con) {
+                return Err(Error::SqliteFailure(ErrorCode::DatabaseCorrupt));
+            }
+            Ok(view)
+        }
         Ok(None) => Err(Error::SqliteFailure(ErrorCode::DatabaseCorrupt)),
         Err(_) => Err(Error::SqliteFailure(ErrorCode::OutOfMemory)),
-    }
-}
-
-/// The same, of the shape of a view of the constituency. Rows of another shape are an error.
-fn fitting_view(
-    alloc: Global,
-    con: &Constituency,
-    statuses: Statuses,
-    rows: &ConRows,
-) -> Result<ConView, Error>
-    ensures fits { IfOk result (λ view. FitsView con.now view) }
-    ensures read { IfOk result (λ view. view_of_rows con.now statuses rows.now ≡ Some view) }
-{
-    let view = view_of_rows(alloc, con, statuses, rows)?;
-    if view.fits(con) {
-        Ok(view)
-    } else {
-        Err(Error::SqliteFailure(ErrorCode::DatabaseCorrupt))
     }
 }
 
@@ -352,21 +341,6 @@ fn stage_among(rows: &[Row], con: &str) -> Result<(u32, bool), Error>
     Err(Error::SqliteFailure(ErrorCode::DatabaseCorrupt))
 }
 
-fn row_with(con: Code, stage: (u32, bool), statuses: Statuses) -> ProgressRow
-    ensures { result ≡ row_with con stage statuses }
-{
-    ProgressRow {
-        con,
-        stations: statuses.stations,
-        received: statuses.received,
-        queried: statuses.queried,
-        corrected: statuses.corrected,
-        closed: statuses.closed,
-        edition: stage.0,
-        certified: stage.1,
-    }
-}
-
 /// How far a constituency has come: its row among those of `cons`, and how many returns are in each
 /// status. Where these numbers are not known, each return is looked up by its station.
 pub fn find_progress_row<S: Alter>(
@@ -380,7 +354,16 @@ pub fn find_progress_row<S: Alter>(
         tx.old tx.new result }
     ensures same { ChangesNothing S.Store tx.old tx.new result }
 {
-    let stage = stage_among(cons, con.code.as_str())?;
+    let (edition, certified) = stage_among(cons, con.code.as_str())?;
     let statuses = find_known(tx, con, known)?;
-    Ok(row_with(con.code, stage, statuses))
+    Ok(ProgressRow {
+        con: con.code,
+        stations: statuses.stations,
+        received: statuses.received,
+        queried: statuses.queried,
+        corrected: statuses.corrected,
+        closed: statuses.closed,
+        edition,
+        certified,
+    })
 }

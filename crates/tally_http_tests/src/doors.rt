@@ -111,13 +111,21 @@ fn client_of(rt: &HostRuntime, is_ended: bool) -> Result<(TcpListener, TcpStream
     Ok((listener, client))
 }
 
+// A door that failed is the failure of a test.
+fn passed(done: Result<(), DoorFault>) -> Result<(), Fail> {
+    match done {
+        Ok(()) => Ok(()),
+        Err(DoorFault::Failed) => Err(Fail::from("the door failed")),
+    }
+}
+
 // What such a client reads.
 fn answer_to(rt: &HostRuntime, is_timed: bool, is_ended: bool) -> Result<String, Fail> {
     let (listener, mut client) = client_of(rt, is_ended)?;
     if is_timed {
-        answer(TcpDoor::timed(listener, rt))?;
+        passed(answer(TcpDoor::timed(listener, rt)))?;
     } else {
-        answer(TcpDoor::new(listener))?;
+        passed(answer(TcpDoor::new(listener)))?;
     }
     let mut text = Vec::new(rt.alloc());
     client.read_to_end(&mut text)?;
@@ -162,8 +170,7 @@ fn by_leaps(listener: TcpListener) -> TcpDoor<Leaping> {
 #[test]
 fn writes_have_a_time_of_their_own(rt: HostRuntime) -> Result<(), Fail> {
     let (listener, _client) = client_of(&rt, true)?;
-    answer(by_leaps(listener))?;
-    Ok(())
+    passed(answer(by_leaps(listener)))
 }
 
 // What two reads of the next connection give, and whether it takes a text twice.
@@ -201,7 +208,7 @@ fn listen<D: Door + Drop>(mut door: D) -> Result<(), DoorFault> {
 fn a_silent_client_that_has_no_answer_is_not_waited_for(rt: HostRuntime) -> Result<(), Fail> {
     let (listener, _client) = client_of(&rt, false)?;
     let begun = Instant::now(&rt)?;
-    listen(TcpDoor::new(listener))?;
+    passed(listen(TcpDoor::new(listener)))?;
     assert!(rt; begun.elapsed(&rt)? < Duration::from_millis(1_900));
     Ok(())
 }

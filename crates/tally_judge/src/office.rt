@@ -40,16 +40,16 @@ pub struct OfficeRows<'a> {
 pub fn accept_rows(
     alloc: Global,
     setup: Setup,
-    rows: OfficeRows<'_>,
+    rows: &OfficeRows<'_>,
     known: &mut BTreeMap<Code, Statuses>,
 ) -> Result<Option<Setup>, AllocError>
     ensures passed { IfOk result (λ found.
-        OnSome found (AreRowsOfOneState setup (rows_in_order rows.entry))) }
+        OnSome found (AreRowsOfOneState setup (rows_in_order rows.now))) }
     ensures must_pass { IfOk result (λ found.
-        AreLawfulRows setup (rows_in_order rows.entry) → IsSome found) }
+        AreLawfulRows setup (rows_in_order rows.now) → IsSome found) }
     ensures setup { IfOk result (λ found. IfSome found (λ again. again ≡ setup)) }
     ensures numbers { IfOk result (λ found.
-        OnSome found (HasNumbersOfRows setup (rows_in_order rows.entry) (numbers_of known.new))) }
+        OnSome found (HasNumbersOfRows setup (rows_in_order rows.now) (numbers_of known.new))) }
 {
     // Called for what its contract says: the setup is within its limits.
     let _cons = setup.cons();
@@ -58,10 +58,8 @@ pub fn accept_rows(
     let Some(ledger) = ledger_of_rows(alloc, setup, rows.returns, rows.counts)? else {
         return Ok(None);
     };
-    if !accept_cons(alloc, &ledger, rows.cons, rows.tables, known)? {
-        return Ok(None);
-    }
-    Ok(Some(ledger.into_setup()))
+    let lawful = accept_cons(alloc, &ledger, rows.cons, rows.tables, known)?;
+    Ok(lawful.then_some(ledger.into_setup()))
 }
 
 /// A ledger with the returns whose rows these are, where they are in the order of their stations

@@ -4,17 +4,17 @@ ghost use Rattle.std.specs.Prelude.{◌≡◌, ◌≤◌, IfOk, IfErr, Some, tru
 ghost use Rattle.std.specs.Prelude.{option_map, string_bytes};
 ghost use Rattle.std.specs.Result.{IsOkAnd};
 ghost use Rattle.clap.specs.Words.{AddsSubcommand, app_of, first_of, kind_of, new_app};
-ghost use Rattle.clap.specs.Words.{with_subcommand};
 ghost use Rattle.clap.specs.declared.error.ErrorKind.TheVariants.{InvalidValue};
 ghost use Rattle.tally_line.specs.Line.{GivesLine, IsRefusal, IsLineWithinLimits, bare_office_app};
 ghost use Rattle.tally_line.specs.Line.{check_app, flag_rule, import_app, import_line, is_set};
 ghost use Rattle.tally_line.specs.Line.{line_of, line_of_command, new_line, new_office_app};
 ghost use Rattle.tally_line.specs.Line.{number_given, number_rule, office_app, sep_given};
 ghost use Rattle.tally_line.specs.Line.{serve_app, serve_line, show_app, show_line};
-ghost use Rattle.tally_line.specs.Line.{value_rule, wanted_rule, with_commands};
+ghost use Rattle.tally_line.specs.Line.{value_rule, wanted_rule};
 ghost use Rattle.tally_line.specs.internal.Arguments.{IsCommandFault, IsShowFault, given_rows, has};
 ghost use Rattle.tally_line.specs.internal.Arguments.{has_arguments, has_count, has_port};
 ghost use Rattle.tally_line.specs.internal.Commands.{HasRule, Offers, OffersAll};
+ghost use Rattle.tally_line.specs.internal.Commands.{with_import_show_and_serve};
 
 use crate::help;
 use clap::builder::ValueParser;
@@ -312,8 +312,7 @@ fn with_import_show_and_serve<'a>(
     alloc: Global,
     office: Command<'a>,
 ) -> Result<Command<'a>, AllocError>
-    ensures { IfOk result (λ c. app_of c ≡
-        with_subcommand (with_commands (app_of office.entry) import_app show_app) serve_app.top) }
+    ensures { IfOk result (λ c. app_of c ≡ with_import_show_and_serve (app_of office.entry)) }
 {
     let office = with_command(office, import_command(alloc))?;
     let office = with_command(office, show_command(alloc))?;

@@ -5,7 +5,7 @@ ghost use Rattle.tally_message.specs.Connection.{Connections, ChangesCurrent, Ha
 ghost use Rattle.tally_message.specs.Connection.{TakesNext};
 
 /// Why a door, a read or a write failed.
-#[derive(Clone, Copy, Debug, PartialEq, Eq)]
+#[derive(Clone, Copy)]
 pub enum DoorFault {
     Failed,
 }

@@ -14,7 +14,7 @@ pub struct Message {
 }
 
 /// Why no message was read.
-#[derive(Clone, Copy, Debug, PartialEq, Eq)]
+#[derive(Clone, Copy, Debug)]
 pub enum MessageFault {
     /// The bytes begin with no head.
     BadHead,

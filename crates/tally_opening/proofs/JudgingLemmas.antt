@@ -1,6 +1,6 @@
 -- From what queries answered of the tables to the judgement of them.
-use Rattle.std.proofs.Common.{◌≡◌, ◌∙◌, List, ℕ, Option, None, Some, Result, Ok, Err, OnOk, refl, sym, ap, subst, arith}
-use Rattle.std.specs.Prelude.{OnSome}
+use Rattle.std.proofs.Common.{◌≡◌, ◌∙◌, List, ℕ, Result, Ok, Err, OnOk, inr, refl, sym, ap, subst, arith}
+use Rattle.std.specs.Prelude.{IfOk}
 use Rattle.std.specs.BTreeMap.{BTreeMap}
 use Rattle.std.specs.List.Sorted.{IsPermutation}
 use Rattle.sqlite_value.specs.Order.{Row}
@@ -22,7 +22,8 @@ use Rattle.tally_statements.specs.declared.table.KeyedTable.TheVariants.{Returns
 use Rattle.tally_statements.specs.internal.Inside.{OnlyReadsFrom}
 use Rattle.tally_statements.proofs.StaysLemmas.{stays-then}
 use Rattle.tally_statements.specs.Office.{HasTables, ShowsTable, rows_in, tree_of}
-use Rattle.tally_opening.specs.internal.Opening.{AreTablesOfNone, CountsTables, IsJudged, ShowsOffice, trees_with}
+use Rattle.tally_opening.specs.internal.Opening.{AreTablesOfNone, CountsTables, HasSetupRow, IsJudged, IsJudgedFault, IsUnlawful, ShowsOffice, trees_with}
+use Rattle.tally_keeper.specs.declared.fault.OpenFault.{OpenFault}
 use Rattle.tally_opening.proofs.JudgedLemmas.{accepted, refused}
 use Rattle.tally_opening.proofs.TableLemmas.{rows_of_tables}
 
@@ -94,9 +95,16 @@ judged setup seen rows limits shown one text = accepted setup text (with_setup t
 pub judged_none : (setup : List Constituency) (seen : Seen) (rows : RowsInOrder) → IsSetup setup → ShowsOffice seen rows → (AreLawfulRows setup rows → ⊥) → AreTablesOfNone setup seen.now
 judged_none setup seen rows limits shown none text = refused setup (with_setup text seen) rows limits (office_with text seen rows shown) none text
 
-pub on_some : {X P Q : Type 0} (found : Option X) → (P → Q) → OnSome found P → OnSome found Q
-on_some None f h = tt
-on_some (Some x) f h = f h
+-- what is so of a setup is so of the one that is given back
+pub so_again : {P E : Type 0} (r : Result (Result (List Constituency) OpenFault) E) (setup : List Constituency) (Q : List Constituency → Type 0) → IfOk r (λ answer. IfOk answer (λ again. again ≡ setup)) → (P → Q setup)
+    → IfOk r (λ answer. OnOk answer P) → IfOk r (λ answer. IfOk answer Q)
+so_again (Ok (Ok again)) setup Q is so p = subst Q (sym is) (so p)
+so_again (Ok (Err fault)) setup Q is so p = tt
+so_again (Err e) setup Q is so p = tt
+
+-- tables of no lawful state over the setup that is stored
+pub unlawful_stored : (number : ℕ) (setup : List Constituency) (old mid : Database) (fault : OpenFault) → mid ≡ old → HasSetupRow number setup old → IsUnlawful setup mid fault → IsJudgedFault number old fault
+unlawful_stored number setup old mid fault same stored why = subst (IsJudgedFault number old) (sym why.0) (inr (setup, stored, subst (AreTablesOfNone setup) same why.1))
 
 -- numbers of rows are those of the tables that answered them
 pub numbers_judged : (setup : List Constituency) (seen : Seen) (rows : RowsInOrder) (known : BTreeMap (List ℕ) Statuses) → IsSetup setup → ShowsOffice seen rows → HasNumbersOfRows setup rows (numbers_of known) → CountsTables known setup seen.now

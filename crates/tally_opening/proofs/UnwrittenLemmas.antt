@@ -1,5 +1,5 @@
--- An opening that wrote nothing.
-use Rattle.std.proofs.Common.{◌≡◌, true, false, ◌∙◌, inl, inr, IsTrue, OnErr, OnOk, Result, Ok, Err, sym, ap, refl, arith}
+-- A call that wrote nothing.
+use Rattle.std.proofs.Common.{◌≡◌, Bool, true, false, not, ◌∙◌, inl, inr, IsTrue, OnErr, OnOk, Result, Ok, Err, sym, ap, refl, arith}
 use Rattle.std.specs.Prelude.{IfOk}
 use Rattle.sqlite.specs.Effect.{Database, IsDatabase}
 use Rattle.sqlite.specs.State.{State as Seen, HasCleanDisk, IsRolledBack, IsUnchanged, KeepsCommit, KeepsCounts, Survives}
@@ -17,6 +17,10 @@ use Rattle.tally_opening.proofs.ReturnLemmas.{Began, clean_first, has_begun, rol
 abbrev pub LeavesCommit : Seen → Type 0
 LeavesCommit seen = (db : Trees) → IsTrue seen.is_open → seen.may_leave db → db ≡ seen.committed.trees
 
+-- all that is there was committed, on a connection in no transaction
+pub settled_outside : (seen : Seen) (commits : Bool) → commits ≡ not seen.in_transaction → (IsTrue commits → IsSettled seen) → seen.in_transaction ≡ false → IsSettled seen
+settled_outside seen commits is so outside = so (is ∙ ap not outside)
+
 -- a call that committed nothing, and left what it found
 pub unwritten_by : (old new : Seen) → LeavesCommit old → IsSettled old → Survives old new (λ _. ⊥) → (HasCleanDisk new → IsTrue new.is_open → IsAsBefore old new) → IsUnwritten old new
 unwritten_by old new law settled survives same = record {
@@ -28,19 +32,26 @@ unwritten_by old new law settled survives same = record {
   same = same;
 }
 
+pub on_err : {X E P : Type 0} (r : Result X E) → P → OnErr r P
+on_err (Ok x) p = tt
+on_err (Err e) p = p
+
 -- a database that was not touched
+still : (seen : Seen) (Leaves : Trees → Type 0) → Survives seen seen Leaves
+still seen Leaves = record {
+  clean = omega arith;
+  shield = λ shielded. shielded;
+  counts = omega arith;
+  limit = refl;
+  closes = λ _ now. inl now;
+  crash = λ _ db may. inl may;
+}
+
 pub untouched : (seen : Seen) → LeavesCommit seen → IsSettled seen → IsUnwritten seen seen
-untouched seen law settled = unwritten_by seen seen law settled still (λ _ _. record { now = refl; committed = refl })
-  where
-    still : Survives seen seen (λ _. ⊥)
-    still = record {
-      clean = omega arith;
-      shield = λ shielded. shielded;
-      counts = omega arith;
-      limit = refl;
-      closes = λ _ now. inl now;
-      crash = λ _ db may. inl may;
-    }
+untouched seen law settled = unwritten_by seen seen law settled (still seen (λ _. ⊥)) (λ _ _. record { now = refl; committed = refl })
+
+pub ends_untouched : {X E : Type 0} (Leaves : Trees → Type 0) (r : Result X E) (seen : Seen) → seen.in_transaction ≡ false → IsWholeOrNothing Leaves r seen seen
+ends_untouched Leaves r seen outside = record { ended = outside; same = λ _ _. on_err r (record { now = refl; committed = refl }); crash = still seen Leaves }
 
 -- reads that were answered, and a rollback
 pub counts_after : (old last new : Seen) → IsUnchanged old last → IsRolledBack last new → KeepsCounts old new
@@ -53,10 +64,6 @@ counts_after old last new same undone = record {
 pub counts_nothing : {X E : Type 0} (r : Result X E) (old new : Seen) → (HasCleanDisk new → IfOk r (λ _. KeepsCounts old new)) → OnOk r (CountsNothing old new)
 counts_nothing (Ok x) old new ensured = λ _ clean. ensured clean
 counts_nothing (Err e) old new ensured = tt
-
-pub on_err : {X E P : Type 0} (r : Result X E) → P → OnErr r P
-on_err (Ok x) p = tt
-on_err (Err e) p = p
 
 -- a call that wrote nothing is whole or nothing
 pub ends_whole : {X E : Type 0} (Leaves : Trees → Type 0) (r : Result X E) (old new : Seen) → EndsUnchanged old new → IsWholeOrNothing Leaves r old new

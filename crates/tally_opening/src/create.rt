@@ -75,10 +75,9 @@ fn check_unset<S: Alter>(conn: &Connection<S>) -> Result<(), CreateFault>
     if takes_office_name(conn.schema()) {
         return Err(CreateFault::NotEmpty);
     }
-    // Called for what its contract says: all that is there was committed. Autocommit is required.
-    if !conn.is_autocommit() {
-        return Err(CreateFault::Store);
-    }
+    // Called for what its contract says: in no transaction, what an open connection has was
+    // committed.
+    let _settled = conn.is_autocommit();
     if !is_unset(conn.schema()) {
         return Err(CreateFault::Store);
     }

@@ -1,18 +1,20 @@
 //! Whether the tables of an office are those of a lawful state.
 
-ghost use Rattle.std.specs.Prelude.{◌≡◌, IfOk, IfSome, IsSome, OnSome};
+ghost use Rattle.std.specs.Prelude.{◌≡◌, IfErr, IfOk, OnOk};
 ghost use Rattle.tally_judge.specs.Numbers.{HasNumbersOfRows, numbers_of};
-ghost use Rattle.tally_judge.specs.OfficeRows.{AreLawfulRows, AreRowsOfOneState};
+ghost use Rattle.tally_judge.specs.OfficeRows.{AreLawfulRows, AreRowsOfOneState, rows_in_order};
+ghost use Rattle.tally_keeper.specs.declared.fault.OpenFault.TheVariants.{BadTables};
 ghost use Rattle.tally_statements.specs.internal.Inside.{OnlyReadsFrom};
 ghost use Rattle.tally_statements.specs.Office.{HasTables, ShowsTable};
-ghost use Rattle.tally_opening.specs.internal.Opening.{AreTablesOfNone, CountsTables, IsJudged};
-ghost use Rattle.tally_opening.specs.internal.Opening.{Sees, ShowsOffice, WhereNone, WhereSome};
-ghost use Rattle.tally_opening.specs.internal.Opening.{rows_found};
+ghost use Rattle.tally_opening.specs.Calls.{Accepts, Rejects};
+ghost use Rattle.tally_opening.specs.internal.Opening.{CountsTables, IsJudged, IsUnlawful, Sees};
+ghost use Rattle.tally_opening.specs.internal.Opening.{ShowsOffice, rows_found};
 
 use sqlite::{Alter, Error, ErrorCode, Row, Transaction};
 use std::alloc::Global;
 use std::collections::BTreeMap;
 use tally_judge::{OfficeRows, accept_rows};
+use tally_keeper::OpenFault;
 use tally_setup::{Code, Setup};
 use tally_statements::{KeyedTable, all_rows};
 use tally_tables::{ConTables, Statuses};
@@ -68,53 +70,62 @@ fn read_rows<S: Alter>(tx: &mut Transaction<'_, S>) -> Result<FoundRows, Error>
     })
 }
 
-/// The setup again, where the rows are those of a lawful state over it. The numbers of its returns
-/// are put into a tree.
+impl FoundRows {
+    /// The same rows, lent.
+    fn lent(&self) -> OfficeRows<'_>
+        ensures { rows_in_order result ≡ rows_found self.now }
+    {
+        OfficeRows {
+            returns: &self.returns,
+            counts: &self.counts,
+            cons: &self.cons,
+            tables: ConTables {
+                lots: &self.lots,
+                seats: &self.seats,
+                gone: &self.gone,
+                totals: &self.totals,
+                past: &self.past,
+            },
+        }
+    }
+}
+
+/// The setup again, where the rows are those of a lawful state over it, and `BadTables` where they
+/// are those of none. The numbers of its returns are put into a tree.
 fn accept(
     alloc: Global,
     setup: Setup,
     rows: &FoundRows,
     known: &mut BTreeMap<Code, Statuses>,
-) -> Result<Option<Setup>, Error>
-    ensures passed { IfOk result (λ found.
-        OnSome found (AreRowsOfOneState setup (rows_found rows.now))) }
-    ensures must_pass { IfOk result (λ found.
-        AreLawfulRows setup (rows_found rows.now) → IsSome found) }
-    ensures setup { IfOk result (λ found. IfSome found (λ again. again ≡ setup)) }
-    ensures numbers { IfOk result (λ found.
-        OnSome found (HasNumbersOfRows setup (rows_found rows.now) (numbers_of known.new))) }
+) -> Result<Result<Setup, OpenFault>, Error>
+    ensures passed { IfOk result (λ answer.
+        OnOk answer (AreRowsOfOneState setup (rows_found rows.now))) }
+    ensures refused { IfOk result (λ answer. IfErr answer (λ fault.
+        (fault ≡ BadTables) × (AreLawfulRows setup (rows_found rows.now) → ⊥))) }
+    ensures setup { IfOk result (λ answer. IfOk answer (λ again. again ≡ setup)) }
+    ensures numbers { IfOk result (λ answer.
+        OnOk answer (HasNumbersOfRows setup (rows_found rows.now) (numbers_of known.new))) }
 {
-    let rows = OfficeRows {
-        returns: &rows.returns,
-        counts: &rows.counts,
-        cons: &rows.cons,
-        tables: ConTables {
-            lots: &rows.lots,
-            seats: &rows.seats,
-            gone: &rows.gone,
-            totals: &rows.totals,
-            past: &rows.past,
-        },
-    };
-    match accept_rows(alloc, setup, rows, known) {
-        Ok(found) => Ok(found),
+    match accept_rows(alloc, setup, &rows.lent(), known) {
+        Ok(Some(setup)) => Ok(Ok(setup)),
+        Ok(None) => Ok(Err(OpenFault::BadTables)),
         Err(_) => Err(Error::SqliteFailure(ErrorCode::OutOfMemory)),
     }
 }
 
-/// The setup again, where the tables are those of a lawful state over it, and `None` where they are
-/// those of no lawful state. The numbers of its returns are put into a tree.
+/// The setup again, where the tables are those of a lawful state over it, and `BadTables` where
+/// they are those of none. The numbers of its returns are put into a tree.
 pub(crate) fn judge_office<S: Alter>(
     alloc: Global,
     tx: &mut Transaction<'_, S>,
     setup: Setup,
     known: &mut BTreeMap<Code, Statuses>,
-) -> Result<Option<Setup>, Error>
+) -> Result<Result<Setup, OpenFault>, Error>
     ensures reads { OnlyReadsFrom HasTables S.Store tx.old tx.new result }
-    ensures accepted { Sees S.Store (WhereSome (IsJudged setup)) tx.old tx.new result }
-    ensures refused { Sees S.Store (WhereNone (AreTablesOfNone setup)) tx.old tx.new result }
-    ensures setup { IfOk result (λ found. IfSome found (λ again. again ≡ setup)) }
-    ensures numbers { Sees S.Store (WhereSome (CountsTables known.new setup)) tx.old tx.new result }
+    ensures judged { Sees S.Store (Accepts IsJudged) tx.old tx.new result }
+    ensures refused { Sees S.Store (Rejects (IsUnlawful setup)) tx.old tx.new result }
+    ensures setup { IfOk result (λ answer. IfOk answer (λ again. again ≡ setup)) }
+    ensures numbers { Sees S.Store (Accepts (CountsTables known.new)) tx.old tx.new result }
 {
     let rows = read_rows(tx)?;
     accept(alloc, setup, &rows, known)

@@ -59,10 +59,9 @@ fn open_with_rowids<S: Alter>(
     ensures counts { OnOk result (CountsNothing (state S.Store conn.old) (state S.Store conn.new)) }
     ensures numbers { OnDisk S.Store (Accepts (CountsFound known.new)) conn.old conn.new result }
 {
-    // Called for what its contract says: all that is there was committed. Autocommit is required.
-    if !conn.is_autocommit() {
-        return Err(OpenFault::Store);
-    }
+    // Called for what its contract says: in no transaction, what an open connection has was
+    // committed.
+    let _settled = conn.is_autocommit();
     match is_of_today(alloc, conn.schema()) {
         Ok(true) => open_today(alloc, conn, known),
         Ok(false) => open_former(alloc, conn, known),

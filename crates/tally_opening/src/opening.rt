@@ -107,13 +107,9 @@ pub(crate) fn judge_stored<S: Alter>(
     ensures fault { Sees S.Store (Rejects (IsJudgedFault number)) tx.old tx.new result }
     ensures numbers { Sees S.Store (Accepts (CountsTables known.new)) tx.old tx.new result }
 {
-    let setup = match read_stored(alloc, tx, number)? {
-        Ok(setup) => setup,
-        Err(fault) => return Ok(Err(fault)),
-    };
-    match judge_office(alloc, tx, setup, known)? {
-        Some(setup) => Ok(Ok(setup)),
-        None => Ok(Err(OpenFault::BadTables)),
+    match read_stored(alloc, tx, number)? {
+        Ok(setup) => judge_office(alloc, tx, setup, known),
+        Err(fault) => Ok(Err(fault)),
     }
 }
 

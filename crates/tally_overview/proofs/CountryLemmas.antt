@@ -52,10 +52,10 @@ all-taken setup codes i are within =
 -- ---- one view more
 
 -- a keeper that has stayed shows it as it would have at first
-pub at-first : (setup now : List Constituency) (first before after : Option State) (code : List ℕ) (r : Result View Refusal) → now ≡ setup → before ≡ first
-    → AnswersShowCon now before code r after → AnswersShowCon setup first code r after
-at-first setup now first before after code r setup_is before_is is =
-    subst (λ s. AnswersShowCon s first code r after) setup_is (subst (λ b. AnswersShowCon now b code r after) before_is is)
+pub at-first : (setup now : List Constituency) (first before after : Option State) (code : List ℕ) (shown r : Result View Refusal) → now ≡ setup → before ≡ first → shown ≡ r
+    → AnswersShowCon now before code shown after → AnswersShowCon setup first code r after
+at-first setup now first before after code shown r setup_is before_is is answers =
+    subst (λ x. AnswersShowCon setup first code x after) is (subst (λ s. AnswersShowCon s first code shown after) setup_is (subst (λ b. AnswersShowCon now b code shown after) before_is answers))
 
 -- the views of these constituencies, all shown in this state
 abbrev pub AreViewsOf : List Constituency → Option State → List Constituency → List View → Type 0
@@ -94,6 +94,10 @@ refused setup (Some s) (Some t) code found why is (inr (none, kept)) = (own why 
 refused setup (Some s) None code found why is none = (own why none, inr refl)
 refused setup None (Some t) code found why is h = absurd h
 refused setup None None code found why is none = (own why none, inl refl)
+
+-- no memory is not a failed database
+pub not-store : (P : Type 0) → Memory ≡ Store → P
+not-store P is = cc
 
 pub all-refused : (setup : List Constituency) (old new : Option State) (i : ℕ) (code : List ℕ) (why : Refusal) → IsSetup setup → At setup i code
     → AnswersShowCon setup old code (Err why) new → ShowsAll setup old (Err why) new

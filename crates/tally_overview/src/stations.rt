@@ -1,7 +1,9 @@
 //! The stations of a constituency, and which are still missing.
 
-ghost use Rattle.std.specs.Prelude.{◌≡◌, ◌++◌, IfOk, IfErr, OnOk, count_by, string_bytes, sum};
+ghost use Rattle.std.specs.Prelude.{◌≡◌, ◌++◌, IfOk, IfErr, OnOk, codes, count_by};
+ghost use Rattle.std.specs.Prelude.{string_bytes, sum};
 ghost use Rattle.std.specs.List.{flat_map};
+ghost use Rattle.std.specs.Option.{option_map_or};
 ghost use Rattle.tally_report.specs.Columns.{number};
 ghost use Rattle.tally_overview.specs.StationsText.{counts_line, is_closed_at, is_missing};
 ghost use Rattle.tally_overview.specs.StationsText.{return_columns, station_line, stations_text};
@@ -80,12 +82,17 @@ fn push_row(text: &mut String, row: &StationRow) -> Result<(), AllocError>
     push_left(text, row.station.as_str(), CODE_WIDTH)?;
     push_number(text, u64::from(row.electors), 8)?;
     text.push_str(" ")?;
+    push_found(text, row)?;
+    text.push_str("\n")
+}
+
+fn push_found(text: &mut String, row: &StationRow) -> Result<(), AllocError>
+    ensures { OnOk result (string_bytes text.new ≡ string_bytes text.old
+        ++ option_map_or return_columns row.now.found (codes "-")) }
+{
     match &row.found {
-        Some(standing) => {
-            push_return(text, standing)?;
-            text.push_str("\n")
-        }
-        None => text.push_str("-\n"),
+        Some(standing) => push_return(text, standing),
+        None => text.push_str("-"),
     }
 }
 

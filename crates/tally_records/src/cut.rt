@@ -7,6 +7,7 @@ ghost use Rattle.tally_records.specs.Separator.{separator};
 ghost use Rattle.tally_records.specs.internal.Pieces.{EndsNoLineAfter, HasNothingAfter};
 ghost use Rattle.tally_records.specs.internal.Pieces.{IsGivenPiece, ends_line, is_line_end};
 ghost use Rattle.tally_records.specs.internal.Pieces.{is_whole, nothing, piece_rows, text_of_piece};
+ghost use Rattle.tally_records.specs.internal.Reading.{IsReading, rows_left};
 ghost use Rattle.tally_records.specs.internal.Text.{bytes_left};
 
 use crate::end::End;
@@ -14,7 +15,7 @@ use crate::fields::field;
 use crate::reading::{next_record, pass_over, records_in};
 use crate::separator::Sep;
 use crate::text::Text;
-use csv::ByteRecord;
+use csv::{ByteRecord, Reader};
 use memchr::memrchr2;
 use std::alloc::{AllocError, Global};
 
@@ -131,11 +132,27 @@ fn is_given(alloc: Global, front: &[u8], sep: Sep, given: usize) -> Result<bool,
     let text = Text::of(alloc, piece_text(alloc, front, sep)?)?;
     let mut reader = records_in(alloc, text, sep)?;
     let mut record = ByteRecord::new(alloc);
-    if !pass_over(&mut reader.reader, &mut record, given)? {
+    has_nothing_after(&mut reader.reader, &mut record, given)
+}
+
+/// Whether after so many records a reader gives only the one that a separator begins after the end
+/// of a line.
+fn has_nothing_after(
+    reader: &mut Reader<Text>,
+    row: &mut ByteRecord,
+    given: usize,
+) -> Result<bool, AllocError>
+    requires { IsReading reader.old }
+    ensures given { IfOk result (λ is. is ≡ true
+        → drop given (rows_left reader.old) ≡ nothing ∷ []) }
+    ensures found { IfOk result (λ is.
+        drop given (rows_left reader.old) ≡ nothing ∷ [] → is ≡ true) }
+{
+    if !pass_over(reader, row, given)? {
         return Ok(false);
     }
-    if !next_record(&mut reader.reader, &mut record)? || !is_nothing(&record) {
+    if !next_record(reader, row)? || !is_nothing(row) {
         return Ok(false);
     }
-    Ok(!next_record(&mut reader.reader, &mut record)?)
+    Ok(!next_record(reader, row)?)
 }

@@ -189,7 +189,7 @@ impl Work {
             if let Some(end) = self.end {
                 return Ok(Some(end));
             }
-            self.read_on(alloc, input, watch)?;
+            *self = self.read_on(alloc, input, watch)?;
         }
         Ok(None)
     }
@@ -216,21 +216,23 @@ impl Work {
         Ok(true)
     }
 
-    // Goes on to the next piece, where one record of this one is left.
+    // The records at work on the next piece, where one record of this one is left. What is held
+    // goes into them, and these are left without it.
     fn read_on<R: Read>(
         &mut self,
         alloc: Global,
         input: &mut R,
         watch: &mut Watch<R>,
-    ) -> Result<(), AllocError>
+    ) -> Result<Work, AllocError>
         requires spent { IsSpent self.old }
         requires more { self.old.end ≡ None }
-        ensures reading { OnOk result (IsWorking self.new) }
-        ensures given { OnOk result (KeepsGiven
-            (R.remaining input.old) (R.remaining input.new) self.old self.new) }
-        ensures goes_on { OnOk result (left_size self.new < left_size self.old) }
-        ensures failed { OnOk result (NotesEnd watch.old watch.new self.new.end) }
-        ensures sep { self.new.sep ≡ self.old.sep }
+        ensures reading { IfOk result IsWorking }
+        ensures given { IfOk result (KeepsGiven
+            (R.remaining input.old) (R.remaining input.new) self.old) }
+        ensures goes_on { IfOk result (λ next. left_size next < left_size self.old) }
+        ensures failed { IfOk result (λ next. NotesEnd watch.old watch.new next.end) }
+        ensures sep { IfOk result (λ next. next.sep ≡ self.old.sep) }
+        ensures kept { self.new.sep ≡ self.old.sep }
     {
         let held = &mut self.held;
         let piece = &held.bytes[..self.piece];
@@ -238,13 +240,11 @@ impl Work {
         if done > 1 {
             held.drop_front(alloc, done)?;
             let held = mem::replace(held, HeldText::new(alloc));
-            *self = Work::read(alloc, held, input, watch, self.sep)?;
-            return Ok(());
+            return Work::read(alloc, held, input, watch, self.sep);
         }
         // The record that goes on is given back, as far as it was read, only when all is read: an
         // allocator may keep room of a size that was given back before, and so the parts.
         let held = mem::replace(held, HeldText::new(alloc));
-        *self = Work::read_all(alloc, held, input, watch, self.sep, self.given)?;
-        Ok(())
+        Work::read_all(alloc, held, input, watch, self.sep, self.given)
     }
 }

@@ -1,7 +1,8 @@
 -- What is answered to a request on a constituency, and to the one that
 -- shows how far constituencies have come, in a transaction.
-use Rattle.std.proofs.Common.{◌≡◌, ◌≢◌, ◌∙◌, ◌⊎◌, ◌+◌, ◌++◌, ◌∷◌, ◌<◌, ℕ, List, [], Bool, Option, Some, None, Result, Ok, Err, IfOk, OnOk, inl, inr, length, refl, sym, ap, subst, map, take}
-use Rattle.std.specs.Prelude.{is_some, slice_index_or}
+use Rattle.std.proofs.Common.{◌≡◌, ◌≢◌, ◌∙◌, ◌⊎◌, ◌+◌, ◌++◌, ◌∷◌, ◌<◌, ℕ, List, [], Bool, Option, Some, None, Result, Ok, Err, IfOk, OnOk, inl, inr, length, refl, sym, ap, subst, map, take, true≢false}
+use Rattle.std.specs.BTreeMap.{BTreeMap}
+use Rattle.std.specs.Prelude.{IsErr, is_some, slice_index_or}
 use Rattle.std.specs.FinMap.{get, insert}
 use Rattle.std.specs.List.Sorted.{IsPermutation}
 use Rattle.sqlite_value.specs.Order.{Row}
@@ -11,7 +12,7 @@ use Rattle.sqlite.specs.Held.{state}
 use Rattle.sqlite_trees.specs.declared.store.Store.{Ghosts}
 use Rattle.sqlite.specs.State.{State as Seen, HasCleanDisk, IsUnchanged}
 use Rattle.std.proofs.lemmas.List.{map-append, take_more}
-use Rattle.tally_statements.specs.internal.Inside.{IsOpenInside, StaysFrom, StaysInside}
+use Rattle.tally_statements.specs.internal.Inside.{InDatabase, IsOpenInside, StaysFrom, StaysInside}
 use Rattle.tally_statements.specs.Office.{IsInside, tree_of}
 use Rattle.tally_statements.proofs.StaysLemmas.{stays-then}
 use Rattle.tally_statements.specs.declared.table.KeyedTable.TheVariants.{Cons}
@@ -40,7 +41,8 @@ use Rattle.tally_steps.proofs.DecisionLemmas.{decisions-steps, unknown-constitue
 use Rattle.tally_steps.proofs.ViewLemmas.{view-lawful}
 use Rattle.tally_keeper.proofs.StepLemmas.{memory-or}
 use Rattle.tally_tables.specs.TablesOfState.{AreTables}
-use Rattle.tally_requests.specs.internal.Requests.{CarriesOutKnown, IsCarriedOut, IsInState, KeepsKnown}
+use Rattle.tally_requests.specs.internal.Requests.{AnswersIn, CarriesOutKnown, IsCarriedOut, IsInState, KeepsKnown}
+use Rattle.tally_requests.specs.internal.Answering.{AnswersSo}
 use Rattle.tally_requests.specs.internal.Found.{CarriesOut}
 use Rattle.tally_requests.specs.internal.Changes.{IsChangeCarriedOut}
 use Rattle.tally_tables.specs.Views.{statuses_of}
@@ -55,6 +57,16 @@ use Rattle.tally_requests.proofs.RecordLemmas.{decides-whole, refusal-whole, sho
 pub on-answer : {X E P : Type 0} (r : Result X E) → P → OnOk r P
 on-answer (Ok x) p = p
 on-answer (Err e) p = tt
+
+-- of an error nothing is said
+pub answers-failed : {S : Type 0} {g : Ghosts S} {setup : List Constituency} {ask : Ask} {before after : BTreeMap (List ℕ) Statuses} {old new : Transaction S} (r : Result (Result Reply Refusal) Error) → IsErr r → AnswersIn g setup ask before after old new r
+answers-failed (Ok a) wrong = absurd (true≢false (sym wrong))
+answers-failed (Err e) is = record { kind = tt; step = λ _ _. tt; known = λ _ _. tt; forgets = tt; unwritten = λ _ _. tt; answered_open = λ _. tt }
+
+pub so-failed : {S : Type 0} {g : Ghosts S} {setup : List Constituency} {ask : Ask} {Carries : Seen → Seen → Result (Result Reply Refusal) Error → Type 0} {old new : Transaction S} (r : Result (Result Reply Refusal) Error) → IsErr r
+    → ((e : Error) → InDatabase g Carries old new (Err e)) → AnswersSo g setup ask Carries old new r
+so-failed (Ok a) wrong step = absurd (true≢false (sym wrong))
+so-failed (Err e) is step = record { kind = tt; step = step e; unwritten = λ _ _. tt }
 
 -- ---- requests on a constituency
 

@@ -275,12 +275,12 @@ move-carried setup text s ask station con place certified found standing now nam
 -- what is carried out by what was found is carried out by the tables
 pub found-carries : (setup : List Constituency) (con : Constituency) (place : Station) (station key : List ℕ) (certified : Bool) (found : Option StationReturn) (ask : Ask) (old mid last new : Seen) (r : Result (Result Reply Refusal) Error)
     → HasCleanDisk new → IsSetup setup → station_with station setup ≡ Some (con, place) → key ≡ con.code → IsStill old mid → IsStill mid last
-    → FindsReturn setup station old found → FindsCertified key mid certified → CarriesOutFound setup con station certified found ask last new r
+    → FindsCertified key old certified → FindsReturn setup station mid found → CarriesOutFound setup con station certified found ask last new r
     → IfOk r (λ a. (text : List ℕ) (s : State) → IsLawfulState setup s → AreTables setup text s old.now.trees → IsCarriedOut setup text s ask a new)
-found-carries setup con place station key certified found ask old mid last new (Err e) clean limits known key_is one two finds flag carries = tt
-found-carries setup con place station key certified found ask old mid last new (Ok a) clean limits known key_is one two finds flag carries = λ text s lawful tables.
+found-carries setup con place station key certified found ask old mid last new (Err e) clean limits known key_is one two flag finds carries = tt
+found-carries setup con place station key certified found ask old mid last new (Ok a) clean limits known key_is one two flag finds carries = λ text s lawful tables.
     let middle : AreTables setup text s mid.now.trees = subst (λ d. AreTables setup text s d.trees) (sym one.same) tables in
     let own = station_with-con setup station con place limits known in
     let held = subst (λ k. get s.cons k ≡ Some (con_state s con.code)) (sym key_is) (stands setup s con lawful own) in
-    carries clean two.inside text s lawful (flag s.cons (con_state s con.code) held middle.cons) (found-is setup text s station old found limits lawful tables finds)
+    carries clean two.inside text s lawful (flag s.cons (con_state s con.code) held tables.cons) (found-is setup text s station mid found limits lawful middle finds)
     (subst (λ d. AreTables setup text s d.trees) (sym two.same) middle)

@@ -1,20 +1,19 @@
 //! Requests on a constituency, and the one that shows how far constituencies have come.
 
 ghost use Rattle.std.specs.Prelude.{◌≡◌, Some, OnOk};
-ghost use Rattle.sqlite.specs.Held.{state};
 ghost use Rattle.tally_steps.specs.Step.{IsConDecision};
 ghost use Rattle.tally_returns.specs.Named.{con_named};
 ghost use Rattle.tally_returns.specs.View.{FitsView};
 ghost use Rattle.tally_returns.specs.declared.ask.Ask.TheVariants.{ShowProgress};
 ghost use Rattle.tally_setup.specs.Limits.{IsSetup};
 ghost use Rattle.tally_setup.specs.Setup.{constituency_with};
-ghost use Rattle.tally_entries.specs.internal.Entries.{ChangesNothing, Finds};
-ghost use Rattle.tally_statements.specs.internal.Inside.{InDatabase, StaysInside};
+ghost use Rattle.tally_entries.specs.internal.Entries.{Finds};
+ghost use Rattle.tally_statements.specs.internal.Inside.{OnlyReads, StaysInside};
 ghost use Rattle.tally_requests.specs.internal.Known.{ForgetsNone, known_of};
-ghost use Rattle.tally_requests.specs.internal.Requests.{AnswersIn, WasOpen};
+ghost use Rattle.tally_requests.specs.internal.Requests.{AnswersIn};
 ghost use Rattle.tally_requests.specs.internal.Answering.{AnswersSo};
 ghost use Rattle.tally_requests.specs.internal.Seen.{CarriesOutSeen, FindsKnown, FindsProgress};
-ghost use Rattle.tally_requests.specs.internal.Seen.{LooksUp, shows_con};
+ghost use Rattle.tally_requests.specs.internal.Seen.{shows_con};
 
 use crate::changes::carry_out;
 use crate::known::{known_at, remember, statuses_of_row};
@@ -137,21 +136,18 @@ fn find_progress<S: Alter>(
     setup: &Setup,
     known: &mut BTreeMap<Code, Statuses>,
 ) -> Result<Vec<ProgressRow>, Error>
-    ensures stays { StaysInside S.Store tx.old tx.new }
+    ensures reads { OnlyReads S.Store tx.old tx.new result }
     ensures found { Finds S.Store
         (λ seen rows. FindsProgress setup.now (known_of known.old) seen rows.items)
         tx.old tx.new result }
     ensures known { Finds S.Store
         (λ seen _. FindsKnown setup.now (known_of known.old) (known_of known.new) seen)
         tx.old tx.new result }
-    ensures still { LooksUp (state S.Store tx.old.conn.now) (state S.Store tx.new.conn.now) result }
     ensures forgets { OnOk result (ForgetsNone (known_of known.old) (known_of known.new)) }
-    ensures unchanged { ChangesNothing S.Store tx.old tx.new result }
-    ensures answered_open { InDatabase S.Store WasOpen tx.old tx.new result }
 {
     let cons = setup.cons();
     let standing = rows_of_cons(tx)?;
-    let mut rows = Vec::with_capacity(alloc, cons.len())?;
+    let mut rows = Vec::new(alloc);
     for con in cons {
         let row = find_progress_row(tx, &standing, con, known_at(known, con.code))?;
         remember(known, con.code, statuses_of_row(&row))?;

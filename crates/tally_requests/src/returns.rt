@@ -130,8 +130,8 @@ pub(crate) fn move_on<S: Alter>(
         see_open(tx)?;
         return Ok(Err(Refusal::NoStation));
     };
-    let found = find_lawful(alloc, tx, setup, con, place, station)?;
     let certified = find_certified(tx, con.code.as_str())?;
+    let found = find_lawful(alloc, tx, setup, con, place, station)?;
     let before = status_found(&found);
     let answer = move_found(alloc, tx, setup, con, place, station, ask, certified, found)?;
     count_command(known, con.code, ask, before, answer.is_ok());
@@ -153,21 +153,7 @@ fn find_lawful<S: Alter>(
     ensures found { Finds S.Store (FindsReturn setup.now station) tx.old tx.new result }
     ensures lawful { IfOk result (IsLawfulIfFound con.now place.now) }
 {
-    let found = find_return(alloc, tx, setup, station)?;
-    check_lawful(con, place, found)
-}
-
-/// The return that was found, where it is lawful at this station of this constituency.
-fn check_lawful(
-    con: &Constituency,
-    place: &Station,
-    found: Option<Return>,
-) -> Result<Option<Return>, Error>
-    requires few { length con.now.lists ≤ most_lists }
-    ensures same { IfOk result (λ checked. checked ≡ found) }
-    ensures lawful { IfOk result (IsLawfulIfFound con.now place.now) }
-{
-    let Some(standing) = found else {
+    let Some(standing) = find_return(alloc, tx, setup, station)? else {
         return Ok(None);
     };
     if !standing.is_lawful(con.lists.len(), place.electors) {

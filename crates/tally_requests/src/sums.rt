@@ -1,6 +1,6 @@
 //! The sums of closed votes of a constituency, moved by a return.
 
-ghost use Rattle.std.specs.Prelude.{◌≡◌, ◌≤◌, OnSome, SomeIff, length, true, false};
+ghost use Rattle.std.specs.Prelude.{◌≡◌, ◌≤◌, OnSome, SomeIff, length};
 ghost use Rattle.tally_frac.specs.Limits.{most_lists};
 ghost use Rattle.tally_statements.specs.internal.Inside.{InDatabase, StaysInside};
 ghost use Rattle.tally_requests.specs.internal.Moves.{MovesSums};
@@ -76,21 +76,12 @@ fn move_votes(votes: &mut [u64], by: &[u32], add: bool) -> Option<()>
 fn moved_if(n: u64, by: u32, add: bool) -> Option<u64>
     ensures { SomeIff result (CanMove n by add) (moved_sum n by add) }
 {
-    if add { added(n, by) } else { taken_out(n, by) }
-}
-
-fn added(n: u64, by: u32) -> Option<u64>
-    ensures { SomeIff result (CanMove n by true) (moved_sum n by true) }
-{
-    if n > MOST_VOTES - u64::from(by) {
-        return None;
+    if add {
+        if n > MOST_VOTES - u64::from(by) {
+            return None;
+        }
+        return Some(moved(n, by, true));
     }
-    Some(moved(n, by, true))
-}
-
-fn taken_out(n: u64, by: u32) -> Option<u64>
-    ensures { SomeIff result (CanMove n by false) (moved_sum n by false) }
-{
     if u64::from(by) > n {
         return None;
     }

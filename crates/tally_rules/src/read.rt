@@ -138,12 +138,12 @@ fn read_constituencies(
 {
     let limit = MOST_CONSTITUENCIES;
     let entries = read_array(document, Key::Constituency, Kind::Table, limit)?;
+    let mut cons = Vec::with_capacity(alloc, entries.len())?;
     let mut codes = Codes::new(alloc);
     let mut stations = Codes::new(alloc);
-    let mut cons = Vec::with_capacity(alloc, entries.len())?;
     for con in entries {
         let con = constituency_entry(alloc, con, profiles, &cons, &mut codes, &mut stations)?;
-        cons.push(con)?;
+        cons.push_reserved(con);
     }
     Ok(Setup::new(alloc, cons, codes, stations)?)
 }

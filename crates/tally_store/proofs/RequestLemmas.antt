@@ -5,6 +5,8 @@ use Rattle.std.specs.Map.{lookup}
 use Rattle.std.proofs.lemmas.List.Elements.{All-from_recursion}
 use Rattle.sqlite.proofs.StateLemmas.{survives_then}
 use Rattle.sqlite.specs.Effect.{Database, IsDatabase}
+use Rattle.sqlite.specs.Steps.{FailsToCommit}
+use Rattle.sqlite.specs.declared.error.Error.{Error}
 use Rattle.sqlite.specs.declared.transaction.Transaction.{Transaction}
 use Rattle.sqlite.specs.State.{State as Seen, HasCleanDisk, IsUnchanged, KeepsCounts, Shows, Survives}
 use Rattle.sqlite_trees.specs.declared.store.Store.{Ghosts}
@@ -44,9 +46,9 @@ use Rattle.tally_tables.specs.TablesOfState.{AreTables}
 use Rattle.tally_tables.specs.Views.{statuses_of}
 use Rattle.tally_tables.specs.declared.views.Statuses.{Statuses}
 use Rattle.tally_store.specs.Content.{content_of}
-use Rattle.tally_store.specs.Crash.{AreTablesAfter, AreTablesImported, WritesNothing}
+use Rattle.tally_store.specs.Crash.{AreTablesAfter, AreTablesImported, LeavesImported, WritesNothing}
 use Rattle.tally_opening.specs.Create.{IsAsBefore}
-use Rattle.tally_store.specs.internal.Requests.{Does, DoesImport, IsDone, IsAllDone, IsAllKnown, IsImportDone, IsNothing, KnowsAfter, KnowsImported}
+use Rattle.tally_store.specs.internal.Requests.{Does, DoesImport, EndsImport, IsDone, IsAllDone, IsAllKnown, IsImportDone, IsNothing, KnowsAfter, KnowsImported}
 use Rattle.tally_opening.specs.Office.{HasState, IsOffice}
 use Rattle.tally_opening.proofs.UnwrittenLemmas.{LeavesCommit}
 use Rattle.tally_store.specs.Store.{IsStored, KeepsText}
@@ -150,6 +152,19 @@ pub tables_after : (setup : List Constituency) (text : List ℕ) (s : State) (as
 tables_after setup text s ask r last reads h = record { answer = r; state = h.state; answered = h.answered; whole = whole_inside setup text h.state last reads h.in_state.inside h.in_state.tables }
 
 -- ---- an import
+
+-- what it leaves of a connection, however its transaction ended
+pub import_ends : (setup : List Constituency) (d : Delivery) (old bare last new : Seen) → bare ≡ record old { in_transaction = true } → (HasCleanDisk last → IsTrue last.is_open → IsTrue bare.is_open)
+    → new.in_transaction ≡ false → (HasCleanDisk new → HasCleanDisk last) → (HasCleanDisk new → IsTrue new.is_open → IsTrue last.is_open) → Survives old new (LeavesImported setup d old) → EndsImport setup d old new
+import_ends setup d old bare last new begun was_open ended early still_open crash = record {
+  ended = ended;
+  was_open = λ clean now. rw begun at (was_open (early clean) (still_open clean now));
+  crash = crash;
+}
+
+pub open_failed : (last new : Seen) (e : Error) → FailsToCommit last new e → IsTrue new.is_open → IsTrue last.is_open
+open_failed last new e (inl fails) now = fails.3.was_open now
+open_failed last new e (inr late) now = late.2.0.was_open
 
 pub all_committed : (setup : List Constituency) (text : List ℕ) (s : State) (d : Delivery) (count : ImportCount) (last new : Seen) → IsImported setup text s d count last → Shows last new last.now last.now false
     → IsAllDone setup text s d count new

@@ -252,7 +252,8 @@ fn see_not_shut<S: Alter>(conn: &mut Connection<S>) -> Result<(), ImportFault>
         OnOk result (IsTrue (state S.Store conn.new).is_open) }
     ensures own { IfErr result IsOwnFault }
 {
-    // Called for what its contract says: in no transaction, what is there was committed.
+    // Called for what its contract says: in no transaction, what an open connection has was
+    // committed.
     let _settled = conn.is_autocommit();
     match conn.prepare("SELECT 1") {
         Ok(_statement) => Ok(()),

@@ -9,7 +9,6 @@ use Rattle.tally_returns.specs.Counts.{VoteCounts}
 use Rattle.tally_statements.specs.declared.table.KeyedTable.{KeyedTable}
 use Rattle.tally_statements.specs.Office.{rows_in, HasRows, IsInside, is_item, item_cells}
 use Rattle.tally_tables.specs.Cells.{item_row, items_of}
-use Rattle.tally_entries.specs.internal.Constituencies.{DifferBy}
 use Rattle.tally_entries.specs.internal.Written.{HasItems}
 
 -- The number of an item of a key is this one, where it was that already or is moved by more than 0.
@@ -30,12 +29,3 @@ MovesNumbers t key by votes old new result =
     → filter (has_key key) rest ≡ [] →
     IsPermutation (map (item_row key) (items_of c) ++ rest) (rows_in t old)
     → OnOk result (HasItems t key (record c { votes = votes }) rest old new)
-
--- and the blank and the spoiled ones
-abbrev pub MovesItems : KeyedTable → List ℕ → VoteCounts → VoteCounts → Seen → Seen →
-    Result Unit Error → Type 0
-MovesItems t key by counts old new result =
-    HasCleanDisk new → IsInside old → (c : VoteCounts) (rest : List Row) → DifferBy by c counts →
-    filter (has_key key) rest ≡ [] →
-    IsPermutation (map (item_row key) (items_of c) ++ rest) (rows_in t old)
-    → OnOk result (HasItems t key counts rest old new)

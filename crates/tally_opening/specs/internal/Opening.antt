@@ -1,6 +1,6 @@
 -- What the steps of an opening see in a transaction. No public contract speaks of this.
 use Rattle.std.specs.Prelude.{◌≡◌, ◌≢◌, ◌⊎◌, ◌==◌, if◌then◌else◌, List, [], ◌∷◌, ℕ, Option, None}
-use Rattle.std.specs.Prelude.{Some, Result, Ok, Err, IfOk, IsTrue, OnOk, OnSome, codes, false}
+use Rattle.std.specs.Prelude.{Some, Result, Ok, Err, IfOk, IsTrue, OnOk, codes, false}
 use Rattle.std.specs.Prelude.{length, option_and_then, option_map, slice_index_or, true}
 use Rattle.std.specs.BTreeMap.{BTreeMap}
 use Rattle.sqlite.specs.declared.error.Error.{Error}
@@ -77,13 +77,6 @@ pub record HasRowids (s : Seen) : Type 0 where
       → (t : KeyedTable) → HasDistinctRows s.now t
   pub former : IsTrue s.is_open → s.now.schema ≡ former_schema → HasFormerRowids s.now
 
--- what is so where something is found, or nothing, by what was there
-abbrev pub WhereSome : {X : Type 0} → (Database → Type 0) → Seen → Seen → Option X → Type 0
-WhereSome Holds old new found = OnSome found (Holds old.now)
-
-abbrev pub WhereNone : {X : Type 0} → (Database → Type 0) → Seen → Seen → Option X → Type 0
-WhereNone Holds old new found = found ≡ None → Holds old.now
-
 -- ---- the rows of tables
 
 -- these rows were answered of the whole tables
@@ -133,6 +126,10 @@ abbrev pub AreTablesOfNone : List Constituency → Database → Type 0
 AreTablesOfNone setup db =
     (text : List ℕ) (s : State) → IsLawfulState setup s
     → AreTables setup text s (trees_with text db.trees) → ⊥
+
+-- the fault is that they are the tables of no lawful state over this setup
+abbrev pub IsUnlawful : List Constituency → Database → OpenFault → Type 0
+IsUnlawful setup db fault = (fault ≡ BadTables) × AreTablesOfNone setup db
 
 -- the numbers of every lawful state over this setup whose tables they are, with whatever text
 abbrev pub CountsTables : BTreeMap (List ℕ) Statuses → List Constituency → Database → Type 0

@@ -1,5 +1,5 @@
 -- What a request does to the tables of an office by what was seen of a constituency.
-use Rattle.std.specs.Prelude.{◌≡◌, ℕ, Bool, true, false, List, Result, IfOk, OnOk}
+use Rattle.std.specs.Prelude.{◌≡◌, ℕ, Bool, true, false, List, Result, IfOk}
 use Rattle.sqlite.specs.declared.error.Error.{Error}
 use Rattle.sqlite.specs.State.{State as Seen, HasCleanDisk}
 use Rattle.tally_setup.specs.Constituency.{Constituency}
@@ -39,10 +39,6 @@ CarriesOutSeen setup con view ask old new result =
 pub record IsStill (old new : Seen) : Type 0 where
   pub inside : IsInside new
   pub same : new.now ≡ old.now
-
--- what holds after a call that only looks up, where the disk returned what was written
-abbrev pub LooksUp : {X : Type 0} → Seen → Seen → Result X Error → Type 0
-LooksUp old new result = HasCleanDisk new → IsInside old → OnOk result (IsStill old new)
 
 -- The rows found say how far the constituencies have come. They are right for every lawful state
 -- whose tables are there, where all that is known is true of it.

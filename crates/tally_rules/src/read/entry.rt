@@ -266,7 +266,7 @@ fn read_stations(
     let mut stations = Vec::with_capacity(alloc, entries.len())?;
     for station in entries {
         let station = station_entry(station, before, con, &stations, taken)?;
-        stations.push(station)?;
+        stations.push_reserved(station);
     }
     Ok(stations)
 }
@@ -308,7 +308,7 @@ fn read_candidates(
     let mut names = Vec::with_capacity(alloc, entries.len())?;
     for name in entries {
         let name = candidate(alloc, name, con, list, names.len() + 1)?;
-        names.push(name)?;
+        names.push_reserved(name);
     }
     Ok(names)
 }
@@ -366,10 +366,10 @@ fn read_lists(alloc: Global, entry: &Value, con: &Holder) -> Result<Vec<ListEntr
 {
     let here = con.constituency_way();
     let entries = array_in(entry, &here, Key::List, Kind::Table, MOST_LISTS)?;
-    let mut codes = Codes::new(alloc);
     let mut lists = Vec::with_capacity(alloc, entries.len())?;
+    let mut codes = Codes::new(alloc);
     for list in entries {
-        lists.push(list_entry(alloc, list, con, &mut codes)?)?;
+        lists.push_reserved(list_entry(alloc, list, con, &mut codes)?);
     }
     Ok(lists)
 }

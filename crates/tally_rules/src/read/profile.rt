@@ -109,10 +109,10 @@ pub(super) fn read_profiles(alloc: Global, text: &Value) -> Result<Profiles, Pla
     ensures fault { IfErr result (IsPlacedIn (read_profiles (view text.now))) }
 {
     let entries = read_array(text, Key::Profile, Kind::Table, MOST_PROFILES)?;
-    let mut codes = Codes::new(alloc);
     let mut profiles = Vec::with_capacity(alloc, entries.len())?;
+    let mut codes = Codes::new(alloc);
     for profile in entries {
-        profiles.push(profile_entry(profile, &mut codes)?)?;
+        profiles.push_reserved(profile_entry(profile, &mut codes)?);
     }
     Ok(Profiles { codes, profiles })
 }

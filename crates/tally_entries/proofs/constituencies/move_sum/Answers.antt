@@ -1,4 +1,5 @@
-use Rattle.std.proofs.Common.{refl, subst}
+use Rattle.std.proofs.Common.{◌∙◌, ap, of_z, pos, refl, subst, to_z, w64}
+use Rattle.std.proofs.lemmas.Int.{to_z-of_z}
 use Rattle.std.specs.Prelude.{◌∷◌, ⊤}
 use Rattle.std.specs.List.Sorted.{IsPermutation}
 use Rattle.sqlite.specs.Held.{state}
@@ -20,5 +21,9 @@ returns-then-by-eq0-clause-moved g c clean inside before rest same none held =
       setup = refl;
     }
 
+pub returns-in_default-clause-stays : goal.returns-in_default-clause-stays
+returns-in_default-clause-stays g c = stays-same (λ _. ⊤) g.S.Store c.args.tx.now
+
 pub returns-clause-moved : goal.returns-clause-moved
-returns-clause-moved g c clean inside before rest same none held = c.update_sum.ensures.updated clean inside before rest none held
+returns-clause-moved g c clean inside before rest same none held =
+    c.update_total.ensures.updated c.args.n (ap (λ z. to_z w64 (of_z w64 z)) c.in-Ok.ensures.1 ∙ to_z-of_z w64 (pos c.args.n) c.in-Ok.ensures.0) clean inside before rest none held

@@ -1,4 +1,4 @@
-use Rattle.std.proofs.Common.{◌∙◌, ap, subst}
+use Rattle.std.proofs.Common.{◌∙◌, ℕ, Bool, ap, refl, subst}
 use Rattle.sqlite.specs.Held.{state}
 use Rattle.tally_setup.specs.Constituency.{Constituency}
 use Rattle.tally_entries.specs.internal.Found.{IsStageAmong}
@@ -11,5 +11,6 @@ returns-clause-found g c clean at =
     let rows = c.args.cons.now in
     let old = state g.S.Store c.args.tx.now.conn.now in
     let own = ap (λ (x : Constituency). x.code) c.con.view_is in
-    let among : IsStageAmong con.code rows c.in_ok-stage.stage = subst (λ k. IsStageAmong k rows c.in_ok-stage.stage) (c.as_str.ensures.text ∙ own) c.in_ok-stage.ensures in
-    finds_row con c.con.inside.code c.args.known rows old c.in_ok-stage.stage c.in_ok-statuses.statuses c.row_with.result own among (c.in_ok-statuses.ensures.found clean at) c.row_with.ensures
+    let stage : ℕ × Bool = (c.in_ok-edition.edition, c.in_ok-edition.certified) in
+    let among : IsStageAmong con.code rows stage = subst (λ k. IsStageAmong k rows stage) (c.as_str.ensures.text ∙ own) c.in_ok-edition.ensures in
+    finds_row con c.con.inside.code c.args.known rows old stage c.in_ok-statuses.statuses _ own among (c.in_ok-statuses.ensures.found clean at) refl

@@ -1,6 +1,13 @@
 use Rattle.sqlite.specs.Held.{state}
+use Rattle.tally_entries.proofs.LookLemmas.{look_as, look_fails}
 use Rattle.tally_entries.proofs.StatusLemmas.{finds_status}
 use Rattle.tally_entries.proofs.views.find_status.Goals as goal
+
+pub returns-in_err-rows-clause-reads : goal.returns-in_err-rows-clause-reads
+returns-in_err-rows-clause-reads g c = look_fails g.S.Store c.args.tx.now c.rows_of_key.new.tx _ c.from_residual.ensures.0 c.rows_of_key.ensures.reads.stays
+
+pub returns-clause-reads : goal.returns-clause-reads
+returns-clause-reads g c = look_as g.S.Store c.args.tx.now c.rows_of_key.new.tx _ _ c.in_ok-rows.ensures.reads
 
 pub returns-clause-found : goal.returns-clause-found
 returns-clause-found g c clean inside =

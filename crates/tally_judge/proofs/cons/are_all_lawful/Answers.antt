@@ -1,4 +1,4 @@
-use Rattle.std.proofs.Common.{◌≡◌, IsTrue, length, rules, true}
+use Rattle.std.proofs.Common.{◌≡◌, ◌∙◌, IsTrue, length, rules, sym, true}
 use Rattle.std.specs.Prelude.{All}
 use Rattle.tally_steps.proofs.CertificationLemmas.{on_ok}
 use Rattle.tally_judge.specs.internal.Entries.{rises}
@@ -10,7 +10,7 @@ returns-clause-lawful c =
     let kept = c.args.ledger.now in
     let found = c.args.found.now in
     let many : length found ≡ length kept.setup = search rules in
-    let rise : rises found ≡ true = search rules in
+    let rise : rises found ≡ true = sym c.codes_rise.ensures ∙ c.if-not-codes_rise.false in
     on_ok c.are_each_lawful.result (λ yes. IsTrue yes → All (IsLawfulFound kept) found) (λ yes. IsTrue yes → AreAllLawful kept found)
     (λ yes ensured is. record { many = many; rise = rise; each = ensured is }) c.are_each_lawful.ensures.lawful
 

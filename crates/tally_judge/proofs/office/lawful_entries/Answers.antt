@@ -1,4 +1,4 @@
-use Rattle.std.proofs.Common.{◌∙◌, IsTrue, ap, rules, subst, sym, true≢false}
+use Rattle.std.proofs.Common.{◌∙◌, IsTrue, ap, subst, sym, true≢false}
 use Rattle.std.specs.Prelude.{All}
 use Rattle.tally_judge.specs.internal.Entries.{IsLawfulEntry, rises}
 use Rattle.tally_judge.proofs.VerdictLemmas.{must_read_some, must_rise}
@@ -20,11 +20,11 @@ returns-then-not-are_lawful-clause-must_read c standing h =
     let read = rw c.in-Some.is at c.in_ok-entries.ensures in
     let must = must_rise c.args.setup.now c.args.returns.now c.args.counts.now standing c.in-Some.entries.items c.requires read h in
     let passed = c.are_lawful.ensures.otherwise (subst (All (IsLawfulEntry c.args.setup.now)) (sym c.deref-2.ensures.value) must.1) in
-    search (rules, passed)
+    absurd (true≢false (sym passed ∙ c.if-not-are_lawful.true))
 
 pub returns-clause-read : goal.returns-clause-read
 returns-clause-read c =
-    let passed : IsTrue c.are_lawful.result = search rules in
+    let passed : IsTrue c.are_lawful.result = c.if-not-are_lawful.false in
     record {
       read = rw c.in-Some.is at c.in_ok-entries.ensures;
       rise = ap rises (sym c.deref.ensures.value) ∙ sym c.stations_rise.ensures ∙ c.if-not-stations_rise.false;

@@ -1,11 +1,11 @@
-use Rattle.std.proofs.Common.{rules, arith, subst, sym, IsTrue}
+use Rattle.std.proofs.Common.{◌∙◌, arith, subst, sym, IsTrue, true≢false}
 use Rattle.tally_steps.specs.Outcome.{IsLawfulGone}
 use Rattle.tally_judge.proofs.AllLemmas.{all_more, all_end}
 use Rattle.tally_judge.proofs.view.are_candidates.Goals as goal
 
 pub loop-candidate-preserved : goal.loop-candidate-preserved
 loop-candidate-preserved c =
-    let passed : IsTrue c.is_lawful_gone.result = search rules in
+    let passed : IsTrue c.is_lawful_gone.result = c.if-not-is_lawful_gone.false in
     all_more (IsLawfulGone c.args.con.now) c.args.gone.now c.loop-candidate.candidate-index c.candidate-item.result (omega (arith, c.loop-candidate-test.true)) c.candidate-item.is (c.is_lawful_gone.ensures.lawful passed) c.loop-candidate.invariant
 
 pub returns-clause-candidates : goal.returns-clause-candidates
@@ -15,4 +15,4 @@ pub returns-then-not-is_lawful_gone-clause-otherwise : goal.returns-then-not-is_
 returns-then-not-is_lawful_gone-clause-otherwise c all =
     let one = all c.loop-candidate.candidate-index c.candidate-item.result (omega (arith, c.loop-candidate-test.true)) in
     let passed = c.is_lawful_gone.ensures.otherwise (subst (IsLawfulGone c.args.con.now) (sym c.candidate-item.is) one) in
-    search (rules, passed)
+    absurd (true≢false (sym passed ∙ c.if-not-is_lawful_gone.true))

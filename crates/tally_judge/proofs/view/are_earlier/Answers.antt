@@ -1,4 +1,4 @@
-use Rattle.std.proofs.Common.{rules, arith, subst, sym, IsTrue}
+use Rattle.std.proofs.Common.{◌∙◌, arith, subst, sym, IsTrue, true≢false}
 use Rattle.tally_steps.specs.Outcome.{IsLawfulPast}
 use Rattle.tally_returns.specs.View.{HasEachList}
 use Rattle.tally_judge.proofs.AllLemmas.{all_more, all_end}
@@ -10,7 +10,7 @@ is_lawful_past-requires c =
 
 pub loop-certificate-preserved : goal.loop-certificate-preserved
 loop-certificate-preserved c =
-    let passed : IsTrue c.is_lawful_past.result = search rules in
+    let passed : IsTrue c.is_lawful_past.result = c.if-not-is_lawful_past.false in
     all_more (IsLawfulPast c.args.con.now c.args.edition) c.args.past.now c.loop-certificate.certificate-index c.certificate-item.result (omega (arith, c.loop-certificate-test.true)) c.certificate-item.is (c.is_lawful_past.ensures.lawful passed) c.loop-certificate.invariant
 
 pub returns-clause-earlier : goal.returns-clause-earlier
@@ -20,4 +20,4 @@ pub returns-then-not-is_lawful_past-clause-otherwise : goal.returns-then-not-is_
 returns-then-not-is_lawful_past-clause-otherwise c all =
     let one = all c.loop-certificate.certificate-index c.certificate-item.result (omega (arith, c.loop-certificate-test.true)) in
     let passed = c.is_lawful_past.ensures.otherwise (subst (IsLawfulPast c.args.con.now c.args.edition) (sym c.certificate-item.is) one) in
-    search (rules, passed)
+    absurd (true≢false (sym passed ∙ c.if-not-is_lawful_past.true))

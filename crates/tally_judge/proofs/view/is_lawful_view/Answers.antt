@@ -1,4 +1,4 @@
-use Rattle.std.proofs.Common.{◌∙◌, IsTrue, ap, rules, sym}
+use Rattle.std.proofs.Common.{◌∙◌, IsTrue, ap, sym, true≢false}
 use Rattle.tally_steps.proofs.CertificationLemmas.{on_ok}
 use Rattle.tally_steps.specs.Outcome.{IsLawfulView}
 use Rattle.tally_returns.specs.View.{View}
@@ -7,19 +7,19 @@ use Rattle.tally_judge.proofs.SeenLemmas.{certificate_of, certified_view, frame_
 use Rattle.tally_judge.proofs.view.is_lawful_view.Goals as goal
 
 pub is_certificate-requires : goal.is_certificate-requires
-is_certificate-requires c = let passed : IsTrue c.has_lawful_frame.result = search rules in (c.has_lawful_frame.ensures.lawful passed).fits
+is_certificate-requires c = let passed : IsTrue c.has_lawful_frame.result = c.if-not-has_lawful_frame.false in (c.has_lawful_frame.ensures.lawful passed).fits
 
 pub is_open-requires : goal.is_open-requires
-is_open-requires c = let passed : IsTrue c.has_lawful_frame.result = search rules in (c.has_lawful_frame.ensures.lawful passed).fits
+is_open-requires c = let passed : IsTrue c.has_lawful_frame.result = c.if-not-has_lawful_frame.false in (c.has_lawful_frame.ensures.lawful passed).fits
 
 pub returns-then-not-has_lawful_frame-clause-otherwise : goal.returns-then-not-has_lawful_frame-clause-otherwise
 returns-then-not-has_lawful_frame-clause-otherwise c lawful =
     let passed = c.has_lawful_frame.ensures.otherwise (frame_of c.args.con.now c.args.view.now lawful) in
-    search (rules, passed)
+    absurd (true≢false (sym passed ∙ c.if-not-has_lawful_frame.true))
 
 pub returns-then-view-clause-lawful : goal.returns-then-view-clause-lawful
 returns-then-view-clause-lawful c ensured =
-    let passed : IsTrue c.has_lawful_frame.result = search rules in
+    let passed : IsTrue c.has_lawful_frame.result = c.if-not-has_lawful_frame.false in
     let certified = sym (ap (λ (v : View). v.certified) c.view.view_is) ∙ c.if-view.true in
     certified_view c.args.con.now c.args.view.now (c.has_lawful_frame.ensures.lawful passed) certified (c.is_certificate.ensures.certified ensured)
 
@@ -32,7 +32,7 @@ pub returns-clause-lawful : goal.returns-clause-lawful
 returns-clause-lawful c =
     let con = c.args.con.now in
     let view = c.args.view.now in
-    let passed : IsTrue c.has_lawful_frame.result = search rules in
+    let passed : IsTrue c.has_lawful_frame.result = c.if-not-has_lawful_frame.false in
     let open_is = sym (ap (λ (v : View). v.certified) c.view.view_is) ∙ c.if-view.false in
     on_ok c.is_open.result (λ yes. IsTrue yes → IsOpen con view) (λ yes. IsTrue yes → IsLawfulView con view)
     (λ yes ensured is. open_view con view (c.has_lawful_frame.ensures.lawful passed) open_is (ensured is)) c.is_open.ensures.open

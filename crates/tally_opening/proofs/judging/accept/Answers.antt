@@ -1,9 +1,16 @@
+use Rattle.std.proofs.Common.{refl, sym, true≢false}
 use Rattle.tally_opening.proofs.judging.accept.Goals as goal
 
-pub returns-in-Ok-clause-must_pass : goal.returns-in-Ok-clause-must_pass
-returns-in-Ok-clause-must_pass c =
-    rw (c.deref.ensures.value, c.deref-2.ensures.value, c.deref-3.ensures.value, c.deref-4.ensures.value, c.deref-5.ensures.value, c.deref-6.ensures.value, c.deref-7.ensures.value, c.deref-8.ensures.value) at c.in-Ok.ensures.must_pass
+pub returns-in-Ok-Some-clause-passed : goal.returns-in-Ok-Some-clause-passed
+returns-in-Ok-Some-clause-passed c = rw (c.in-Ok-Some.field-0-is, c.lent.ensures) at c.in-Ok-Some.ensures.passed
 
-pub returns-in-Ok-clause-numbers : goal.returns-in-Ok-clause-numbers
-returns-in-Ok-clause-numbers c =
-    rw (c.deref.ensures.value, c.deref-2.ensures.value, c.deref-3.ensures.value, c.deref-4.ensures.value, c.deref-5.ensures.value, c.deref-6.ensures.value, c.deref-7.ensures.value, c.deref-8.ensures.value) at c.in-Ok.ensures.numbers
+pub returns-in-Ok-Some-clause-setup : goal.returns-in-Ok-Some-clause-setup
+returns-in-Ok-Some-clause-setup c = rw c.in-Ok-Some.field-0-is at c.in-Ok-Some.ensures.setup
+
+pub returns-in-Ok-Some-clause-numbers : goal.returns-in-Ok-Some-clause-numbers
+returns-in-Ok-Some-clause-numbers c = rw (c.in-Ok-Some.field-0-is, c.lent.ensures) at c.in-Ok-Some.ensures.numbers
+
+pub returns-in-Ok-None-clause-refused : goal.returns-in-Ok-None-clause-refused
+returns-in-Ok-None-clause-refused c =
+    let must = rw (c.in-Ok-None.field-0-is, c.lent.ensures) at c.in-Ok-None.ensures.must_pass in
+    (refl, λ lawful. true≢false (sym (must lawful)))

@@ -1,9 +1,10 @@
-use Rattle.std.proofs.Common.{refl, sym, subst, arith}
+use Rattle.std.proofs.Common.{refl, sym, subst}
 use Rattle.std.specs.Prelude.{⊤}
 use Rattle.sqlite.specs.Held.{state}
 use Rattle.tally_statements.proofs.StaysLemmas.{stays-both, stays-same}
 use Rattle.tally_opening.specs.internal.Making.{AddsTotals}
 use Rattle.tally_opening.proofs.AddLemmas.{totals_none, totals_then, list_rows_more}
+use Rattle.tally_opening.proofs.ReturnLemmas.{clean_first}
 use Rattle.tally_opening.proofs.making.insert_list_totals.Goals as goal
 
 pub loop-list-init : goal.loop-list-init
@@ -22,7 +23,7 @@ loop-list-preserved g c =
     record {
       stays = stays-both g.S.Store c.args.tx.now c.loop-list.tx c.insert_total.new.tx was.stays ensured;
       added = λ clean inside.
-          let before = was.added (omega (arith, ensured.survives.clean)) inside in
+          let before = was.added (clean_first ensured.survives clean) inside in
           subst (λ rows. AddsTotals rows old new) (sym (list_rows_more c.args.con.now c.loop-list.list))
           (totals_then _ _ old mid new before (c.in_ok-insert_total.ensures.inserted 0 refl clean before.inside));
     }

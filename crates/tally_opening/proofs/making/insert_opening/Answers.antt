@@ -7,6 +7,7 @@ use Rattle.tally_statements.specs.declared.table.KeyedTable.TheVariants.{Cons}
 use Rattle.tally_statements.specs.Office.{HasRows, rows_in}
 use Rattle.tally_opening.specs.internal.Making.{AddsTotals, no_vote_rows}
 use Rattle.tally_opening.proofs.AddLemmas.{opening_last}
+use Rattle.tally_opening.proofs.ReturnLemmas.{clean_first}
 use Rattle.tally_opening.proofs.making.insert_opening.Goals as goal
 
 pub returns-clause-opened : goal.returns-clause-opened
@@ -18,7 +19,7 @@ returns-clause-opened g c clean inside =
     let own : c.con.inside.code ≡ con.code = ap (λ (x : Constituency). x.code) c.con.view_is in
     let seen : length c.con.inside.lists.items ≡ length con.lists = ap (λ (x : Constituency). length x.lists) c.con.view_is in
     let many : c.len.result ≡ length con.lists = omega (arith, c.len.ensures, c.con.inside.lists.ok.0, seen) in
-    let clean_mid : HasCleanDisk mid = omega (arith, c.insert_totals.ensures.stays.survives.clean) in
+    let clean_mid : HasCleanDisk mid = clean_first c.insert_totals.ensures.stays.survives clean in
     let row = c.in_ok-insert_con.ensures.inserted clean_mid inside in
     opening_last con old mid new c.insert_totals.result
     (subst (λ k. HasRows Cons ((Text k ∷ Int (pos 1) ∷ Int (pos 0) ∷ Text [] ∷ []) ∷ rows_in Cons old) old mid) (c.as_str.ensures.text ∙ own) row)

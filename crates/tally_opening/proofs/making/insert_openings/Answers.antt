@@ -1,8 +1,11 @@
-use Rattle.std.proofs.Common.{arith}
+use Rattle.std.proofs.Common.{arith, subst}
+use Rattle.std.proofs.lemmas.List.{take_all}
 use Rattle.std.specs.Prelude.{⊤}
 use Rattle.sqlite.specs.Held.{state}
 use Rattle.tally_statements.proofs.StaysLemmas.{stays-both, stays-same}
+use Rattle.tally_opening.specs.internal.Making.{AddsCons}
 use Rattle.tally_opening.proofs.AddLemmas.{cons_none, cons_more}
+use Rattle.tally_opening.proofs.ReturnLemmas.{clean_first}
 use Rattle.tally_opening.proofs.making.insert_openings.Goals as goal
 
 pub loop-con-init : goal.loop-con-init
@@ -21,6 +24,16 @@ loop-con-preserved g c =
     record {
       stays = stays-both g.S.Store c.args.tx.now c.loop-con.tx c.insert_opening.new.tx was.stays ensured.stays;
       opened = λ clean inside.
-          let before = was.opened (omega (arith, ensured.stays.survives.clean)) inside in
+          let before = was.opened (clean_first ensured.stays.survives clean) inside in
           cons_more old mid new c.args.cons.now c.loop-con.con-index c.con-item.result c.loop-con-test.true c.con-item.is before (c.in_ok-insert_opening.ensures.opened clean before.inside);
     }
+
+pub returns-clause-stays : goal.returns-clause-stays
+returns-clause-stays g c = c.loop-con.invariant.stays
+
+pub returns-clause-opened : goal.returns-clause-opened
+returns-clause-opened g c clean inside =
+    let old = state g.S.Store c.args.tx.now.conn.now in
+    let now = state g.S.Store c.loop-con.tx.conn.now in
+    let all = take_all c.loop-con.con-index c.args.cons.now (omega (arith, c.loop-con-test.false)) in
+    subst (λ cons. AddsCons cons old now) all (c.loop-con.invariant.opened clean inside)

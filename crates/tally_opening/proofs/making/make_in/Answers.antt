@@ -1,9 +1,9 @@
-use Rattle.std.proofs.Common.{◌≡◌, refl, sym, subst, arith, rules, IsTrue, OnErr}
+use Rattle.std.proofs.Common.{◌≡◌, refl, sym, subst, rules, IsTrue, OnErr}
 use Rattle.sqlite.specs.State.{HasCleanDisk}
 use Rattle.sqlite.specs.Held.{state}
 use Rattle.tally_schema.specs.Made.{HasEmptyTables}
 use Rattle.tally_opening.specs.Create.{IsAsBefore}
-use Rattle.tally_opening.proofs.ReturnLemmas.{Began, failed_commit, rolled_back}
+use Rattle.tally_opening.proofs.ReturnLemmas.{Began, clean_first, failed_commit, rolled_back}
 use Rattle.tally_opening.proofs.making.make_in.Goals as goal
 
 pub returns-in-Ok-clause-ends : goal.returns-in-Ok-clause-ends
@@ -17,7 +17,7 @@ returns-in-Ok-clause-ends g c =
           let same : c.commit.new.self.0 ≡ c.conn-1.given.0 = search rules in
           let clean_end : HasCleanDisk (state g.S.Store c.commit.new.self.0) = subst (λ (h : _). HasCleanDisk (state g.S.Store h)) (sym same) clean in
           let open_end : IsTrue (state g.S.Store c.commit.new.self.0).is_open = subst (λ (h : _). IsTrue (state g.S.Store h).is_open) (sym same) now in
-          let early : HasCleanDisk last = omega (arith, c.commit.ensures.survives.clean) in
+          let early : HasCleanDisk last = clean_first c.commit.ensures.survives clean_end in
           let bare : HasEmptyTables 0 (state g.S.Store c.transaction-tx.result.conn.now) = rw begun (record { tables = record { schema = c.requires.unset; inside = refl }; empty = tt }) in
           let made = c.in-Ok.ensures.made early bare in
           let kept = c.make_office.ensures.stays.kept early tt in
@@ -40,7 +40,7 @@ returns-in-Err-clause-ends g c =
           let same : c.rollback.new.self.0 ≡ c.conn-in-Err-1.given.0 = search rules in
           let clean_end : HasCleanDisk (state g.S.Store c.rollback.new.self.0) = subst (λ (h : _). HasCleanDisk (state g.S.Store h)) (sym same) clean in
           let open_end : IsTrue (state g.S.Store c.rollback.new.self.0).is_open = subst (λ (h : _). IsTrue (state g.S.Store h).is_open) (sym same) now in
-          let early : HasCleanDisk last = omega (arith, c.rollback.ensures.survives.clean) in
+          let early : HasCleanDisk last = clean_first c.rollback.ensures.survives clean_end in
           let kept = c.make_office.ensures.stays.kept early tt in
           let was_open = rw begun at kept.was_open in
           let committed = rw begun at kept.committed in

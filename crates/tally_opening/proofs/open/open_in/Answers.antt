@@ -1,9 +1,6 @@
 use Rattle.std.proofs.Common.{◌≡◌, ◌∙◌, IsTrue, ap, subst, sym}
-use Rattle.sqlite.specs.Effect.{Database}
-use Rattle.sqlite.specs.Held.{Serves, state}
-use Rattle.sqlite_schema.specs.declared.schema.Schema.{Schema}
+use Rattle.sqlite.specs.Held.{state}
 use Rattle.tally_opening.specs.internal.Opening.{HasDistinctRows, HasFormerRowids}
-use Rattle.tally_statements.specs.declared.table.KeyedTable.{KeyedTable}
 use Rattle.tally_opening.proofs.LawLemmas.{former_by_law, today_by_law}
 use Rattle.tally_opening.proofs.open.open_in.Goals as goal
 

@@ -7,7 +7,7 @@ use Rattle.tally_schema.specs.Tables.{former_schema, office_schema}
 use Rattle.tally_opening.proofs.OpenedLemmas.{fault_today, numbers_former, numbers_today, today_each}
 use Rattle.tally_opening.specs.Crash.{LeavesTakenOver}
 use Rattle.tally_opening.proofs.JudgingLemmas.{so_answered}
-use Rattle.tally_opening.proofs.UnwrittenLemmas.{counts_nothing, ends_whole, untouched, unwritten_by}
+use Rattle.tally_opening.proofs.UnwrittenLemmas.{counts_nothing, ends_untouched, ends_whole, settled_outside, untouched, unwritten_by}
 use Rattle.tally_opening.proofs.open.open_with_rowids.Goals as goal
 
 pub returns-in-Ok-true-clause-ends : goal.returns-in-Ok-true-clause-ends
@@ -22,7 +22,7 @@ returns-in-Ok-true-clause-opened g c clean =
     let today = c.in-Ok-true.ensures.today c.in-Ok-true.field-0-test in
     let schema : old.now.schema ≡ office_schema = sym c.schema.ensures.value ∙ today.0 in
     let ensured = c.open_today.ensures in
-    today_each c.open_today.result old new schema (λ now. (c.schema.ensures.live now).0) (λ now. c.is_autocommit.ensures.settled c.if-not-is_autocommit.false now) (ensured.ends.was_open clean) (ensured.ends.same clean) (λ now. c.requires.rowids.today now schema) (ensured.stored clean) (ensured.judged clean)
+    today_each c.open_today.result old new schema (λ now. (c.schema.ensures.live now).0) (settled_outside (state g.S.Store c.args.conn.now) c.is_autocommit-settled.result c.is_autocommit-settled.ensures.value c.is_autocommit-settled.ensures.settled c.requires.autocommit) (ensured.ends.was_open clean) (ensured.ends.same clean) (λ now. c.requires.rowids.today now schema) (ensured.stored clean) (ensured.judged clean)
 
 pub returns-in-Ok-true-clause-fault : goal.returns-in-Ok-true-clause-fault
 returns-in-Ok-true-clause-fault g c clean =
@@ -38,7 +38,7 @@ pub returns-in-Ok-true-clause-unwritten : goal.returns-in-Ok-true-clause-unwritt
 returns-in-Ok-true-clause-unwritten g c past =
     let ensured = c.open_today.ensures in
     unwritten_by (state g.S.Store c.args.conn.now) (state g.S.Store c.open_today.new.conn) (λ db now may. g.met.S.Store.settled c.args.conn.now.store db now may)
-    (λ now. c.is_autocommit.ensures.settled c.if-not-is_autocommit.false now) ensured.ends.survives ensured.ends.same
+    (settled_outside (state g.S.Store c.args.conn.now) c.is_autocommit-settled.result c.is_autocommit-settled.ensures.value c.is_autocommit-settled.ensures.settled c.requires.autocommit) ensured.ends.survives ensured.ends.same
 
 pub returns-in-Ok-false-clause-unwritten : goal.returns-in-Ok-false-clause-unwritten
 returns-in-Ok-false-clause-unwritten g c past =
@@ -56,7 +56,7 @@ returns-in-Ok-false-clause-counts g c =
 
 pub returns-in-Err-clause-unwritten : goal.returns-in-Err-clause-unwritten
 returns-in-Err-clause-unwritten g c past =
-    untouched (state g.S.Store c.args.conn.now) (λ db now may. g.met.S.Store.settled c.args.conn.now.store db now may) (λ now. c.is_autocommit.ensures.settled c.if-not-is_autocommit.false now)
+    untouched (state g.S.Store c.args.conn.now) (λ db now may. g.met.S.Store.settled c.args.conn.now.store db now may) (settled_outside (state g.S.Store c.args.conn.now) c.is_autocommit-settled.result c.is_autocommit-settled.ensures.value c.is_autocommit-settled.ensures.settled c.requires.autocommit)
 
 pub returns-in-Ok-true-clause-numbers : goal.returns-in-Ok-true-clause-numbers
 returns-in-Ok-true-clause-numbers g c clean =
@@ -76,3 +76,8 @@ pub open_former-requires-clause-rowids : goal.open_former-requires-clause-rowids
 open_former-requires-clause-rowids g c now =
     let former = c.in-Ok-false.ensures.former c.in-Ok-false.field-0-test in
     c.requires.rowids.former now (sym c.schema.ensures.value ∙ former.0)
+
+pub returns-in-Err-clause-ends : goal.returns-in-Err-clause-ends
+returns-in-Err-clause-ends g c =
+    let old = state g.S.Store c.args.conn.now in
+    ends_untouched (LeavesTakenOver old.now) _ old c.requires.autocommit

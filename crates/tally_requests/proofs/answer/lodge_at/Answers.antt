@@ -3,9 +3,13 @@ use Rattle.tally_keeper.specs.Events.{as_answer}
 use Rattle.tally_steps.specs.Runs.{is_act}
 use Rattle.tally_steps.specs.Step.{lodge_reply, reply_seen}
 use Rattle.tally_requests.specs.internal.Known.{known_of}
+use Rattle.tally_requests.proofs.AnswerLemmas.{answers-failed}
 use Rattle.tally_requests.proofs.KnownLemmas.{forgets-lodged, lodged-known}
 use Rattle.tally_requests.proofs.LodgeLemmas.{lodged-carried, seen-reply}
 use Rattle.tally_requests.proofs.answer.lodge_at.Goals as goal
+
+pub returns-in_err-reply-clause-answers : goal.returns-in_err-reply-clause-answers
+returns-in_err-reply-clause-answers g c = answers-failed _ c.from_residual.ensures.0
 
 pub returns-in-Ok-clause-answers : goal.returns-in-Ok-clause-answers
 returns-in-Ok-clause-answers g c =

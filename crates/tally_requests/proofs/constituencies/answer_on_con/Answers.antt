@@ -1,4 +1,4 @@
-use Rattle.std.proofs.Common.{◌≡◌, ◌∙◌, IsTrue, Some, ap, arith, subst, sym}
+use Rattle.std.proofs.Common.{◌≡◌, ◌∙◌, IsTrue, Some, ap, subst, sym}
 use Rattle.std.specs.FinMap.{get}
 use Rattle.std.specs.Option.{option_copied}
 use Rattle.sqlite.specs.State.{HasCleanDisk}
@@ -7,7 +7,8 @@ use Rattle.tally_setup.specs.Constituency.{Constituency}
 use Rattle.tally_setup.specs.Setup.{constituency_with}
 use Rattle.tally_returns.specs.Return.{Returns}
 use Rattle.tally_returns.proofs.ClosedLemmas.{constituency_with-code, constituency_with-own}
-use Rattle.tally_requests.proofs.AnswerLemmas.{on-answer, seen-carries, seen-known, still-state, still-unchanged, unknown-carried}
+use Rattle.tally_entries.proofs.LookLemmas.{clean_before}
+use Rattle.tally_requests.proofs.AnswerLemmas.{answers-failed, on-answer, seen-carries, seen-known, still-state, still-unchanged, unknown-carried}
 use Rattle.tally_requests.specs.internal.Known.{AreKnown, known_of}
 use Rattle.tally_requests.proofs.KnownLemmas.{con-returns, forgets-answered, forgets-remembered}
 use Rattle.tally_requests.proofs.UnwrittenLemmas.{unwritten-then}
@@ -32,6 +33,15 @@ returns-in_default-clause-answers g c =
       answered_open = opened.answered_open;
     }
 
+pub returns-in_err-see_open-clause-answers : goal.returns-in_err-see_open-clause-answers
+returns-in_err-see_open-clause-answers g c = answers-failed _ c.from_residual.ensures.0
+
+pub returns-in_err-view-clause-answers : goal.returns-in_err-view-clause-answers
+returns-in_err-view-clause-answers g c = answers-failed _ c.from_residual-in_err-view.ensures.0
+
+pub returns-in_err-remember-clause-answers : goal.returns-in_err-remember-clause-answers
+returns-in_err-remember-clause-answers g c = answers-failed _ c.from_residual-in_err-remember.ensures.0
+
 pub answer_seen-requires-clause-found : goal.answer_seen-requires-clause-found
 answer_seen-requires-clause-found g c =
     constituency_with-own c.args.setup.now c.args.code c.in-Some.con.now (sym c.con.ensures.found ∙ ap option_copied c.in-Some.is)
@@ -52,7 +62,7 @@ returns-clause-answers g c =
     let old = state g.S.Store c.args.tx.now.conn.now in
     let mid = state g.S.Store c.find_view.new.tx.conn.now in
     let new = state g.S.Store c.answer_seen.new.tx.conn.now in
-    let earlier : (HasCleanDisk new → HasCleanDisk mid) = λ clean. omega (arith, clean, c.answer_seen.ensures.stays.survives.clean) in
+    let earlier : (HasCleanDisk new → HasCleanDisk mid) = clean_before IsInside g.S.Store c.find_view.new.tx c.answer_seen.new.tx c.answer_seen.ensures.stays in
     let found : constituency_with c.args.code setup ≡ Some con = sym c.con.ensures.found ∙ ap option_copied c.in-Some.is in
     let here = constituency_with-own setup c.args.code con found in
     let known_here = c.known_at.ensures ∙ ap (get before) own in

@@ -1,4 +1,4 @@
-use Rattle.std.proofs.Common.{◌≡◌, ◌∙◌, ℕ, List, Some, map, rules, sym, ap, subst, arith}
+use Rattle.std.proofs.Common.{◌≡◌, ◌∙◌, ℕ, List, Some, map, rules, sym, ap, subst}
 use Rattle.sqlite.proofs.Callers.{unchanged_then}
 use Rattle.sqlite.specs.State.{HasCleanDisk}
 use Rattle.sqlite.specs.Held.{state}
@@ -10,6 +10,7 @@ use Rattle.tally_tables.specs.TablesOfState.{AreTables}
 use Rattle.tally_setup.specs.Constituency.{Constituency}
 use Rattle.tally_setup.specs.Setup.{constituency_with}
 use Rattle.tally_entries.proofs.FindLemmas.{inside_still}
+use Rattle.tally_entries.proofs.LookLemmas.{clean_before, look_fails}
 use Rattle.tally_keeper.proofs.SetupLemmas.{Has, con-only, has-at}
 use Rattle.tally_statements.specs.internal.Inside.{IsOpenInside}
 use Rattle.tally_statements.specs.Office.{IsInside}
@@ -49,7 +50,7 @@ loop-con-preserved g c =
     let ensured = c.find_progress_row.ensures in
     let has : Has con setup = subst (Has con) c.cons-cons.ensures.cons (subst (λ (x : Constituency). Has x cons) (sym c.con-item.is) (has-at cons i con c.loop-con-test.true)) in
     let there : constituency_with con.code setup ≡ Some con = con-only setup con c.cons-cons.ensures.limits has in
-    let before : HasCleanDisk new → HasCleanDisk mid = λ clean. omega (arith, clean, ensured.stays.survives.clean) in
+    let before : HasCleanDisk new → HasCleanDisk mid = clean_before IsOpenInside g.S.Store c.loop-con.tx c.find_progress_row.new.tx ensured.stays in
     let at : HasCleanDisk mid → IsInside old → IsOpenInside mid = λ early inside. (inside_still old mid (was.same early inside) inside, (was.same early inside).0.is_open) in
     let row_is : HasCleanDisk new → IsInside old → (text : List ℕ) (s : State) → IsLawfulState setup s → AreKnown setup s.returns (known_of c.args.known.now) → AreTables setup text s old.now.trees → row ≡ progress_row s con = λ clean inside text s lawful held tables.
     let early = before clean in
@@ -75,38 +76,36 @@ loop-con-preserved g c =
       was_open = λ clean. was.was_open (before clean);
     }
 
-pub returns-in_err-row-clause-stays : goal.returns-in_err-row-clause-stays
-returns-in_err-row-clause-stays g c =
+pub returns-in_err-standing-clause-reads : goal.returns-in_err-standing-clause-reads
+returns-in_err-standing-clause-reads g c = look_fails g.S.Store c.args.tx.now c.rows_of_cons.new.tx _ c.from_residual.ensures.0 c.rows_of_cons.ensures.reads.stays
+
+pub returns-in_err-row-clause-reads : goal.returns-in_err-row-clause-reads
+returns-in_err-row-clause-reads g c =
     let was = c.loop-con.invariant in
-    stays-on g.S.Store c.args.tx.now c.loop-con.tx c.find_progress_row.new.tx was.same was.stays c.find_progress_row.ensures.stays
+    let stays = stays-on g.S.Store c.args.tx.now c.loop-con.tx c.find_progress_row.new.tx was.same was.stays c.find_progress_row.ensures.stays in
+    look_fails g.S.Store c.args.tx.now c.find_progress_row.new.tx _ c.from_residual-in_err-row.ensures.0 stays
 
-pub returns-in_err-remember-clause-stays : goal.returns-in_err-remember-clause-stays
-returns-in_err-remember-clause-stays g c =
+pub returns-in_err-remember-clause-reads : goal.returns-in_err-remember-clause-reads
+returns-in_err-remember-clause-reads g c =
     let was = c.loop-con.invariant in
-    stays-on g.S.Store c.args.tx.now c.loop-con.tx c.find_progress_row.new.tx was.same was.stays c.find_progress_row.ensures.stays
+    let stays = stays-on g.S.Store c.args.tx.now c.loop-con.tx c.find_progress_row.new.tx was.same was.stays c.find_progress_row.ensures.stays in
+    look_fails g.S.Store c.args.tx.now c.find_progress_row.new.tx _ c.from_residual-in_err-remember.ensures.0 stays
 
-pub returns-in_err-push-clause-stays : goal.returns-in_err-push-clause-stays
-returns-in_err-push-clause-stays g c =
+pub returns-in_err-push-clause-reads : goal.returns-in_err-push-clause-reads
+returns-in_err-push-clause-reads g c =
     let was = c.loop-con.invariant in
-    stays-on g.S.Store c.args.tx.now c.loop-con.tx c.find_progress_row.new.tx was.same was.stays c.find_progress_row.ensures.stays
+    let stays = stays-on g.S.Store c.args.tx.now c.loop-con.tx c.find_progress_row.new.tx was.same was.stays c.find_progress_row.ensures.stays in
+    look_fails g.S.Store c.args.tx.now c.find_progress_row.new.tx _ c.from_residual-in_err-push.ensures.0 stays
 
-pub returns-clause-still : goal.returns-clause-still
-returns-clause-still g c clean inside =
-    still-unchanged (state g.S.Store c.args.tx.now.conn.now) (state g.S.Store c.loop-con.tx.conn.now) (c.loop-con.invariant.same clean inside) inside
-
-pub returns-clause-unchanged : goal.returns-clause-unchanged
-returns-clause-unchanged g c clean at = c.loop-con.invariant.same clean at.0
-
-pub returns-clause-answered_open : goal.returns-clause-answered_open
-returns-clause-answered_open g c = c.loop-con.invariant.was_open
+pub returns-clause-reads : goal.returns-clause-reads
+returns-clause-reads g c =
+    let was = c.loop-con.invariant in
+    record { stays = was.stays; same = was.same; answered_open = was.was_open }
 
 pub returns-clause-found : goal.returns-clause-found
 returns-clause-found g c clean inside text s lawful held tables =
     let all = take_all c.loop-con.con-index c.cons-cons.result.now c.loop-con-test.false in
     c.loop-con.invariant.found clean inside text s lawful held tables ∙ ap (map (progress_row s)) (all ∙ c.cons-cons.ensures.cons)
-
-pub returns-clause-stays : goal.returns-clause-stays
-returns-clause-stays g c = c.loop-con.invariant.stays
 
 pub returns-clause-known : goal.returns-clause-known
 returns-clause-known g c = c.loop-con.invariant.known

@@ -1,4 +1,4 @@
-use Rattle.std.proofs.Common.{◌≡◌, ◌∙◌, [], ap, subst, arith}
+use Rattle.std.proofs.Common.{◌≡◌, ◌∙◌, [], ap, subst}
 use Rattle.std.specs.Prelude.{⊤}
 use Rattle.sqlite.specs.Held.{state}
 use Rattle.sqlite.specs.State.{HasCleanDisk}
@@ -7,6 +7,7 @@ use Rattle.tally_statements.specs.declared.table.KeyedTable.TheVariants.{Lots}
 use Rattle.tally_tables.specs.Cells.{lot_rows}
 use Rattle.tally_entries.specs.internal.Constituencies.{HasLot}
 use Rattle.tally_entries.specs.internal.Entries.{ChangesReturn}
+use Rattle.tally_entries.proofs.LookLemmas.{clean_before}
 use Rattle.tally_requests.proofs.MovedLemmas.{queried_moved, queried_so}
 use Rattle.tally_requests.proofs.WriteLemmas.{HasMoved}
 use Rattle.tally_statements.specs.Office.{IsInside}
@@ -23,8 +24,8 @@ returns-clause-put g c clean inside setup place text s limits at lawful not_cert
     let mid = state g.S.Store c.uncount.new.tx.conn.now in
     let bare = state g.S.Store c.put_lot.new.tx.conn.now in
     let new = state g.S.Store c.change_return.new.tx.conn.now in
-    let later : HasCleanDisk bare = omega (arith, c.change_return.ensures.stays.survives.clean) in
-    let early : HasCleanDisk mid = omega (arith, c.put_lot.ensures.stays.survives.clean) in
+    let later : HasCleanDisk bare = clean_before (λ _. ⊤) g.S.Store c.put_lot.new.tx c.change_return.new.tx c.change_return.ensures.stays clean in
+    let early : HasCleanDisk mid = clean_before (λ _. ⊤) g.S.Store c.uncount.new.tx c.put_lot.new.tx c.put_lot.ensures.stays later in
     let key : c.as_str.result.now ≡ con.code = c.as_str.ensures.text ∙ ap (λ (x : Constituency). x.code) c.con.view_is in
     let sums = c.in_ok-uncount.ensures.uncounted early inside setup s station place standing limits at lawful stood (queried_so standing c.requires.queried) tables.totals in
     let lots : HasMoved Lots lot_rows con.code (HasLot []) mid bare = subst (λ k. HasMoved Lots lot_rows k (HasLot []) mid bare) key (c.in_ok-put_lot.ensures.lots later sums.0.inside) in

@@ -2,6 +2,7 @@ use Rattle.std.proofs.Common.{◌≡◌, length, ap, arith}
 use Rattle.std.specs.Option.{option_copied}
 use Rattle.sqlite.specs.Held.{state}
 use Rattle.tally_setup.specs.Constituency.{Constituency}
+use Rattle.tally_entries.proofs.LookLemmas.{look_as, look_fails}
 use Rattle.tally_requests.proofs.LodgedLemmas.{decided-is, reply-few}
 use Rattle.tally_requests.proofs.FoundLemmas.{few-lists}
 use Rattle.tally_requests.proofs.returns.decide_first.Goals as goal
@@ -22,10 +23,11 @@ decide_lodge-requires g c =
     let few = few-lists c.args.setup.now c.args.station con c.args.place.now c.requires.limits c.requires.known in
     omega (arith, same, few, c.len-lists.ensures, c.con.inside.lists.ok.0)
 
+pub returns-in_err-found-clause-reads : goal.returns-in_err-found-clause-reads
+returns-in_err-found-clause-reads g c = look_fails g.S.Store c.args.tx.now c.find_return.new.tx _ c.from_residual.ensures.0 c.find_return.ensures.reads.stays
+
 pub returns-clause-reads : goal.returns-clause-reads
-returns-clause-reads g c =
-    let found = c.in_ok-found.ensures.reads in
-    record { stays = c.find_return.ensures.reads.stays; same = found.same; answered_open = found.answered_open }
+returns-clause-reads g c = look_as g.S.Store c.args.tx.now c.find_return.new.tx _ _ c.in_ok-found.ensures.reads
 
 pub returns-clause-few : goal.returns-clause-few
 returns-clause-few g c rev lodged =

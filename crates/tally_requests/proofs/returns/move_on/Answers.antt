@@ -1,4 +1,4 @@
-use Rattle.std.proofs.Common.{◌≡◌, ◌∙◌, Ok, arith, ap, sym}
+use Rattle.std.proofs.Common.{◌≡◌, ◌∙◌, Ok, ap, sym}
 use Rattle.sqlite.specs.State.{HasCleanDisk}
 use Rattle.sqlite.specs.Held.{state}
 use Rattle.tally_setup.specs.Constituency.{Constituency}
@@ -7,7 +7,9 @@ use Rattle.tally_requests.specs.internal.Known.{known_of}
 use Rattle.tally_requests.specs.internal.Counting.{after_command}
 use Rattle.tally_statements.specs.Office.{IsInside}
 use Rattle.tally_statements.proofs.StaysLemmas.{stays-then}
-use Rattle.tally_requests.proofs.AnswerLemmas.{still-state, still-unchanged}
+use Rattle.tally_entries.proofs.FindLemmas.{inside_still}
+use Rattle.tally_entries.proofs.LookLemmas.{clean_before, look_then}
+use Rattle.tally_requests.proofs.AnswerLemmas.{answers-failed, still-state, still-unchanged}
 use Rattle.tally_requests.proofs.FoundLemmas.{few-lists, found-carries, move-nowhere}
 use Rattle.tally_requests.proofs.KnownLemmas.{command-known, forgets-commanded, nowhere-known}
 use Rattle.tally_requests.proofs.LodgedLemmas.{found-is}
@@ -30,24 +32,34 @@ returns-in_default-clause-answers g c =
       answered_open = opened.answered_open;
     }
 
+pub returns-in_err-see_open-clause-answers : goal.returns-in_err-see_open-clause-answers
+returns-in_err-see_open-clause-answers g c = answers-failed _ c.from_residual.ensures.0
+
+pub returns-in_err-certified-clause-answers : goal.returns-in_err-certified-clause-answers
+returns-in_err-certified-clause-answers g c = answers-failed _ c.from_residual-in_err-certified.ensures.0
+
+pub returns-in_err-found-clause-answers : goal.returns-in_err-found-clause-answers
+returns-in_err-found-clause-answers g c = answers-failed _ c.from_residual-in_err-found.ensures.0
+
+pub returns-in_err-answer-clause-answers : goal.returns-in_err-answer-clause-answers
+returns-in_err-answer-clause-answers g c = answers-failed _ c.from_residual-in_err-answer.ensures.0
+
 pub find_lawful-requires : goal.find_lawful-requires
 find_lawful-requires g c = record { few = few-lists c.args.setup.now c.args.station c.in-Some.con.now c.in-Some.place.now c.in-Some.ensures.limits (sym c.in-Some.ensures.found) }
 
+pub returns-in_err-found-clause-stays : goal.returns-in_err-found-clause-stays
+returns-in_err-found-clause-stays g c =
+    (look_then g.S.Store c.args.tx.now c.find_certified.new.tx c.find_lawful.new.tx c.in_ok-certified.certified c.find_lawful.result c.in_ok-certified.ensures.reads c.find_lawful.ensures.reads).stays
+
 pub returns-in_err-answer-clause-stays : goal.returns-in_err-answer-clause-stays
 returns-in_err-answer-clause-stays g c =
-    let old = state g.S.Store c.args.tx.now.conn.now in
-    let mid = state g.S.Store c.find_lawful.new.tx.conn.now in
-    let last = state g.S.Store c.find_certified.new.tx.conn.now in
-    let found = c.find_certified.ensures.reads.stays in
-    stays-then IsInside IsInside g.S.Store c.args.tx.now c.find_certified.new.tx c.move_found.new.tx
-    (λ later inside.
-    let early : HasCleanDisk mid = omega (arith, later, found.survives.clean) in
-    let one = still-unchanged old mid (c.in_ok-found.ensures.reads.same early inside) inside in
-    (still-unchanged mid last (c.in_ok-certified.ensures.reads.same later one.inside) one.inside).inside)
-    (stays-then IsInside IsInside g.S.Store c.args.tx.now c.find_lawful.new.tx c.find_certified.new.tx
-    (λ early inside. (still-unchanged old mid (c.in_ok-found.ensures.reads.same early inside) inside).inside)
-    c.find_lawful.ensures.reads.stays found)
-    c.move_found.ensures.stays
+    let both = look_then g.S.Store c.args.tx.now c.find_certified.new.tx c.find_lawful.new.tx c.in_ok-certified.certified (Ok c.in_ok-found.found) c.in_ok-certified.ensures.reads c.in_ok-found.ensures.reads in
+    stays-then IsInside IsInside g.S.Store c.args.tx.now c.find_lawful.new.tx c.move_found.new.tx (λ early inside. inside_still _ _ (both.same early inside) inside) both.stays c.move_found.ensures.stays
+
+pub returns-clause-stays : goal.returns-clause-stays
+returns-clause-stays g c =
+    let both = look_then g.S.Store c.args.tx.now c.find_certified.new.tx c.find_lawful.new.tx c.in_ok-certified.certified (Ok c.in_ok-found.found) c.in_ok-certified.ensures.reads c.in_ok-found.ensures.reads in
+    stays-then IsInside IsInside g.S.Store c.args.tx.now c.find_lawful.new.tx c.move_found.new.tx (λ early inside. inside_still _ _ (both.same early inside) inside) both.stays c.move_found.ensures.stays
 
 pub returns-clause-answers : goal.returns-clause-answers
 returns-clause-answers g c =
@@ -65,48 +77,26 @@ returns-clause-answers g c =
     let after = known_of c.count_command.new.known in
     let own : code ≡ con.code = ap (λ (x : Constituency). x.code) c.con.view_is in
     let old = state g.S.Store c.args.tx.now.conn.now in
-    let mid = state g.S.Store c.find_lawful.new.tx.conn.now in
-    let last = state g.S.Store c.find_certified.new.tx.conn.now in
+    let mid = state g.S.Store c.find_certified.new.tx.conn.now in
+    let last = state g.S.Store c.find_lawful.new.tx.conn.now in
     let new = state g.S.Store c.move_found.new.tx.conn.now in
-    let later : (HasCleanDisk new → HasCleanDisk last) = λ clean. omega (arith, clean, c.move_found.ensures.stays.survives.clean) in
-    let earlier : (HasCleanDisk new → HasCleanDisk mid) = λ clean. omega (arith, later clean, c.find_certified.ensures.reads.stays.survives.clean) in
+    let later : (HasCleanDisk new → HasCleanDisk last) = clean_before IsInside g.S.Store c.find_lawful.new.tx c.move_found.new.tx c.move_found.ensures.stays in
+    let earlier : (HasCleanDisk new → HasCleanDisk mid) = λ clean. clean_before IsInside g.S.Store c.find_certified.new.tx c.find_lawful.new.tx c.find_lawful.ensures.reads.stays (later clean) in
+    let both = look_then g.S.Store c.args.tx.now c.find_certified.new.tx c.find_lawful.new.tx c.in_ok-certified.certified (Ok found) c.in_ok-certified.ensures.reads c.in_ok-found.ensures.reads in
     record {
       kind = c.in_ok-answer.ensures.answers.kind;
       step = λ clean inside text s lawful held tables.
-          let one = still-unchanged old mid (c.in_ok-found.ensures.reads.same (earlier clean) inside) inside in
-          let two = still-unchanged mid last (c.in_ok-certified.ensures.reads.same (later clean) one.inside) one.inside in
+          let one = still-unchanged old mid (c.in_ok-certified.ensures.reads.same (earlier clean) inside) inside in
+          let two = still-unchanged mid last (c.in_ok-found.ensures.reads.same (later clean) one.inside) one.inside in
           found-carries setup con place station c.as_str.result.now c.in_ok-certified.certified found ask old mid last new (Ok answer) clean limits (sym c.in-Some.ensures.found) (c.as_str.ensures.text ∙ own) one two
-          (c.in_ok-found.ensures.found (earlier clean) inside) (c.in_ok-certified.ensures.found (later clean) one.inside) c.in_ok-answer.ensures.answers.step text s lawful tables;
+          (c.in_ok-certified.ensures.found (earlier clean) inside) (c.in_ok-found.ensures.found (later clean) one.inside) c.in_ok-answer.ensures.answers.step text s lawful tables;
       known = λ clean inside text s t lawful held tables answered.
+          let one = still-unchanged old mid (c.in_ok-certified.ensures.reads.same (earlier clean) inside) inside in
+          let there = (still-state setup text s old mid one tables).tables in
           command-known setup s t ask station code con place found status answer known after limits c.requires.named c.requires.moves (sym c.in-Some.ensures.found) own
-          (found-is setup text s station old found limits lawful tables (c.in_ok-found.ensures.found (earlier clean) inside)) c.status_found-before.ensures
+          (found-is setup text s station mid found limits lawful there (c.in_ok-found.ensures.found (later clean) one.inside)) c.status_found-before.ensures
           (c.count_command.ensures ∙ ap (λ b. after_command code ask status b known) c.is_ok.ensures.value) held answered;
       forgets = forgets-commanded code ask status c.is_ok.result known after c.count_command.ensures;
-      unwritten = unwritten-then old mid new (Ok answer) earlier (λ early inside. c.in_ok-found.ensures.reads.same early inside)
-          (unwritten-then mid last new (Ok answer) later (λ early inside. c.in_ok-certified.ensures.reads.same early inside) c.in_ok-answer.ensures.answers.unwritten);
-      answered_open = λ clean. c.in_ok-found.ensures.reads.answered_open (earlier clean);
+      unwritten = unwritten-then old last new (Ok answer) later both.same c.in_ok-answer.ensures.answers.unwritten;
+      answered_open = λ clean. both.answered_open (later clean);
     }
-
-pub returns-in_err-certified-clause-stays : goal.returns-in_err-certified-clause-stays
-returns-in_err-certified-clause-stays g c =
-    let old = state g.S.Store c.args.tx.now.conn.now in
-    let mid = state g.S.Store c.find_lawful.new.tx.conn.now in
-    stays-then IsInside IsInside g.S.Store c.args.tx.now c.find_lawful.new.tx c.find_certified.new.tx
-    (λ early inside. (still-unchanged old mid (c.in_ok-found.ensures.reads.same early inside) inside).inside)
-    c.find_lawful.ensures.reads.stays c.find_certified.ensures.reads.stays
-
-pub returns-clause-stays : goal.returns-clause-stays
-returns-clause-stays g c =
-    let old = state g.S.Store c.args.tx.now.conn.now in
-    let mid = state g.S.Store c.find_lawful.new.tx.conn.now in
-    let last = state g.S.Store c.find_certified.new.tx.conn.now in
-    let found = c.find_certified.ensures.reads.stays in
-    stays-then IsInside IsInside g.S.Store c.args.tx.now c.find_certified.new.tx c.move_found.new.tx
-    (λ later inside.
-    let early : HasCleanDisk mid = omega (arith, later, found.survives.clean) in
-    let one = still-unchanged old mid (c.in_ok-found.ensures.reads.same early inside) inside in
-    (still-unchanged mid last (c.in_ok-certified.ensures.reads.same later one.inside) one.inside).inside)
-    (stays-then IsInside IsInside g.S.Store c.args.tx.now c.find_lawful.new.tx c.find_certified.new.tx
-    (λ early inside. (still-unchanged old mid (c.in_ok-found.ensures.reads.same early inside) inside).inside)
-    c.find_lawful.ensures.reads.stays found)
-    c.move_found.ensures.stays

@@ -3,8 +3,12 @@ use Rattle.sqlite.specs.Held.{state}
 use Rattle.tally_returns.specs.Return.{StationReturn}
 use Rattle.tally_returns.specs.declared.reply.Reply.TheVariants.{Moved}
 use Rattle.tally_requests.specs.internal.Requests.{IsCarriedOut}
+use Rattle.tally_requests.proofs.AnswerLemmas.{so-failed}
 use Rattle.tally_requests.proofs.FoundLemmas.{few-lists, move-carried, moved-kind, put-decided, put-only}
 use Rattle.tally_requests.proofs.returns.put_next.Goals as goal
+
+pub returns-in_err-put_moved-clause-answers : goal.returns-in_err-put_moved-clause-answers
+returns-in_err-put_moved-clause-answers g c = so-failed _ c.from_residual.ensures.0 (λ _ _ _. tt)
 
 pub unreachable-requires : goal.unreachable-requires
 unreachable-requires g c =

@@ -2,8 +2,15 @@ use Rattle.std.proofs.Common.{◌∙◌, Ok, Err, rules, sym}
 use Rattle.sqlite.specs.Held.{state}
 use Rattle.tally_returns.specs.declared.refusal.Refusal.TheVariants.{NoReturn, NoStation}
 use Rattle.tally_returns.specs.declared.reply.Reply.TheVariants.{Return}
+use Rattle.tally_requests.proofs.AnswerLemmas.{so-failed}
 use Rattle.tally_requests.proofs.LodgedLemmas.{found-is, mapped-none, mapped-some, shown-carried, shown-none, shown-nowhere, shown-some, still}
 use Rattle.tally_requests.proofs.returns.show_return.Goals as goal
+
+pub returns-in_err-see_open-clause-answers : goal.returns-in_err-see_open-clause-answers
+returns-in_err-see_open-clause-answers g c = so-failed _ c.from_residual.ensures.0 (λ _ _ _. tt)
+
+pub returns-in_err-standing-clause-answers : goal.returns-in_err-standing-clause-answers
+returns-in_err-standing-clause-answers g c = so-failed _ c.from_residual-in_err-standing.ensures.0 (λ _ _ _. tt)
 
 pub returns-then-is_none-clause-answers : goal.returns-then-is_none-clause-answers
 returns-then-is_none-clause-answers g c =

@@ -12,6 +12,7 @@ use Rattle.tally_requests.specs.internal.Known.{known_of}
 use Rattle.tally_requests.proofs.KnownLemmas.{forgets-row, forgets-then}
 use Rattle.tally_requests.proofs.RowLemmas.{came-end, came-fault, came-next, came-own, came-start, counted-next, rows-end, rows-named, rows-next, rows-start}
 use Rattle.tally_entries.proofs.FindLemmas.{inside_still}
+use Rattle.tally_entries.proofs.LookLemmas.{clean_before}
 use Rattle.tally_requests.proofs.UnwrittenLemmas.{none-lodged}
 use Rattle.tally_statements.proofs.StaysLemmas.{stays-same, stays-then}
 use Rattle.tally_requests.proofs.rows.take_rows.Goals as goal
@@ -55,7 +56,7 @@ loop-before-preserved g c =
       came = came-next all came comes c.loop-before.before row was.came c.take_row.ensures.codes given;
       counted = counted-next c.loop-before.count c.add_row.new.self c.loop-before.before c.in_ok-answer.answer was.counted c.add_row.ensures;
       taken = λ clean inside text s lawful tables.
-          let early : HasCleanDisk mid = omega (arith, c.take_row.ensures.stays.survives.clean) in
+          let early : HasCleanDisk mid = clean_before IsInside g.S.Store c.loop-before.tx c.take_row.new.tx c.take_row.ensures.stays clean in
           let so_far = was.taken early inside text s lawful tables in
           rows-next setup text s all came comes c.loop-before.count c.add_row.new.self c.loop-before.before row c.in_ok-answer.answer (known_of c.args.known.now) (known_of c.loop-before.known) (known_of c.take_row.new.known)
           c.args.named.now.items c.loop-before.named.items c.take_row.new.named.items mid new c.cons-cons.ensures.limits so_far c.take_row.ensures.codes given
@@ -65,7 +66,7 @@ loop-before-preserved g c =
           let after = known_of c.take_row.new.known in
           forgets-then (known_of c.args.known.now) known after was.forgets (forgets-row setup row c.in_ok-answer.answer known after c.in_ok-answer.ensures.known);
       unwritten = λ clean at none.
-          let early : HasCleanDisk mid = omega (arith, clean, c.take_row.ensures.stays.survives.clean) in
+          let early : HasCleanDisk mid = clean_before IsInside g.S.Store c.loop-before.tx c.take_row.new.tx c.take_row.ensures.stays clean in
           let both = none-lodged c.loop-before.count c.add_row.new.self (c.loop-before.before + 1) c.in_ok-answer.answer c.add_row.ensures none in
           let same = was.unwritten early at both.0 in
           unchanged_then old mid new same (c.in_ok-answer.ensures.unwritten clean (inside_still old mid same at.0, same.0.is_open) both.1);

@@ -7,6 +7,7 @@ use Rattle.tally_setup.specs.Setup.{constituency_with}
 use Rattle.tally_returns.specs.View.{View}
 use Rattle.tally_requests.specs.internal.Known.{known_of}
 use Rattle.tally_requests.specs.internal.Shown.{FindsShown}
+use Rattle.tally_entries.proofs.LookLemmas.{look_as, look_fails}
 use Rattle.tally_requests.proofs.KnownLemmas.{forgets-remembered}
 use Rattle.tally_requests.proofs.ShownLemmas.{unknown-shown, view-known, view-shown}
 use Rattle.tally_requests.proofs.shown.show_con_in.Goals as goal
@@ -45,11 +46,16 @@ returns-clause-forgets g c =
     forgets-remembered (known_of c.args.known.now) (known_of c.remember.new.known) c.con-2.inside.code c.statuses_of.result c.in_ok-remember.ensures
 
 pub returns-clause-reads : goal.returns-clause-reads
-returns-clause-reads g c =
-    let found = c.in_ok-view.ensures.reads in
-    record { stays = c.find_view.ensures.reads.stays; same = found.same; answered_open = found.answered_open }
+returns-clause-reads g c = look_as g.S.Store c.args.tx.now c.find_view.new.tx _ _ c.in_ok-view.ensures.reads
 
 pub returns-in_default-clause-reads : goal.returns-in_default-clause-reads
-returns-in_default-clause-reads g c =
-    let opened = c.in_ok-see_open.ensures.reads in
-    record { stays = c.see_open.ensures.reads.stays; same = opened.same; answered_open = opened.answered_open }
+returns-in_default-clause-reads g c = look_as g.S.Store c.args.tx.now c.see_open.new.tx _ _ c.in_ok-see_open.ensures.reads
+
+pub returns-in_err-see_open-clause-reads : goal.returns-in_err-see_open-clause-reads
+returns-in_err-see_open-clause-reads g c = look_fails g.S.Store c.args.tx.now c.see_open.new.tx _ c.from_residual.ensures.0 c.see_open.ensures.reads.stays
+
+pub returns-in_err-view-clause-reads : goal.returns-in_err-view-clause-reads
+returns-in_err-view-clause-reads g c = look_fails g.S.Store c.args.tx.now c.find_view.new.tx _ c.from_residual-in_err-view.ensures.0 c.find_view.ensures.reads.stays
+
+pub returns-in_err-remember-clause-reads : goal.returns-in_err-remember-clause-reads
+returns-in_err-remember-clause-reads g c = look_fails g.S.Store c.args.tx.now c.find_view.new.tx _ c.from_residual-in_err-remember.ensures.0 c.find_view.ensures.reads.stays

@@ -8,6 +8,7 @@ use Rattle.tally_returns.specs.StationRows.{station_row}
 use Rattle.tally_statements.specs.Office.{IsInside}
 use Rattle.tally_statements.proofs.StaysLemmas.{stays-same, stays-then}
 use Rattle.tally_entries.proofs.FindLemmas.{inside_still}
+use Rattle.tally_entries.proofs.LookLemmas.{clean_before}
 use Rattle.tally_requests.proofs.AnswerLemmas.{rows-more}
 use Rattle.tally_requests.proofs.StationLemmas.{station-row}
 use Rattle.tally_requests.proofs.stations.find_rows.Goals as goal
@@ -34,7 +35,7 @@ loop-station-preserved g c =
     let ensured = c.find_return.ensures.reads in
     let i = c.loop-station.station-index in
     let station = c.station-item.result in
-    let before : HasCleanDisk new → HasCleanDisk mid = λ clean. omega (arith, clean, ensured.stays.survives.clean) in
+    let before : HasCleanDisk new → HasCleanDisk mid = clean_before IsInside g.S.Store c.loop-station.tx c.find_return.new.tx ensured.stays in
     record {
       stays = stays-then IsInside IsInside g.S.Store c.args.tx.now c.loop-station.tx c.find_return.new.tx was.inside was.stays ensured.stays;
       inside = λ clean inside. let there = was.inside (before clean) inside in inside_still mid new (c.in_ok-found.ensures.reads.same clean there) there;

@@ -4,6 +4,7 @@ use Rattle.sqlite.specs.Held.{state}
 use Rattle.tally_setup.specs.Constituency.{Constituency}
 use Rattle.tally_setup.specs.Limits.{IsConstituency}
 use Rattle.tally_setup.specs.Setup.{constituency_with}
+use Rattle.tally_entries.proofs.LookLemmas.{look_as, look_fails}
 use Rattle.tally_requests.specs.internal.Stations.{FindsRows}
 use Rattle.tally_requests.proofs.StationLemmas.{known-stations, some-station, unknown-stations}
 use Rattle.tally_requests.proofs.stations.show_returns_in.Goals as goal
@@ -14,6 +15,15 @@ returns-in_default-clause-refused g c = (refl, sym c.con.ensures.found ∙ ap op
 pub returns-in_default-clause-shown : goal.returns-in_default-clause-shown
 returns-in_default-clause-shown g c clean inside =
     unknown-stations c.args.setup.now c.args.code (state g.S.Store c.args.tx.now.conn.now) (sym c.con.ensures.found ∙ ap option_copied c.in_default.is)
+
+pub returns-in_err-see_open-clause-reads : goal.returns-in_err-see_open-clause-reads
+returns-in_err-see_open-clause-reads g c = look_fails g.S.Store c.args.tx.now c.see_open.new.tx _ c.from_residual.ensures.0 c.see_open.ensures.reads.stays
+
+pub returns-in_default-clause-reads : goal.returns-in_default-clause-reads
+returns-in_default-clause-reads g c = look_as g.S.Store c.args.tx.now c.see_open.new.tx _ _ c.in_ok-see_open.ensures.reads
+
+pub returns-in_err-rows-clause-reads : goal.returns-in_err-rows-clause-reads
+returns-in_err-rows-clause-reads g c = look_fails g.S.Store c.args.tx.now c.find_rows.new.tx _ c.from_residual-in_err-rows.ensures.0 c.find_rows.ensures.stays
 
 pub returns-clause-reads : goal.returns-clause-reads
 returns-clause-reads g c =

@@ -1,10 +1,14 @@
 use Rattle.std.proofs.Common.{◌≡◌, ◌∙◌, length, ap, sym, subst, arith}
+use Rattle.std.specs.Prelude.{⊤}
 use Rattle.sqlite.specs.State.{HasCleanDisk}
 use Rattle.sqlite.specs.Held.{state}
 use Rattle.tally_setup.specs.Constituency.{Constituency}
 use Rattle.tally_returns.specs.Counts.{VoteCounts}
 use Rattle.tally_entries.specs.internal.Constituencies.{ChangesSums, FindsSums}
+use Rattle.tally_entries.proofs.LookLemmas.{clean_before}
 use Rattle.tally_requests.proofs.TotalLemmas.{moved-long, sums-written}
+use Rattle.tally_statements.specs.Office.{IsInside}
+use Rattle.tally_statements.proofs.StaysLemmas.{stays-then}
 use Rattle.tally_requests.proofs.sums.move_sums.Goals as goal
 
 pub put_sums-requires : goal.put_sums-requires
@@ -18,6 +22,9 @@ put_sums-requires g c =
       lists = c.in-Some.ensures.0.votes.lists ∙ sym long;
     }
 
+pub returns-clause-stays : goal.returns-clause-stays
+returns-clause-stays g c = stays-then IsInside (λ _. ⊤) g.S.Store c.args.tx.now c.find_sums.new.tx c.put_sums.new.tx (λ _ _. tt) c.find_sums.ensures.reads.stays c.put_sums.ensures.stays
+
 pub returns-clause-moved : goal.returns-clause-moved
 returns-clause-moved g c clean inside =
     let con = c.args.con.now in
@@ -26,7 +33,7 @@ returns-clause-moved g c clean inside =
     let old = state g.S.Store c.args.tx.now.conn.now in
     let mid = state g.S.Store c.find_sums.new.tx.conn.now in
     let new = state g.S.Store c.put_sums.new.tx.conn.now in
-    let early : HasCleanDisk mid = omega (arith, clean, c.put_sums.ensures.stays.survives.clean) in
+    let early : HasCleanDisk mid = clean_before (λ _. ⊤) g.S.Store c.find_sums.new.tx c.put_sums.new.tx c.put_sums.ensures.stays clean in
     let votes : length c.sums.inside.votes.items ≡ length found.votes = ap (λ (v : VoteCounts). length v.votes) c.sums.view_is in
     let lists : length c.con.inside.lists.items ≡ length con.lists = ap (λ (k : Constituency). length k.lists) c.con.view_is in
     let many : length found.votes ≡ length con.lists = omega (arith, votes, lists, c.len.ensures, c.len-2.ensures, c.sums.inside.votes.ok.0, c.con.inside.lists.ok.0, c.if-len.false) in

@@ -35,13 +35,14 @@ loop-con-preserved c =
     c.in_ok-con.ensures.taken ∙ ap (λ taken. taken ++ con.code ∷ []) c.loop-con.invariant.1 ∙ sym (map-append (λ (v : Constituency). v.code) c.loop-con.cons.items (con ∷ [])) in
     let stations : c.constituency_entry.new.stations ≡ all_station_codes (c.loop-con.cons.items ++ con ∷ []) =
     c.in_ok-con.ensures.stations ∙ ap (λ taken. taken ++ station_codes con.stations) c.loop-con.invariant.2 ∙ sym (all_station_codes-push c.loop-con.cons.items con) in
-    rw c.in_ok-push.ensures.items (
+    rw c.push_reserved.ensures.items (
       read-more (constituency_entry profiles) _ _ _ _ _ c.loop-con.invariant.0 c.loop-con-test.true c.con-item.is one,
       codes,
       stations,
       c.in_ok-con.ensures.distinct,
       c.in_ok-con.ensures.distinct_stations,
       All-push IsConstituency _ _ c.loop-con.invariant.5 c.in_ok-con.ensures.limits,
+      rw c.push_reserved.ensures.capacity c.loop-con.invariant.6,
     )
 
 pub returns-clause-setup : goal.returns-clause-setup
@@ -67,4 +68,5 @@ loop-con-init c =
       λ i j d _ within _. absurd (omega arith),
       λ i j d _ within _. absurd (omega arith),
       All-nil IsConstituency,
+      c.in_ok-cons.ensures.capacity,
     )

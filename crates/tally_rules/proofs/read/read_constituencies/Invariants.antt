@@ -1,4 +1,4 @@
-use Rattle.std.proofs.Common.{◌≡◌, All}
+use Rattle.std.proofs.Common.{◌≡◌, ◌≤◌, All, length, vec_capacity}
 use Rattle.tally_setup.specs.Codes.{AreDistinct}
 use Rattle.tally_setup.specs.Limits.{IsConstituency}
 use Rattle.tally_rules.specs.Reading.{constituency_entry}
@@ -14,3 +14,4 @@ invariant-loop-con l =
     × AreDistinct l.codes
     × AreDistinct l.stations
     × All IsConstituency l.cons.items
+    × (length l.entries ≤ vec_capacity l.cons)

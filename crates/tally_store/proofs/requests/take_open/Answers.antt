@@ -1,4 +1,4 @@
-use Rattle.std.proofs.Common.{arith, sym, subst}
+use Rattle.std.proofs.Common.{sym, subst}
 use Rattle.std.proofs.lemmas.Result.{IfOk-weaker, on_ok_weaker}
 use Rattle.sqlite.proofs.Callers.{unchanged_then}
 use Rattle.sqlite.specs.Effect.{Database}
@@ -7,6 +7,7 @@ use Rattle.sqlite.specs.Held.{state}
 use Rattle.tally_keeper.specs.Delivery.{source_at}
 use Rattle.tally_keeper.proofs.TakenLemmas.{own-first}
 use Rattle.tally_requests.specs.internal.Inside.{IsLawfulInside}
+use Rattle.tally_opening.proofs.ReturnLemmas.{clean_first}
 use Rattle.tally_statements.proofs.StaysLemmas.{stays-then}
 use Rattle.tally_tables.specs.TablesOfState.{AreTables}
 use Rattle.tally_store.proofs.RequestLemmas.{inside_still, lawful_still, on_ok, stays_in_state}
@@ -23,7 +24,7 @@ returns-in-Ok-clause-stays g c =
 pub returns-in-Ok-clause-was_open : goal.returns-in-Ok-clause-was_open
 returns-in-Ok-clause-was_open g c clean =
     let mid = state g.S.Store c.see_open.new.tx.conn.now in
-    let early : HasCleanDisk mid = omega (arith, clean, c.take_rows.ensures.stays.survives.clean) in
+    let early : HasCleanDisk mid = clean_first c.take_rows.ensures.stays.survives clean in
     on_ok c.take_rows.result (c.in-Ok.ensures.reads.answered_open early)
 
 pub returns-in-Err-clause-stays : goal.returns-in-Err-clause-stays
@@ -37,12 +38,12 @@ returns-in-Ok-clause-lodges g c =
     let ensured = c.take_rows.ensures.lodges in
     record {
       imported = λ clean inside.
-          let early : HasCleanDisk mid = omega (arith, clean, c.take_rows.ensures.stays.survives.clean) in
+          let early : HasCleanDisk mid = clean_first c.take_rows.ensures.stays.survives clean in
           let same : IsUnchanged old mid = c.in-Ok.ensures.reads.same early inside in
           IfOk-weaker c.take_rows.result _ _ (λ r imported text s lawful tables. imported text s lawful (subst (λ (d : Database). AreTables setup text s d.trees) (sym same.0.now_is) tables))
           (ensured.imported clean (inside_still old mid same inside));
       unwritten = λ clean at.
-          let early : HasCleanDisk mid = omega (arith, clean, c.take_rows.ensures.stays.survives.clean) in
+          let early : HasCleanDisk mid = clean_first c.take_rows.ensures.stays.survives clean in
           let same : IsUnchanged old mid = c.in-Ok.ensures.reads.same early at.0 in
           IfOk-weaker c.take_rows.result _ _ (λ count writes none. unchanged_then old mid (state g.S.Store c.take_rows.new.tx.conn.now) same (writes none))
           (ensured.unwritten clean (inside_still old mid same at.0, same.0.is_open));
@@ -65,7 +66,7 @@ returns-in-Ok-clause-named g c clean inside =
     let setup = c.args.setup.now in
     let old = state g.S.Store c.args.tx.now.conn.now in
     let mid = state g.S.Store c.see_open.new.tx.conn.now in
-    let early : HasCleanDisk mid = omega (arith, clean, c.take_rows.ensures.stays.survives.clean) in
+    let early : HasCleanDisk mid = clean_first c.take_rows.ensures.stays.survives clean in
     let same : IsUnchanged old mid = c.in-Ok.ensures.reads.same early inside in
     on_ok_weaker c.take_rows.result (λ names text s lawful tables. names text s lawful (subst (λ (d : Database). AreTables setup text s d.trees) (sym same.0.now_is) tables))
     (c.take_rows.ensures.named clean (inside_still old mid same inside))

@@ -1,10 +1,11 @@
-use Rattle.std.proofs.Common.{◌≡◌, Some, arith, refl, rules, subst, sym, true}
+use Rattle.std.proofs.Common.{◌≡◌, Some, refl, rules, subst, sym, true}
 use Rattle.std.proofs.lemmas.Result.{IfOk-weaker, on_ok_weaker}
 use Rattle.sqlite.specs.State.{HasCleanDisk}
 use Rattle.sqlite.specs.Held.{state}
 use Rattle.tally_statements.specs.Office.{IsInside}
 use Rattle.tally_tables.specs.TablesOfState.{AreTables}
 use Rattle.tally_opening.specs.internal.Ending.{EndsUnchanged}
+use Rattle.tally_opening.proofs.ReturnLemmas.{clean_first}
 use Rattle.tally_store.proofs.TrialLemmas.{undone_ends}
 use Rattle.tally_store.proofs.requests.take_undone.Goals as goal
 
@@ -27,7 +28,7 @@ returns-clause-tried g c clean text s lawful has =
     let begun = c.transaction-tx.ensures.begun in
     let ends : c.rollback.new.self.0 ≡ c.conn-1.given.0 = search rules in
     let clean_end : HasCleanDisk (state g.S.Store c.rollback.new.self.0) = subst (λ (h : _). HasCleanDisk (state g.S.Store h)) (sym ends) clean in
-    let early : HasCleanDisk last = omega (arith, c.rollback.ensures.survives.clean) in
+    let early : HasCleanDisk last = clean_first c.rollback.ensures.survives clean_end in
     let here : IsInside bare = rw begun (record { schema = has.schema; sound = has.sound; distinct = has.distinct; inside = refl }) in
     let held : AreTables c.args.setup.now text s bare.now.trees = rw begun has.tables in
     IfOk-weaker c.take_open-taken.result _ _ (λ count all. let done = (all text s lawful held).0 in (Some done.state, done.imported)) (c.take_open-taken.ensures.lodges.imported early here)
@@ -39,7 +40,7 @@ returns-clause-named g c clean text s lawful has =
     let begun = c.transaction-tx.ensures.begun in
     let ends : c.rollback.new.self.0 ≡ c.conn-1.given.0 = search rules in
     let clean_end : HasCleanDisk (state g.S.Store c.rollback.new.self.0) = subst (λ (h : _). HasCleanDisk (state g.S.Store h)) (sym ends) clean in
-    let early : HasCleanDisk last = omega (arith, c.rollback.ensures.survives.clean) in
+    let early : HasCleanDisk last = clean_first c.rollback.ensures.survives clean_end in
     let here : IsInside bare = rw begun (record { schema = has.schema; sound = has.sound; distinct = has.distinct; inside = refl }) in
     let held : AreTables c.args.setup.now text s bare.now.trees = rw begun has.tables in
     on_ok_weaker c.take_open-taken.result (λ names. names text s lawful held) (c.take_open-taken.ensures.named early here)

@@ -1,9 +1,9 @@
-use Rattle.std.proofs.Common.{arith}
 use Rattle.std.proofs.lemmas.Result.{err_from_is_err_and}
 use Rattle.sqlite.specs.State.{HasCleanDisk}
 use Rattle.sqlite.specs.Held.{state}
 use Rattle.tally_keeper.specs.Delivery.{delivery}
 use Rattle.tally_keeper.proofs.TakenLemmas.{own-last}
+use Rattle.tally_opening.proofs.ReturnLemmas.{clean_first}
 use Rattle.tally_store.proofs.TrialLemmas.{ends_then, unwritten_ends}
 use Rattle.tally_store.proofs.requests.try_rows.Goals as goal
 
@@ -33,12 +33,12 @@ returns-clause-ends g c =
 
 pub returns-clause-tried : goal.returns-clause-tried
 returns-clause-tried g c clean text s lawful has =
-    let early : HasCleanDisk (state g.S.Store c.take_undone.new.conn) = omega (arith, clean, c.see_not_shut.ensures.ends.survives.clean) in
+    let early : HasCleanDisk (state g.S.Store c.take_undone.new.conn) = clean_first c.see_not_shut.ensures.ends.survives clean in
     c.in_ok-count.ensures.tried early text s lawful has
 
 pub returns-clause-named : goal.returns-clause-named
 returns-clause-named g c clean text s lawful has =
-    let early : HasCleanDisk (state g.S.Store c.take_undone.new.conn) = omega (arith, clean, c.see_not_shut.ensures.ends.survives.clean) in
+    let early : HasCleanDisk (state g.S.Store c.take_undone.new.conn) = clean_first c.see_not_shut.ensures.ends.survives clean in
     c.in_ok-count.ensures.named early text s lawful has
 
 pub returns-clause-unwritten : goal.returns-clause-unwritten

@@ -1,7 +1,23 @@
-use Rattle.std.proofs.Common.{◌≡◌, ◌<◌, ◌∙◌, length, ap, length-append, subst, arith}
+use Rattle.std.proofs.Common.{◌≡◌, ◌<◌, ◌∙◌, ℕ, List, Option, length, ap, length-append, subst, sym, arith}
 use Rattle.tally_records.specs.Watch.{flag_after_end}
+use Rattle.tally_records.specs.internal.Pieces.{HoldsMore, HoldsNoMore}
+use Rattle.tally_records.specs.declared.held.HeldText.{HeldText}
 use Rattle.tally_records.proofs.InputLemmas.{Fills-too_long, HoldsMore-end, HoldsMore-on}
 use Rattle.tally_records.proofs.held.HeldText.fill.Goals as goal
+
+-- what is held beyond what was held before has come from the reader
+no-more : (old_left left : Option (List ℕ)) (old new : HeldText) → HoldsMore old_left left old new → HoldsNoMore old new
+no-more old_left left old new came = omega (arith, came.2, ap length came.1, length-append old.bytes.items came.0)
+
+pub returns-in-Some-clause-few : goal.returns-in-Some-clause-few
+returns-in-Some-clause-few g c =
+    let ended = c.in_ok-end.ensures.ended c.in-Some.end c.in-Some.is in
+    subst (HoldsNoMore c.args.self.now) (sym ended.0)
+    (no-more (g.R.Read.remaining c.args.input.now) (g.R.Read.remaining c.loop-buffer.input) c.args.self.now c.loop-buffer.self c.loop-buffer.invariant.came)
+
+pub returns-then-self-le-SIZE_LIMIT-2-clause-few : goal.returns-then-self-le-SIZE_LIMIT-2-clause-few
+returns-then-self-le-SIZE_LIMIT-2-clause-few g c =
+    no-more (g.R.Read.remaining c.args.input.now) (g.R.Read.remaining c.loop-buffer.input) c.args.self.now c.loop-buffer.self c.loop-buffer.invariant.came
 
 pub returns-in-Some-clause-fills : goal.returns-in-Some-clause-fills
 returns-in-Some-clause-fills g c =

@@ -22,11 +22,11 @@ pieces-preserved g c =
     let left = g.R.Read.remaining c.pieces.input in
     let read = c.in_ok-next_in_piece.ensures in
     record {
-      reading = c.in_ok-read_on.ensures.reading;
-      given = λ text given has. c.in_ok-read_on.ensures.given text given
+      reading = c.in_ok-self.ensures.reading;
+      given = λ text given has. c.in_ok-self.ensures.given text given
           (subst (HasGivenAt text left given) (sym (read.same c.if-not-branch.true)) (c.pieces.invariant.given text given has));
-      agrees = λ before ensured. subst (λ flag. c.read_on.new.watch.failed ≡ flag_after_end c.read_on.new.self.end flag)
+      agrees = λ before ensured. subst (λ flag. c.read_on.new.watch.failed ≡ flag_after_end c.in_ok-self.field-0.end flag)
           (subst (λ e. c.pieces.watch.failed ≡ flag_after_end e before) (sym c.next_in_piece.ensures.end ∙ c.in_default.is) (c.pieces.invariant.agrees before ensured))
-          c.in_ok-read_on.ensures.failed;
-      sep = c.read_on.ensures.sep ∙ c.next_in_piece.ensures.sep ∙ c.pieces.invariant.sep;
+          c.in_ok-self.ensures.failed;
+      sep = c.in_ok-self.ensures.sep ∙ c.next_in_piece.ensures.sep ∙ c.pieces.invariant.sep;
     }

@@ -31,12 +31,16 @@ returns-in_err-name-clause-fault c =
 
 pub loop-name-preserved : goal.loop-name-preserved
 loop-name-preserved c =
-    let items : map string_bytes c.push.new.self.items ≡ map string_bytes c.loop-name.names.items ++ string_bytes c.in_ok-name.name ∷ [] =
-    ap (map string_bytes) c.in_ok-push.ensures.items ∙ map-append string_bytes c.loop-name.names.items (c.in_ok-name.name ∷ []) in
+    let items : map string_bytes c.push_reserved.new.self.items ≡ map string_bytes c.loop-name.names.items ++ string_bytes c.in_ok-name.name ∷ [] =
+    ap (map string_bytes) c.push_reserved.ensures.items ∙ map-append string_bytes c.loop-name.names.items (c.in_ok-name.name ∷ []) in
     let len : c.len.result ≡ length c.loop-name.names.items = search rules in
     let before = ap (λ n. candidate c.args.con.now c.args.list.now (n + 1) (view c.name-item.result)) (length-map c.loop-name.names.items string_bytes ∙ sym len) in
     let one : read c.args.con.now c.args.list.now (map string_bytes c.loop-name.names.items) (view c.name-item.result) ≡ Ok (string_bytes c.in_ok-name.name) = before ∙ c.in_ok-name.ensures.name in
-    rw items (read-more (read c.args.con.now c.args.list.now) _ _ _ _ _ c.loop-name.invariant.0 c.loop-name-test.true c.name-item.is one, All-push IsName _ _ c.loop-name.invariant.1 c.in_ok-name.ensures.limits)
+    rw items (
+      read-more (read c.args.con.now c.args.list.now) _ _ _ _ _ c.loop-name.invariant.0 c.loop-name-test.true c.name-item.is one,
+      All-push IsName _ _ c.loop-name.invariant.1 c.in_ok-name.ensures.limits,
+      rw c.push_reserved.ensures.capacity c.loop-name.invariant.2,
+    )
 
 pub returns-clause-candidates : goal.returns-clause-candidates
 unfolding read_candidates

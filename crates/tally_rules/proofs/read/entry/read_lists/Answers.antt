@@ -35,11 +35,12 @@ loop-list-preserved c =
     let one : read c.args.con.now c.loop-list.lists.items (view c.list-item.result) ≡ Ok list = ap (λ taken. list_entry c.args.con.now taken (view c.list-item.result)) (sym c.loop-list.invariant.1) ∙ c.in_ok-list_entry.ensures.list in
     let codes : c.list_entry.new.taken ≡ list_codes (c.loop-list.lists.items ++ list ∷ []) =
     c.in_ok-list_entry.ensures.taken ∙ ap (λ taken. taken ++ list.code ∷ []) c.loop-list.invariant.1 ∙ sym (map-append (λ (l : ListEntry). l.code) c.loop-list.lists.items (list ∷ [])) in
-    rw c.in_ok-push.ensures.items (
+    rw c.push_reserved.ensures.items (
       read-more (read c.args.con.now) _ _ _ _ _ c.loop-list.invariant.0 c.loop-list-test.true c.list-item.is one,
       codes,
       c.in_ok-list_entry.ensures.distinct,
       All-push IsListEntry _ _ c.loop-list.invariant.3 c.in_ok-list_entry.ensures.limits,
+      rw c.push_reserved.ensures.capacity c.loop-list.invariant.4,
     )
 
 pub returns-clause-lists : goal.returns-clause-lists
@@ -62,4 +63,5 @@ loop-list-init c =
       refl,
       λ i j d _ within _. absurd (omega arith),
       All-nil IsListEntry,
+      c.in_ok-lists.ensures.capacity,
     )

@@ -1,4 +1,4 @@
-use Rattle.std.proofs.Common.{◌≡◌, All}
+use Rattle.std.proofs.Common.{◌≡◌, ◌≤◌, All, length, vec_capacity}
 use Rattle.tally_setup.specs.Codes.{AreDistinct}
 use Rattle.tally_setup.specs.Limits.{IsListEntry}
 use Rattle.tally_setup.specs.Constituency.{list_codes}
@@ -12,3 +12,4 @@ invariant-loop-list l =
     × (l.codes ≡ list_codes l.lists.items)
     × AreDistinct l.codes
     × All IsListEntry l.lists.items
+    × (length l.entries ≤ vec_capacity l.lists)

@@ -1,4 +1,4 @@
-use Rattle.std.proofs.Common.{◌≡◌, ◌++◌, ◌∷◌, [], Ok, ap, ◌∙◌, sym, List, append_assoc}
+use Rattle.std.proofs.Common.{◌≡◌, ◌++◌, ◌∷◌, [], Ok, ap, ◌∙◌, sym, append_assoc}
 use Rattle.toml.specs.View.{view}
 use Rattle.std.proofs.lemmas.List.{map-append}
 use Rattle.std.proofs.lemmas.List.Elements.{All-push}
@@ -29,11 +29,12 @@ loop-station-preserved c =
     ∙ ap (λ t. t ++ station.code ∷ []) c.loop-station.invariant.1
     ∙ append_assoc taken (station_codes c.loop-station.stations.items) (station.code ∷ [])
     ∙ ap (λ t. taken ++ t) (sym (map-append (λ (s : Station). s.code) c.loop-station.stations.items (station ∷ []))) in
-    rw c.in_ok-push.ensures.items (
+    rw c.push_reserved.ensures.items (
       read-more (station_entry c.args.before.now c.args.con.now) _ _ _ _ _ c.loop-station.invariant.0 c.loop-station-test.true c.station-item.is one,
       codes,
       c.in_ok-station.ensures.distinct,
       All-push IsStation _ _ c.loop-station.invariant.3 c.in_ok-station.ensures.limits,
+      rw c.push_reserved.ensures.capacity c.loop-station.invariant.4,
     )
 
 pub returns-clause-stations : goal.returns-clause-stations

@@ -1,4 +1,4 @@
-use Rattle.std.proofs.Common.{◌≡◌, ◌++◌, All}
+use Rattle.std.proofs.Common.{◌≡◌, ◌≤◌, ◌++◌, All, length, vec_capacity}
 use Rattle.tally_setup.specs.Codes.{AreDistinct}
 use Rattle.tally_setup.specs.Limits.{IsStation}
 use Rattle.tally_setup.specs.Constituency.{station_codes}
@@ -13,3 +13,4 @@ invariant-loop-station l =
     × (l.taken ≡ all_station_codes l.before ++ station_codes l.stations.items)
     × AreDistinct l.taken
     × All IsStation l.stations.items
+    × (length l.entries ≤ vec_capacity l.stations)

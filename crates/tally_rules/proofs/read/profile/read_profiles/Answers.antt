@@ -29,10 +29,11 @@ loop-profile-preserved c =
     let one : read c.loop-profile.profiles.items (view c.profile-item.result) ≡ Ok profile = ap (λ taken. profile_entry taken (view c.profile-item.result)) (sym c.loop-profile.invariant.1) ∙ c.in_ok-profile_entry.ensures.profile in
     let codes : c.profile_entry.new.taken ≡ profile_codes (c.loop-profile.profiles.items ++ profile ∷ []) =
     c.in_ok-profile_entry.ensures.taken ∙ ap (λ taken. taken ++ profile.0 ∷ []) c.loop-profile.invariant.1 ∙ sym (map-append (λ (p : List ℕ × Profile). p.0) c.loop-profile.profiles.items (profile ∷ [])) in
-    rw c.in_ok-push.ensures.items (
+    rw c.push_reserved.ensures.items (
       read-more read _ _ _ _ _ c.loop-profile.invariant.0 c.loop-profile-test.true c.profile-item.is one,
       codes,
       All-push (λ (p : List ℕ × Profile). IsProfile p.1) _ _ c.loop-profile.invariant.2 c.in_ok-profile_entry.ensures.threshold,
+      rw c.push_reserved.ensures.capacity c.loop-profile.invariant.3,
     )
 
 pub returns-clause-profiles : goal.returns-clause-profiles

@@ -1,7 +1,8 @@
-use Rattle.std.proofs.Common.{arith, subst}
+use Rattle.std.proofs.Common.{subst}
 use Rattle.sqlite.specs.Held.{state}
 use Rattle.tally_keeper.specs.Keeper.{Happens, request}
 use Rattle.tally_requests.specs.internal.Known.{known_of}
+use Rattle.tally_opening.proofs.ReturnLemmas.{clean_first}
 use Rattle.tally_store.specs.Content.{content_of}
 use Rattle.tally_store.specs.Crash.{LeavesAsBefore}
 use Rattle.tally_store.specs.Store.{KeepsText, Stored}
@@ -18,7 +19,7 @@ invariant_of-self g c =
     let new = state g.S.Store c.answer_request.new.conn in
     let ensured = c.answer_request.ensures in
     let r = c.answer_request.result in
-    let served : Served setup old new c.args.ask.now r = record { ended = ensured.ends.ended; codes = ensured.codes; clean = λ clean. omega (arith, clean, ensured.ends.crash.clean); done = ensured.done; shut = ensured.shut; was_open = ensured.ends.was_open } in
+    let served : Served setup old new c.args.ask.now r = record { ended = ensured.ends.ended; codes = ensured.codes; clean = clean_first ensured.ends.crash; done = ensured.done; shut = ensured.shut; was_open = ensured.ends.was_open } in
     served_after setup old new c.args.ask.now r (known_of c.answer_request.new.known) c.a_constituency_has_a_view.ensures.lawful c.self.invariant.stored served ensured.known
 
 pub returns-clause-step : goal.returns-clause-step
@@ -28,7 +29,7 @@ returns-clause-step g c clean =
     let new = state g.S.Store c.answer_request.new.conn in
     let ensured = c.answer_request.ensures in
     let r = c.answer_request.result in
-    let served : Served setup old new c.args.ask.now r = record { ended = ensured.ends.ended; codes = ensured.codes; clean = λ clean. omega (arith, clean, ensured.ends.crash.clean); done = ensured.done; shut = ensured.shut; was_open = ensured.ends.was_open } in
+    let served : Served setup old new c.args.ask.now r = record { ended = ensured.ends.ended; codes = ensured.codes; clean = clean_first ensured.ends.crash; done = ensured.done; shut = ensured.shut; was_open = ensured.ends.was_open } in
     subst (λ (h : Stored _). Happens h.setup (content_of h.setup (state g.S.Store h.conn)) (request c.args.ask.now r) (content_of setup new)) c.self.view_is
     (happens_after setup old new c.args.ask.now r c.a_constituency_has_a_view.ensures.lawful c.self.invariant.stored served clean)
 
@@ -39,7 +40,7 @@ returns-clause-tables g c clean =
     let new = state g.S.Store c.answer_request.new.conn in
     let ensured = c.answer_request.ensures in
     let r = c.answer_request.result in
-    let served : Served setup old new c.args.ask.now r = record { ended = ensured.ends.ended; codes = ensured.codes; clean = λ clean. omega (arith, clean, ensured.ends.crash.clean); done = ensured.done; shut = ensured.shut; was_open = ensured.ends.was_open } in
+    let served : Served setup old new c.args.ask.now r = record { ended = ensured.ends.ended; codes = ensured.codes; clean = clean_first ensured.ends.crash; done = ensured.done; shut = ensured.shut; was_open = ensured.ends.was_open } in
     shows_tables setup new c.a_constituency_has_a_view.ensures.lawful (stored_after setup old new c.args.ask.now r c.self.invariant.stored served) clean
 
 pub returns-clause-text : goal.returns-clause-text

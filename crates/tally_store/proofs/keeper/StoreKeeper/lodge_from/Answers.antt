@@ -1,9 +1,10 @@
-use Rattle.std.proofs.Common.{OnOk, arith, subst}
+use Rattle.std.proofs.Common.{OnOk, subst}
 use Rattle.sqlite.specs.Held.{state}
 use Rattle.tally_keeper.specs.Delivery.{delivery}
 use Rattle.tally_keeper.specs.Keeper.{Imports}
 use Rattle.tally_keeper.specs.NamedRows.{NamesRows}
 use Rattle.tally_requests.specs.internal.Known.{known_of}
+use Rattle.tally_opening.proofs.ReturnLemmas.{clean_first}
 use Rattle.tally_store.specs.Content.{content_of}
 use Rattle.tally_store.specs.Store.{KeepsText, Stored}
 use Rattle.tally_store.proofs.RequestLemmas.{Took, imports_after, keeps_text_imported, served_import, shows_tables, stored_import}
@@ -21,7 +22,7 @@ invariant_of-self g c =
     let came = delivery g.R.RowSource c.args.rows.now c.import_rows.new.source in
     let ensured = c.import_rows.ensures in
     let r = c.import_rows.result in
-    let took : Took setup old new came r = record { ended = ensured.ends.ended; clean = λ clean. omega (arith, clean, ensured.ends.crash.clean); done = ensured.done; fault = ensured.fault; shut = ensured.shut; was_open = ensured.ends.was_open } in
+    let took : Took setup old new came r = record { ended = ensured.ends.ended; clean = clean_first ensured.ends.crash; done = ensured.done; fault = ensured.fault; shut = ensured.shut; was_open = ensured.ends.was_open } in
     served_import setup old new came r (known_of c.import_rows.new.known) c.a_constituency_has_a_view.ensures.lawful c.self.invariant.stored took ensured.known
 
 pub returns-clause-imported : goal.returns-clause-imported
@@ -32,7 +33,7 @@ returns-clause-imported g c clean =
     let came = delivery g.R.RowSource c.args.rows.now c.import_rows.new.source in
     let ensured = c.import_rows.ensures in
     let r = c.import_rows.result in
-    let took : Took setup old new came r = record { ended = ensured.ends.ended; clean = λ clean. omega (arith, clean, ensured.ends.crash.clean); done = ensured.done; fault = ensured.fault; shut = ensured.shut; was_open = ensured.ends.was_open } in
+    let took : Took setup old new came r = record { ended = ensured.ends.ended; clean = clean_first ensured.ends.crash; done = ensured.done; fault = ensured.fault; shut = ensured.shut; was_open = ensured.ends.was_open } in
     subst (λ (h : Stored _). Imports h.setup (content_of h.setup (state g.S.Store h.conn)) came r (content_of setup new)) c.self.view_is
     (imports_after setup old new came r c.a_constituency_has_a_view.ensures.lawful c.self.invariant.stored took clean)
 
@@ -47,7 +48,7 @@ returns-clause-named g c clean =
     let ensured = c.import_rows.ensures in
     let r = c.import_rows.result in
     subst (λ (h : Stored _). OnOk r (NamesRows h.setup (content_of h.setup (state g.S.Store h.conn)) came before after)) c.self.view_is
-    (named_after setup old new came r before after c.a_constituency_has_a_view.ensures.lawful c.self.invariant.stored (λ clean. omega (arith, clean, ensured.ends.crash.clean)) ensured.ends.was_open ensured.shut ensured.named clean)
+    (named_after setup old new came r before after c.a_constituency_has_a_view.ensures.lawful c.self.invariant.stored (clean_first ensured.ends.crash) ensured.ends.was_open ensured.shut ensured.named clean)
 
 pub returns-clause-tables : goal.returns-clause-tables
 returns-clause-tables g c clean =
@@ -57,7 +58,7 @@ returns-clause-tables g c clean =
     let came = delivery g.R.RowSource c.args.rows.now c.import_rows.new.source in
     let ensured = c.import_rows.ensures in
     let r = c.import_rows.result in
-    let took : Took setup old new came r = record { ended = ensured.ends.ended; clean = λ clean. omega (arith, clean, ensured.ends.crash.clean); done = ensured.done; fault = ensured.fault; shut = ensured.shut; was_open = ensured.ends.was_open } in
+    let took : Took setup old new came r = record { ended = ensured.ends.ended; clean = clean_first ensured.ends.crash; done = ensured.done; fault = ensured.fault; shut = ensured.shut; was_open = ensured.ends.was_open } in
     shows_tables setup new c.a_constituency_has_a_view.ensures.lawful (stored_import setup old new came r c.self.invariant.stored took) clean
 
 pub returns-clause-text : goal.returns-clause-text

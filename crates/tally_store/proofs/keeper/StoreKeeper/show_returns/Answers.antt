@@ -1,7 +1,8 @@
-use Rattle.std.proofs.Common.{arith, subst}
+use Rattle.std.proofs.Common.{subst}
 use Rattle.sqlite.specs.Held.{state}
 use Rattle.tally_keeper.specs.Shown.{ShowsReturns}
 use Rattle.tally_requests.specs.internal.Known.{known_of}
+use Rattle.tally_opening.proofs.ReturnLemmas.{clean_first}
 use Rattle.tally_store.specs.Content.{content_of}
 use Rattle.tally_store.specs.Crash.{LooksWithoutWriting}
 use Rattle.tally_store.specs.Store.{KeepsText, Stored}
@@ -19,7 +20,7 @@ invariant_of-self g c =
     let new = state g.S.Store c.show_stations.new.conn in
     let ensured = c.show_stations.ensures in
     let r = c.show_stations.result in
-    let served : ServedStations setup old new c.args.con r = record { ended = ensured.ends.ended; clean = λ clean. omega (arith, clean, ensured.ends.crash.clean); done = ensured.done; shut = ensured.shut; was_open = ensured.ends.was_open } in
+    let served : ServedStations setup old new c.args.con r = record { ended = ensured.ends.ended; clean = clean_first ensured.ends.crash; done = ensured.done; shut = ensured.shut; was_open = ensured.ends.was_open } in
     served_stations setup old new c.args.con r (known_of c.show_stations.new.known) c.a_constituency_has_a_view.ensures.lawful c.self.invariant.stored served ensured.known
 
 pub returns-clause-shows : goal.returns-clause-shows
@@ -29,7 +30,7 @@ returns-clause-shows g c clean =
     let new = state g.S.Store c.show_stations.new.conn in
     let ensured = c.show_stations.ensures in
     let r = c.show_stations.result in
-    let served : ServedStations setup old new c.args.con r = record { ended = ensured.ends.ended; clean = λ clean. omega (arith, clean, ensured.ends.crash.clean); done = ensured.done; shut = ensured.shut; was_open = ensured.ends.was_open } in
+    let served : ServedStations setup old new c.args.con r = record { ended = ensured.ends.ended; clean = clean_first ensured.ends.crash; done = ensured.done; shut = ensured.shut; was_open = ensured.ends.was_open } in
     subst (λ (h : Stored _). ShowsReturns h.setup (content_of h.setup (state g.S.Store h.conn)) c.args.con r (content_of setup new)) c.self.view_is
     (stations_shown setup old new c.args.con r c.a_constituency_has_a_view.ensures.lawful c.self.invariant.stored served clean)
 
@@ -40,7 +41,7 @@ returns-clause-tables g c clean =
     let new = state g.S.Store c.show_stations.new.conn in
     let ensured = c.show_stations.ensures in
     let r = c.show_stations.result in
-    let served : ServedStations setup old new c.args.con r = record { ended = ensured.ends.ended; clean = λ clean. omega (arith, clean, ensured.ends.crash.clean); done = ensured.done; shut = ensured.shut; was_open = ensured.ends.was_open } in
+    let served : ServedStations setup old new c.args.con r = record { ended = ensured.ends.ended; clean = clean_first ensured.ends.crash; done = ensured.done; shut = ensured.shut; was_open = ensured.ends.was_open } in
     shows_tables setup new c.a_constituency_has_a_view.ensures.lawful (stored_stations setup old new c.args.con r c.self.invariant.stored served) clean
 
 pub returns-clause-text : goal.returns-clause-text

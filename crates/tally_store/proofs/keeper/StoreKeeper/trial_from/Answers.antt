@@ -1,10 +1,11 @@
-use Rattle.std.proofs.Common.{OnOk, arith, subst}
+use Rattle.std.proofs.Common.{OnOk, subst}
 use Rattle.sqlite.specs.Held.{state}
 use Rattle.tally_keeper.specs.Delivery.{delivery}
 use Rattle.tally_keeper.specs.Keeper.{Tries}
 use Rattle.tally_keeper.specs.NamedRows.{NamesRows}
 use Rattle.tally_opening.specs.Crash.{IsUnwritten}
 use Rattle.tally_requests.specs.internal.Known.{known_of}
+use Rattle.tally_opening.proofs.ReturnLemmas.{clean_first}
 use Rattle.tally_store.specs.Content.{content_of}
 use Rattle.tally_store.specs.Store.{KeepsText, Stored}
 use Rattle.tally_store.proofs.RequestLemmas.{shows_tables}
@@ -38,7 +39,7 @@ returns-clause-named g c clean =
     let ensured = c.try_rows.ensures in
     let r = c.try_rows.result in
     subst (λ (h : Stored _). OnOk r (NamesRows h.setup (content_of h.setup (state g.S.Store h.conn)) came before after)) c.self.view_is
-    (named_after setup old new came r before after c.a_constituency_has_a_view.ensures.lawful c.self.invariant.stored (λ clean. omega (arith, clean, ensured.ends.survives.clean)) ensured.ends.was_open ensured.shut ensured.named clean)
+    (named_after setup old new came r before after c.a_constituency_has_a_view.ensures.lawful c.self.invariant.stored (clean_first ensured.ends.survives) ensured.ends.was_open ensured.shut ensured.named clean)
 
 pub returns-clause-tables : goal.returns-clause-tables
 returns-clause-tables g c clean =
