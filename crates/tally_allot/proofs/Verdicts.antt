@@ -1,10 +1,13 @@
 -- What the tests of an allotment say.
-use Rattle.std.proofs.Common.{◌≡◌, ℕ, List, [], Bool, sum, sym, subst}
+use Rattle.std.proofs.Common.{◌≡◌, ◌≢◌, ℕ, List, sum, refl, sym, subst}
 use Rattle.tally_law.specs.Poll.{HasEligible}
-use Rattle.tally_law.specs.LotNeed.{IsLotTaken, IsLotWrong, IsNeed, IsAllotmentUnderLot}
+use Rattle.tally_law.specs.LotNeed.{IsLotTaken, IsAllotmentUnderLot}
 use Rattle.tally_contest.specs.internal.Race.{IsFair}
 use Rattle.tally_contest.specs.internal.Terms.{Terms, AreSound, placed_race}
 use Rattle.tally_contest.proofs.TermsRace.{races, from_placed, to_placed}
+use Rattle.tally_allot.specs.declared.fault.AllotFault.{AllotFault}
+use Rattle.tally_allot.specs.declared.fault.AllotFault.TheVariants.{NoEligible, LotMissing, WrongLot, Memory}
+use Rattle.tally_allot.specs.internal.OnTerms.{IsFaultOn}
 use Rattle.tally_allot.proofs.LotLaws.{proper_if_taken, taken_not_wrong, taken_not_missing}
 
 module _ (terms : Terms) (sound : AreSound terms) (a : List ℕ) where
@@ -21,8 +24,8 @@ module _ (terms : Terms) (sound : AreSound terms) (a : List ℕ) where
       let P : ℕ → Type 0 = λ n. IsFair (placed_race terms) n a in
       subst P (sym f.total) f
 
-  pub wrong_under_lot : IsLotWrong terms.rule terms.poll terms.seats terms.lot → IsAllotmentUnderLot terms.rule terms.poll terms.lot terms.seats a → ⊥
-  wrong_under_lot w u = taken_not_wrong terms (races terms sound) u.1 w
-
-  pub missing_under_lot : (group : List Bool) (n : ℕ) → IsNeed terms.rule terms.poll terms.seats group n → terms.lot ≡ [] → IsAllotmentUnderLot terms.rule terms.poll terms.lot terms.seats a → ⊥
-  missing_under_lot group n need e u = taken_not_missing terms (races terms sound) group n u.1 need e
+  pub faulty_under_lot : (fault : AllotFault) → IsFaultOn terms fault → fault ≢ Memory → IsAllotmentUnderLot terms.rule terms.poll terms.lot terms.seats a → ⊥
+  faulty_under_lot NoEligible f other u = f u.0
+  faulty_under_lot (LotMissing group n) f other u = taken_not_missing terms (races terms sound) group n u.1 f.1 f.2
+  faulty_under_lot WrongLot f other u = taken_not_wrong terms (races terms sound) u.1 f.1
+  faulty_under_lot Memory f other u = other refl

@@ -15,7 +15,7 @@ ghost use Rattle.tally_contest.specs.internal.Terms.{AreSound};
 
 use crate::fault::AllotFault;
 use crate::under_lot::{award_under_lot, seats_by_remainders};
-use crate::verdict::{LotVerdict, verdict_on_lot};
+use crate::verdict::check_lot;
 use std::alloc::Global;
 use tally_contest::{
     Contest, DivisorContest, HareContest, Need, Poll, contested_seats, has_eligible, is_fair,
@@ -229,10 +229,9 @@ fn is_allotment_in<C: Contest>(contest: &C, given: &[u32]) -> bool
     if !is_fair(contest, given) {
         return false;
     }
-    match verdict_on_lot(contest, given) {
-        LotVerdict::Right => true,
-        LotVerdict::Missing(_) => false,
-        LotVerdict::Wrong => false,
+    match check_lot(contest, given) {
+        Ok(()) => true,
+        Err(_) => false,
     }
 }
 

@@ -1,7 +1,7 @@
 //! The award of a seat.
 
 /// A seat that a list won under a divisor rule, with its quotient `num / den`.
-#[derive(Clone, Copy, Debug, PartialEq, Eq)]
+#[derive(Clone, Copy, Debug)]
 pub struct Award {
     /// The place of the list, from 1.
     pub list: u32,

@@ -2,7 +2,7 @@
 
 /// The quotas of an eligible list under Hare's rule, where the quota is the votes of the eligible
 /// lists over the seats.
-#[derive(Clone, Copy, Debug, PartialEq, Eq)]
+#[derive(Clone, Copy, Debug)]
 pub struct QuotaRow {
     /// The place of the list, from 1.
     pub list: u32,

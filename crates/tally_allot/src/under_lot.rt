@@ -15,7 +15,7 @@ ghost use Rattle.tally_contest.specs.internal.Terms.{placed_race};
 ghost use Rattle.tally_contest.specs.internal.WonSeat.{AreRows, AreWon};
 
 use crate::fault::AllotFault;
-use crate::verdict::{LotVerdict, verdict_on_lot};
+use crate::verdict::check_lot;
 use std::alloc::Global;
 use tally_contest::{
     AwardedSeats, DivisorContest, HareContest, Poll, award_from_heap, award_remainders,
@@ -85,14 +85,8 @@ fn award_in<D: Divisors>(
     }
     let awarded = award_from_heap(alloc, contest)?;
     // Whether a lot is needed shows in any award that the votes allow.
-    match verdict_on_lot(contest, &awarded.seats) {
-        LotVerdict::Right => Ok(awarded),
-        LotVerdict::Missing(need) => Err(AllotFault::LotMissing {
-            group: need.group,
-            seats: need.seats,
-        }),
-        LotVerdict::Wrong => Err(AllotFault::WrongLot),
-    }
+    check_lot(contest, &awarded.seats)?;
+    Ok(awarded)
 }
 
 /// The seats of each list under the lot that is to be taken. It refuses in the order of
@@ -111,12 +105,6 @@ pub(crate) fn seats_by_remainders(
         return Err(AllotFault::NoEligible);
     }
     let seats = award_remainders(alloc, contest)?;
-    match verdict_on_lot(contest, &seats) {
-        LotVerdict::Right => Ok(seats),
-        LotVerdict::Missing(need) => Err(AllotFault::LotMissing {
-            group: need.group,
-            seats: need.seats,
-        }),
-        LotVerdict::Wrong => Err(AllotFault::WrongLot),
-    }
+    check_lot(contest, &seats)?;
+    Ok(seats)
 }

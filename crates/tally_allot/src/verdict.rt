@@ -1,43 +1,43 @@
 //! What is to be said of a lot.
 
-ghost use Rattle.tally_allot.specs.internal.OnTerms.{IsVerdictOn};
+ghost use Rattle.std.specs.Prelude.{◌≢◌, IfErr, OnOk};
+ghost use Rattle.tally_law.specs.Poll.{HasEligible};
+ghost use Rattle.tally_allot.specs.declared.fault.AllotFault.TheVariants.{Memory};
+ghost use Rattle.tally_allot.specs.internal.OnTerms.{IsFaultOn, IsLotTakenOn};
 ghost use Rattle.tally_contest.specs.internal.Terms.{AreFairSeats, AreSound};
 
-use tally_contest::{Contest, Need, is_order_of, need_of};
+use crate::fault::AllotFault;
+use tally_contest::{Contest, is_order_of, need_of};
 
-/// What is to be said of a lot.
-#[derive(Clone, Copy)]
-pub(crate) enum LotVerdict {
-    /// It is the lot to be taken: none, where none is needed.
-    Right,
-    /// A lot is needed, and none is given.
-    Missing(Need),
-    /// It is given where none is needed, or is not an order of the group.
-    Wrong,
-}
-
-/// What is to be said of the contest's lot, seen from seats that the votes allow.
-pub(crate) fn verdict_on_lot<C: Contest>(contest: &C, seats: &[u32]) -> LotVerdict
+/// Whether the contest's lot is the one to be taken, seen from seats that the votes allow: none,
+/// where none is needed. Else what is wrong with it.
+pub(crate) fn check_lot<C: Contest>(contest: &C, seats: &[u32]) -> Result<(), AllotFault>
     requires sound { AreSound (C.terms contest.now) }
+    requires eligible { HasEligible (C.terms contest.now).poll }
     requires fair { AreFairSeats (C.terms contest.now) seats.now }
-    ensures { IsVerdictOn (C.terms contest.now) result }
+    ensures taken { OnOk result (IsLotTakenOn (C.terms contest.now)) }
+    ensures fault { IfErr result (IsFaultOn (C.terms contest.now)) }
+    ensures never_memory { IfErr result (λ fault. fault ≢ Memory) }
 {
     let lot = contest.lot();
     match need_of(contest, seats) {
         None => {
             if lot.is_empty() {
-                LotVerdict::Right
+                Ok(())
             } else {
-                LotVerdict::Wrong
+                Err(AllotFault::WrongLot)
             }
         }
         Some(need) => {
             if lot.is_empty() {
-                LotVerdict::Missing(need)
+                Err(AllotFault::LotMissing {
+                    group: need.group,
+                    seats: need.seats,
+                })
             } else if is_order_of(&need.group, lot) {
-                LotVerdict::Right
+                Ok(())
             } else {
-                LotVerdict::Wrong
+                Err(AllotFault::WrongLot)
             }
         }
     }

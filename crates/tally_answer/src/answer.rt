@@ -1,9 +1,9 @@
 //! The head of an answer, and its body.
 
-ghost use Rattle.std.specs.Prelude.{◌≡◌, ◌≤◌, ◌+◌, ◌++◌, [], IfOk, codes, length, vec_len};
+ghost use Rattle.std.specs.Prelude.{◌≡◌, ◌≤◌, ◌+◌, ◌++◌, [], IfOk, length, vec_len};
 ghost use Rattle.std.specs.Prelude.{vec_capacity};
-ghost use Rattle.tally_answer.specs.Answer.{status_line, type_line, length_line, allow_line};
-ghost use Rattle.tally_answer.specs.Answer.{close_line, fields_text, head_text, answer_text};
+ghost use Rattle.tally_answer.specs.Answer.{status_line, type_line, length_line, fields_text};
+ghost use Rattle.tally_answer.specs.Answer.{head_text, answer_text};
 
 use crate::push::{push, push_around};
 use crate::status::{AnswerStatus, BodyType, allow_of, code_of, name_of, phrase_of};
@@ -47,17 +47,6 @@ fn push_length(out: &mut Vec<u8>, length: usize)
     push(out, b"\r\n");
 }
 
-fn push_last(out: &mut Vec<u8>, status: AnswerStatus)
-    requires { vec_len out.old + 48 ≤ vec_capacity out.old }
-    ensures items { out.new.items
-        ≡ out.old.items ++ (allow_line status ++ close_line ++ codes "\r\n") }
-    ensures len { vec_len out.new ≤ vec_len out.old + 48 }
-    ensures room { vec_capacity out.old ≤ vec_capacity out.new }
-{
-    push(out, allow_of(status));
-    push(out, b"Connection: close\r\n\r\n");
-}
-
 fn push_fields(out: &mut Vec<u8>, status: AnswerStatus, body: BodyType, length: usize)
     requires { vec_len out.old + 152 ≤ vec_capacity out.old }
     ensures items { out.new.items ≡ out.old.items ++ fields_text status body length }
@@ -66,7 +55,8 @@ fn push_fields(out: &mut Vec<u8>, status: AnswerStatus, body: BodyType, length: 
 {
     push_type(out, body);
     push_length(out, length);
-    push_last(out, status);
+    push(out, allow_of(status));
+    push(out, b"Connection: close\r\n\r\n");
 }
 
 fn push_head(out: &mut Vec<u8>, status: AnswerStatus, body: BodyType, length: usize)

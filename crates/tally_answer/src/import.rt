@@ -2,7 +2,7 @@
 
 ghost use Rattle.std.specs.Prelude.{◌≡◌, ◌≤◌, ◌+◌, ◌++◌, [], vec_len, vec_capacity};
 ghost use Rattle.tally_answer.specs.Import.{counts_before, counts_after, first_value, import_body};
-ghost use Rattle.tally_answer.specs.Import.{import_text, pair_text};
+ghost use Rattle.tally_answer.specs.Import.{import_text};
 
 use crate::answer::write_answer;
 use crate::push::{push, push_around};
@@ -19,16 +19,6 @@ fn push_before(out: &mut Vec<u8>, count: &ImportCount)
     push_around(out, b"", count.differs, b",\"first\":");
 }
 
-fn push_pair(out: &mut Vec<u8>, first: &FirstRow)
-    requires { vec_len out.old + 32 ≤ vec_capacity out.old }
-    ensures items { out.new.items ≡ out.old.items ++ pair_text first.now }
-    ensures len { vec_len out.new ≤ vec_len out.old + 32 }
-    ensures room { vec_capacity out.old ≤ vec_capacity out.new }
-{
-    push_around(out, b"[", first.row, b",");
-    push_around(out, b"", first.number, b"]");
-}
-
 fn push_first(out: &mut Vec<u8>, first: &Option<FirstRow>)
     requires { vec_len out.old + 32 ≤ vec_capacity out.old }
     ensures items { out.new.items ≡ out.old.items ++ first_value first.now }
@@ -36,7 +26,10 @@ fn push_first(out: &mut Vec<u8>, first: &Option<FirstRow>)
     ensures room { vec_capacity out.old ≤ vec_capacity out.new }
 {
     match first {
-        Some(first) => push_pair(out, first),
+        Some(first) => {
+            push_around(out, b"[", first.row, b",");
+            push_around(out, b"", first.number, b"]");
+        }
         None => push(out, b"null"),
     }
 }

@@ -1,6 +1,6 @@
 -- What the members of an array are, one by one.
-use Rattle.std.proofs.Common.{◌≡◌, ℕ, zero, suc, ◌+◌, ◌<◌, List, [], ◌∷◌, ◌++◌, length, take, get_or, map, Option, Some, None, is_some, refl, sym, ap, ◌∙◌, arith, true≢false}
-use Rattle.std.proofs.lemmas.List.{length-map, take-map, get_or-map}
+use Rattle.std.proofs.Common.{◌≡◌, ℕ, zero, suc, ◌+◌, ◌<◌, ◌≤◌, List, [], ◌∷◌, ◌++◌, length, take, get_or, map, Option, Some, None, is_some, refl, sym, ap, ◌∙◌, arith, true≢false}
+use Rattle.std.proofs.lemmas.List.{length-map, take-map, get_or-map, take_all}
 use Rattle.std.proofs.lemmas.Option.{same_Some}
 use Rattle.serde_json.specs.Data.{Data}
 use Rattle.serde_json.specs.View.{view, items_of, items_view}
@@ -53,3 +53,6 @@ value_next m vs i d xs x within before is =
     ap (λ (n : ℕ). all_items m (items_view (take n vs))) (one_more i)
     ∙ ap (λ ds. all_items m (items_of ds)) (sym (take-map view (suc i) vs))
     ∙ item_next m (map view vs) i (view d) xs x (mapped vs i within) (ap (λ ds. all_items m (items_of ds)) (take-map view i vs) ∙ before) (ap m (get_or-map view vs i d (view d) within) ∙ is)
+
+pub value_all : {A : Type 0} (m : Data → Option A) (vs : List Value) (i : ℕ) (xs : List A) → length vs ≤ i → all_items m (items_view (take i vs)) ≡ Some xs → Some xs ≡ all_items m (items_view vs)
+value_all m vs i xs past before = sym before ∙ ap (λ all. all_items m (items_view all)) (take_all i vs past)

@@ -14,7 +14,7 @@ use tally_records::Sep;
 use tally_report::Report;
 
 /// The commands on a station.
-#[derive(Clone, Copy, Debug, PartialEq, Eq)]
+#[derive(Clone, Copy)]
 pub enum StationCommand {
     Lodge,
     Query,
@@ -24,7 +24,7 @@ pub enum StationCommand {
 }
 
 /// The commands on a constituency.
-#[derive(Clone, Copy, Debug, PartialEq, Eq)]
+#[derive(Clone, Copy)]
 pub enum ConCommand {
     Draw,
     Certify,
@@ -33,7 +33,7 @@ pub enum ConCommand {
 }
 
 /// What a target names.
-#[derive(Clone, Copy, Debug, PartialEq, Eq)]
+#[derive(Clone, Copy)]
 pub enum Route {
     /// How far each constituency has come.
     Progress,
@@ -132,21 +132,13 @@ fn add_all(router: &mut Router<Route>, table: &[(&str, Route)]) -> Result<(), In
     Ok(())
 }
 
-fn add_station_routes(router: &mut Router<Route>) -> Result<(), InsertError>
-    ensures { OnOk result (router.new ≡ with_routes router.old station_routes) }
+/// Adds the routes of the desk.
+fn add_desk_routes(router: &mut Router<Route>) -> Result<(), InsertError>
+    ensures { OnOk result (router.new ≡ with_routes (with_routes
+        (with_routes router.old station_routes) con_routes) command_routes) }
 {
-    add_all(router, &STATION_ROUTES)
-}
-
-fn add_con_routes(router: &mut Router<Route>) -> Result<(), InsertError>
-    ensures { OnOk result (router.new ≡ with_routes router.old con_routes) }
-{
-    add_all(router, &CON_ROUTES)
-}
-
-fn add_command_routes(router: &mut Router<Route>) -> Result<(), InsertError>
-    ensures { OnOk result (router.new ≡ with_routes router.old command_routes) }
-{
+    add_all(router, &STATION_ROUTES)?;
+    add_all(router, &CON_ROUTES)?;
     add_all(router, &COMMAND_ROUTES)
 }
 
@@ -155,9 +147,7 @@ pub fn desk_router(alloc: Global) -> Result<Router<Route>, InsertError>
     ensures { IfOk result (λ router. router ≡ desk_rows) }
 {
     let mut router = Router::new(alloc);
-    add_station_routes(&mut router)?;
-    add_con_routes(&mut router)?;
-    add_command_routes(&mut router)?;
+    add_desk_routes(&mut router)?;
     Ok(router)
 }
 

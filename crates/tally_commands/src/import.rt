@@ -19,7 +19,7 @@ ghost use Rattle.tally_commands.specs.internal.Room.{room_of_lines};
 
 use crate::named::con_with_code;
 use crate::trouble::Trouble;
-use std::alloc::{AllocError, Global};
+use std::alloc::Global;
 use std::io::Read;
 use tally_import::room::{COUNT_ROOM, push_count};
 use tally_import::{LINE_ROOM, ReturnRows, Sep, Watch, list_codes, push_lines};
@@ -43,18 +43,13 @@ fn find_con(alloc: Global, setup: &Setup, code: &str) -> Result<(Constituency, V
     let Some(con) = con_with_code(setup, code) else {
         return Err(Trouble::NoConstituency);
     };
-    match copy_con(alloc, con) {
-        Ok(found) => Ok(found),
+    let Ok(lists) = list_codes(alloc, &con.lists) else {
+        return Err(Trouble::Memory);
+    };
+    match con.try_copy(alloc) {
+        Ok(con) => Ok((con, lists)),
         Err(_) => Err(Trouble::Memory),
     }
-}
-
-fn copy_con(alloc: Global, con: &Constituency) -> Result<(Constituency, Vec<Code>), AllocError>
-    ensures con { IfOk result (λ copy. copy.0 ≡ con.now) }
-    ensures lists { IfOk result (λ copy. copy.1.items ≡ list_codes con.now.lists) }
-{
-    let lists = list_codes(alloc, &con.lists)?;
-    Ok((con.try_copy(alloc)?, lists))
 }
 
 /// Imports the rows of a text into the constituency of a code: all of them, or with a trouble none,

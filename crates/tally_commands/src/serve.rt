@@ -1,8 +1,7 @@
 //! What a server says when it listens, and what is reported of one that has ended.
 
 ghost use Rattle.std.specs.Prelude.{◌≡◌, ◌≤◌, ◌+◌, ◌++◌, string_bytes, string_len, string_capacity};
-ghost use Rattle.tally_commands.specs.Served.{for_connections, listening_at, listening_line};
-ghost use Rattle.tally_commands.specs.Served.{served_line};
+ghost use Rattle.tally_commands.specs.Served.{listening_line, served_line};
 
 use itoa::Buffer;
 use tally_import::room::push;
@@ -19,25 +18,9 @@ pub fn listening_text(text: &mut String, port: u16, count: u32)
     requires { string_len text.old + LISTENING_ROOM ≤ string_capacity text.old }
     ensures { string_bytes text.new ≡ string_bytes text.old ++ listening_line port count }
 {
-    push_listening(text, port);
-    push_connections(text, count);
-}
-
-fn push_listening(text: &mut String, port: u16)
-    requires { string_len text.old + LISTENING_ROOM ≤ string_capacity text.old }
-    ensures bytes { string_bytes text.new ≡ string_bytes text.old ++ listening_at port }
-    ensures room { string_len text.new + 32 ≤ string_capacity text.new }
-{
     let mut digits = Buffer::new();
     push(text, "listening on 127.0.0.1:");
     push(text, digits.format(port));
-}
-
-fn push_connections(text: &mut String, count: u32)
-    requires { string_len text.old + 32 ≤ string_capacity text.old }
-    ensures { string_bytes text.new ≡ string_bytes text.old ++ for_connections count }
-{
-    let mut digits = Buffer::new();
     push(text, " for ");
     push(text, digits.format(count));
     push(text, " connections\n");

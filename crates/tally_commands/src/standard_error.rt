@@ -2,7 +2,7 @@
 
 ghost use Rattle.std.specs.Prelude.{◌++◌, codes};
 ghost use Rattle.tally_commands.specs.Reported.{IsReported};
-ghost use Rattle.tally_commands.specs.internal.Put.{IsPut};
+ghost use Rattle.tally_commands.specs.internal.Put.{IsPut, IsPutAfter};
 
 use std::io::Write;
 use tally_import::{CheckFault, write_text};
@@ -23,21 +23,26 @@ pub(crate) fn put<E: Write>(words: &str, errors: &mut E) -> Result<(), CheckFaul
     write_text(errors, words.as_bytes())
 }
 
+/// Writes words after others that were written, and nothing where one of those was not.
+pub(crate) fn put_after<E: Write>(
+    done: Result<(), CheckFault>,
+    words: &str,
+    errors: &mut E,
+) -> Result<(), CheckFault>
+    ensures { IsPutAfter (E.contents errors.old) (E.contents errors.new) done words.now result }
+{
+    match done {
+        Ok(()) => put(words, errors),
+        Err(fault) => Err(fault),
+    }
+}
+
 /// Writes words and a name, and ends the line.
-#[tactic(auto, using(crate::proofs::PutLemmas::put_then, crate::proofs::PutLemmas::put_failed))]
 pub(crate) fn put_named<E: Write>(words: &str, name: &str, errors: &mut E) -> Result<(), CheckFault>
     ensures { IsPut (E.contents errors.old) (E.contents errors.new)
         (words.now ++ (name.now ++ codes "\n")) result }
 {
-    put(words, errors)?;
-    put_line(name, errors)
-}
-
-#[tactic(auto, using(crate::proofs::PutLemmas::put_then, crate::proofs::PutLemmas::put_failed))]
-fn put_line<E: Write>(name: &str, errors: &mut E) -> Result<(), CheckFault>
-    ensures { IsPut (E.contents errors.old) (E.contents errors.new) (name.now ++ codes "\n")
-        result }
-{
-    put(name, errors)?;
-    put("\n", errors)
+    let done = put(words, errors);
+    let done = put_after(done, name, errors);
+    put_after(done, "\n", errors)
 }

@@ -173,7 +173,9 @@ impl Trouble {
             (trouble_line self.now) }
     {
         match self {
-            Trouble::Setup(fault, place) => tell_setup(fault, place, errors),
+            Trouble::Setup(fault, place) => {
+                let _ = put_setup(fault, place, errors);
+            }
             _ => tell(self.line(), errors),
         }
     }
@@ -234,14 +236,6 @@ fn setup_status(fault: &SetupFault) -> u8
         SetupFault::Memory => FAILED,
         _ => REFUSED,
     }
-}
-
-#[tactic(auto, using(crate::proofs::PutLemmas::put_reported))]
-fn tell_setup<E: Write>(fault: &SetupFault, place: &Option<Place>, errors: &mut E)
-    ensures { IsReported (E.contents errors.old) (E.contents errors.new)
-        (setup_line fault.now ++ place_lines place.now) }
-{
-    let _ = put_setup(fault, place, errors);
 }
 
 #[tactic(auto, using(crate::proofs::PutLemmas::put_then, crate::proofs::PutLemmas::put_failed))]

@@ -13,7 +13,7 @@ use tally_frac::ListSet;
 
 /// The lot that is needed where the votes leave a choice (LOREG article 163.1 d)): the lists among
 /// which it decides, and the seats in question.
-#[derive(Clone, Copy, Debug, PartialEq, Eq)]
+#[derive(Clone, Copy)]
 pub struct Need {
     /// The lists among which the lot decides: all the eligible lists of one number of votes.
     pub group: ListSet,

@@ -1,11 +1,16 @@
 -- What the steps of an answer leave is an answer.
-use Rattle.std.proofs.Common.{◌≡◌, ◌∙◌, ℕ, List, [], Option, Some, None, Ok, IfSome, option_map, option_and_then, refl, sym, ap, subst}
+use Rattle.std.proofs.Common.{◌≡◌, ◌∙◌, ℕ, List, [], Option, Some, None, Result, Ok, Err, IfSome, IsSome, OnOk, OnErr, option_map, option_and_then, refl, sym, ap, subst, true≢false}
 use Rattle.std.specs.Option.{option_map_or}
 use Rattle.serde_json.specs.Data.{Data}
-use Rattle.tally_setup.specs.Constituency.{Constituency, ListEntry}
+use Rattle.tally_setup.specs.Constituency.{Constituency, ListEntry, list_codes}
 use Rattle.tally_setup.specs.Setup.{constituency_with, station_with}
 use Rattle.tally_setup.specs.declared.constituency.Station.{Station}
-use Rattle.tally_report.specs.Fault.{divisors_fault}
+use Rattle.tally_answer.specs.Answer.{answer_text}
+use Rattle.tally_answer.specs.declared.status.AnswerStatus.TheVariants.{Done}
+use Rattle.tally_answer.specs.declared.status.BodyType.TheVariants.{Text}
+use Rattle.tally_report.specs.Fault.{IsRefused, divisors_fault}
+use Rattle.tally_report.specs.Reports.{IsEnoughFor, IsReport, report_fault}
+use Rattle.tally_report.specs.declared.fault.ReportFault.{ReportFault}
 use Rattle.tally_report.specs.declared.report.Report.{Report}
 use Rattle.tally_report.specs.declared.report.Report.TheVariants as report
 use Rattle.tally_returns.specs.AskSeen.{AskSeen, ask_seen}
@@ -15,7 +20,15 @@ use Rattle.tally_returns.specs.View.{View}
 use Rattle.tally_returns.specs.declared.ask.Ask.{Ask}
 use Rattle.tally_returns.specs.declared.refusal.Refusal.TheVariants.{NoConstituency, NoStation}
 use Rattle.tally_steps.specs.Outcome.{rule_in}
+use Rattle.tally_keeper.specs.Keeper.{Tries}
+use Rattle.tally_keeper.specs.NamedRows.{NamesRows}
 use Rattle.tally_keeper.specs.Shown.{ShowsReturns}
+use Rattle.tally_keeper.specs.Source.{Delivery}
+use Rattle.tally_keeper.specs.declared.import.ImportCount.{ImportCount}
+use Rattle.tally_keeper.specs.declared.import.NamedRow.{NamedRow}
+use Rattle.tally_keeper.specs.declared.source.ImportFault.{ImportFault}
+use Rattle.tally_records.specs.declared.separator.Sep.{Sep}
+use Rattle.tally_import.specs.ReturnRows.{text_coming}
 use Rattle.tally_returns.specs.declared.station_row.StationRow.{StationRow}
 use Rattle.tally_desk.specs.Reports.{IsReportText, IsReportTextBy}
 use Rattle.tally_overview.specs.Views.{HasPastIf, is_past}
@@ -27,7 +40,7 @@ use Rattle.std.proofs.Common.{Vec, Global}
 use Rattle.tally_desk.specs.internal.Gives.{Gives, OrdersRead}
 use Rattle.tally_desk.specs.declared.named.Subject.TheVariants as on
 use Rattle.tally_desk.specs.internal.Named.{lists_of}
-use Rattle.tally_desk.specs.Requests.{Commands, Named, AtCon, AtNamed, AtStation, Orders, OrdersOf, con_in_target, station_in_target}
+use Rattle.tally_desk.specs.Requests.{Commands, Named, AtCon, AtNamed, AtStation, Orders, OrdersOf, con_in_target, station_in_target, TriesText, trial_text}
 
 -- ---- what is shown
 
@@ -164,3 +177,35 @@ gives P Q old new (Some text) has answer kept = answer text.items has
 pub gives-on : (P Q : List ℕ → Option State → Type 0) (old new : Option State) (r : Option (Vec ℕ Global)) → ((text : List ℕ) → P text new → Q text new) → Gives P old r new → Gives Q old r new
 gives-on P Q old new None follows kept = kept
 gives-on P Q old new (Some text) follows is = follows text.items is
+
+-- a code finds one constituency, so what is so of that is so of each that it finds
+pub of-found : (setup : List Constituency) (code : List ℕ) (found : Constituency) (r : Option (Vec ℕ Global)) (P : Constituency → List ℕ → Type 0) → constituency_with code setup ≡ Some found
+    → IfSome r (λ text. P found text.items) → IfSome r (λ text. (con : Constituency) → constituency_with code setup ≡ Some con → P con text.items)
+of-found setup code found None P found_is has = tt
+of-found setup code found (Some text) P found_is has = λ con is.
+    let both : Some found ≡ Some con = sym found_is ∙ is in
+    let same : found ≡ con = cc in
+    subst (λ (c : Constituency). P c text.items) same has
+
+-- a report that is given has no fault
+pub granted : {T : Type 0} (fault : Option ReportFault) (x : T) → IsRefused fault (Ok x) → fault ≡ None
+granted None x is = refl
+granted (Some fault) x is = cc
+
+-- the text of a report as an answer
+pub report-answered : (setup : List Constituency) (code : List ℕ) (con : Constituency) (view : View) (which : Report) (r : Option (Vec ℕ Global)) (shown : List ℕ)
+    → constituency_with code setup ≡ Some con → report_fault con view which ≡ None → (IsEnoughFor which con view → IsReport con view which shown) → IfSome r (λ text. text.items ≡ answer_text Done Text shown)
+    → IfSome r (λ text. (c : Constituency) → constituency_with code setup ≡ Some c → IsEnoughFor which c view → IsReportText c view which text.items)
+report-answered setup code con view which None shown found none report is = tt
+report-answered setup code con view which (Some text) shown found none report is =
+    of-found setup code con (Some text) (λ c t. IsEnoughFor which c view → IsReportText c view which t) found
+    (λ enough. subst (λ f. IsReportTextBy f (IsReport con view which) text.items) (sym none) (shown, report enough, is))
+
+-- the answer to a trial, which only an import that would be done may lack
+pub gives-trial : (setup : List Constituency) (old new : Option State) (con : Constituency) (sep : Sep) (csv : List ℕ) (d : Delivery) (r : Result ImportCount ImportFault) (named : List NamedRow)
+    (lists : List (List ℕ)) (answer : Option (Vec ℕ Global)) → d.start.coming ≡ Some (text_coming con sep csv) → Tries setup old d r new → OnOk r (NamesRows setup old d [] named)
+    → lists ≡ list_codes con.lists → IfSome answer (λ text. text.items ≡ trial_text lists r named) → OnErr r (IsSome answer) → Gives (TriesText setup old con sep csv) old answer new
+gives-trial setup old new con sep csv d r named lists (Some text) coming tried names lists_are is failed =
+    (d, r, named, coming, tried, names, is ∙ ap (λ codes. trial_text codes r named) lists_are)
+gives-trial setup old new con sep csv d (Ok count) named lists None coming tried names lists_are is failed = tried.2
+gives-trial setup old new con sep csv d (Err fault) named lists None coming tried names lists_are is failed = absurd (true≢false (sym failed))

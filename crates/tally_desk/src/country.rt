@@ -11,8 +11,9 @@ ghost use Rattle.tally_answer.specs.declared.status.BodyType.TheVariants as body
 ghost use Rattle.tally_desk.specs.internal.Gives.{GivesBy};
 ghost use Rattle.tally_desk.specs.Requests.{ShowsCountry};
 
-use crate::room::{Room, text_answer};
+use crate::room::{Room, done_answer};
 use std::alloc::Global;
+use tally_answer::BodyType;
 use tally_keeper::{ConView, Keeper};
 use tally_overview::{all_views, country_report};
 use tally_setup::Setup;
@@ -23,7 +24,7 @@ fn country_answer(alloc: Global, setup: &Setup, views: &[ConView]) -> Option<Vec
         ≡ answer_text status.Done body.Text (country_text setup.now views.now)) }
 {
     match country_report(alloc, setup, views) {
-        Ok(text) => text_answer(alloc, text.as_bytes()),
+        Ok(text) => done_answer(alloc, BodyType::Text, text.as_bytes()),
         Err(_) => None,
     }
 }

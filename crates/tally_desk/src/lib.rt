@@ -5,7 +5,6 @@ mod command;
 mod country;
 mod desk;
 mod named;
-mod report;
 mod respond;
 mod responder;
 mod room;

@@ -7,7 +7,6 @@ ghost use Rattle.tally_answer.specs.Import.{import_text};
 ghost use Rattle.tally_answer.specs.Outcome.{outcome_text};
 ghost use Rattle.tally_answer.specs.Words.{word_text};
 ghost use Rattle.tally_answer.specs.declared.status.AnswerStatus.TheVariants as status;
-ghost use Rattle.tally_answer.specs.declared.status.BodyType.TheVariants as body;
 ghost use Rattle.tally_desk.specs.Requests.{refusal_text};
 
 use std::alloc::Global;
@@ -73,23 +72,9 @@ impl Room {
     }
 }
 
-/// An answer that is plain text.
-pub(crate) fn text_answer(alloc: Global, text: &[u8]) -> Option<Vec<u8>>
-    ensures { IfSome result (λ out. out.items ≡ answer_text status.Done body.Text text.now) }
+/// An answer of this type that shows what was asked for.
+pub(crate) fn done_answer(alloc: Global, body: BodyType, text: &[u8]) -> Option<Vec<u8>>
+    ensures { IfSome result (λ out. out.items ≡ answer_text status.Done body text.now) }
 {
-    answer_of(alloc, AnswerStatus::Done, BodyType::Text, text).ok()
-}
-
-/// An answer that is CSV.
-pub(crate) fn csv_answer(alloc: Global, text: &[u8]) -> Option<Vec<u8>>
-    ensures { IfSome result (λ out. out.items ≡ answer_text status.Done body.Csv text.now) }
-{
-    answer_of(alloc, AnswerStatus::Done, BodyType::Csv, text).ok()
-}
-
-/// An answer that is JSON.
-pub(crate) fn json_answer(alloc: Global, text: &[u8]) -> Option<Vec<u8>>
-    ensures { IfSome result (λ out. out.items ≡ answer_text status.Done body.Json text.now) }
-{
-    answer_of(alloc, AnswerStatus::Done, BodyType::Json, text).ok()
+    answer_of(alloc, AnswerStatus::Done, body, text).ok()
 }

@@ -16,15 +16,6 @@ pub struct Served {
     pub failed: u32,
 }
 
-/// Writes a text, and says whether it was written whole.
-fn send<D: Door>(door: &mut D, text: &[u8]) -> bool
-    requires { D.connected door.old ≡ true }
-    ensures { ChangesCurrent (D.known door.old) (D.known door.new)
-        (λ c d. (d ≡ after_text c text.now) × (result ≡ nat_le (length text.now) c.room)) }
-{
-    write_all(door, text).is_ok()
-}
-
 /// Writes an answer, and says whether it was written whole.
 fn send_answer<K, R: Responder<K>, D: Door>(
     responder: &R,
@@ -37,8 +28,8 @@ fn send_answer<K, R: Responder<K>, D: Door>(
         × (result ≡ nat_le (length (text_or R.unavailable text.now)) c.room)) }
 {
     match text {
-        Some(text) => send(door, text),
-        None => send(door, responder.unavailable()),
+        Some(text) => write_all(door, text).is_ok(),
+        None => write_all(door, responder.unavailable()).is_ok(),
     }
 }
 

@@ -20,32 +20,21 @@ ghost use Rattle.tally_desk.specs.internal.Gives.{GivesBy, GivesOn, as_return};
 ghost use Rattle.tally_desk.specs.Requests.{ShowsProgress};
 
 use crate::named::{con_in_target, station_in_target};
-use crate::report::report_answer;
-use crate::room::{Room, json_answer, text_answer};
+use crate::room::{Room, done_answer};
 use std::alloc::Global;
-use tally_answer::{con_text, return_text};
+use tally_answer::{BodyType, Word, con_text, return_text};
 use tally_keeper::{Ask, ConView, Keeper, ProgressRow, Refusal, Reply, Return};
 use tally_message::Message;
 use tally_overview::{progress_of, view_for};
-use tally_report::{Report, progress_text};
-use tally_setup::{Code, Constituency, Setup};
+use tally_report::{Report, ReportFault, progress_text, report_text};
+use tally_setup::{Code, Setup};
 
 fn return_answer(alloc: Global, station: Code, kept: &Return) -> Option<Vec<u8>>
     ensures { IfSome result (λ text. text.items
         ≡ answer_text status.Done body.Json (compact_text (shown_return station kept.now))) }
 {
     match return_text(alloc, station.as_str(), kept) {
-        Ok(text) => json_answer(alloc, text.as_bytes()),
-        Err(_) => None,
-    }
-}
-
-fn con_answer(alloc: Global, con: &Constituency, view: &ConView) -> Option<Vec<u8>>
-    ensures { IfSome result (λ text. text.items
-        ≡ answer_text status.Done body.Json (compact_text (shown_con con.now view.now))) }
-{
-    match con_text(alloc, con, view) {
-        Ok(text) => json_answer(alloc, text.as_bytes()),
+        Ok(text) => done_answer(alloc, BodyType::Json, text.as_bytes()),
         Err(_) => None,
     }
 }
@@ -55,7 +44,7 @@ fn progress_answer(alloc: Global, rows: &[ProgressRow]) -> Option<Vec<u8>>
         ≡ answer_text status.Done body.Text (progress_text rows.now)) }
 {
     match progress_text(alloc, rows) {
-        Ok(text) => text_answer(alloc, text.as_bytes()),
+        Ok(text) => done_answer(alloc, BodyType::Text, text.as_bytes()),
         Err(_) => None,
     }
 }
@@ -67,10 +56,14 @@ fn con_shown(alloc: Global, setup: &Setup, code: Code, view: &ConView) -> Option
         → text.items ≡ answer_text status.Done body.Json (compact_text (shown_con con view.now))) }
 {
     let con = setup.con(code)?;
-    con_answer(alloc, con, view)
+    match con_text(alloc, con, view) {
+        Ok(text) => done_answer(alloc, BodyType::Json, text.as_bytes()),
+        Err(_) => None,
+    }
 }
 
-/// The answer that a report of the constituency of a code has.
+/// The answer that a report of the constituency of a code has, written into the room where it is a
+/// word.
 fn report_shown(
     alloc: Global,
     room: Room,
@@ -86,7 +79,12 @@ fn report_shown(
         → IsEnoughFor which con view.now → IsReportText con view.now which text.items) }
 {
     let con = setup.con(code)?;
-    report_answer(alloc, room, con, view, which)
+    match report_text(alloc, con, view, which) {
+        Ok(text) => done_answer(alloc, BodyType::Text, text.as_bytes()),
+        Err(ReportFault::NotCertified) => Some(room.word(Word::NotCertified)),
+        Err(ReportFault::OtherMethod) => Some(room.word(Word::OtherMethod)),
+        Err(ReportFault::Memory) => None,
+    }
 }
 
 /// Shows how far each constituency has come.

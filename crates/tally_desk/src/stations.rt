@@ -9,33 +9,13 @@ ghost use Rattle.tally_desk.specs.internal.Gives.{GivesBy};
 ghost use Rattle.tally_desk.specs.Requests.{AtCon, ShowsRows};
 
 use crate::named::con_in_target;
-use crate::room::{Room, csv_answer, text_answer};
+use crate::room::{Room, done_answer};
 use std::alloc::Global;
+use tally_answer::BodyType;
 use tally_keeper::{Keeper, Refusal, StationRow};
 use tally_message::Message;
 use tally_overview::{StationsReport, returns_text, stations_text};
-use tally_setup::{Code, Constituency, Setup};
-
-/// The answer that shows a report of stations.
-fn rows_answer(
-    alloc: Global,
-    con: &Constituency,
-    rows: &[StationRow],
-    report: StationsReport,
-) -> Option<Vec<u8>>
-    ensures { IfSome result (λ text. text.items ≡ rows_answer report con.now rows.now) }
-{
-    match report {
-        StationsReport::Returns => match returns_text(alloc, con, rows) {
-            Ok(text) => csv_answer(alloc, &text),
-            Err(_) => None,
-        },
-        StationsReport::Stations => match stations_text(alloc, con, rows) {
-            Ok(text) => text_answer(alloc, text.as_bytes()),
-            Err(_) => None,
-        },
-    }
-}
+use tally_setup::{Code, Setup};
 
 /// The answer that shows a report of the stations of the constituency of a code.
 fn rows_shown(
@@ -50,7 +30,16 @@ fn rows_shown(
         → text.items ≡ rows_answer report con rows.now) }
 {
     let con = setup.con(code)?;
-    rows_answer(alloc, con, rows, report)
+    match report {
+        StationsReport::Returns => match returns_text(alloc, con, rows) {
+            Ok(text) => done_answer(alloc, BodyType::Csv, &text),
+            Err(_) => None,
+        },
+        StationsReport::Stations => match stations_text(alloc, con, rows) {
+            Ok(text) => done_answer(alloc, BodyType::Text, text.as_bytes()),
+            Err(_) => None,
+        },
+    }
 }
 
 /// Shows a report of the stations of the constituency that a target names.

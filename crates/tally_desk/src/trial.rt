@@ -1,6 +1,6 @@
 //! Trials of imports.
 
-ghost use Rattle.std.specs.Prelude.{◌≡◌, IfOk, IfSome, Ok, string_bytes};
+ghost use Rattle.std.specs.Prelude.{◌≡◌, IfOk, IfSome, IsSome, OnErr, string_bytes};
 ghost use Rattle.tally_keeper.specs.StaysKeeper.{StaysKeeper};
 ghost use Rattle.tally_asks.specs.declared.routes.Route.TheVariants as route;
 ghost use Rattle.tally_desk.specs.internal.Gives.{GivesBy, GivesOn};
@@ -8,11 +8,12 @@ ghost use Rattle.tally_desk.specs.Requests.{TriesText, trial_lines, trial_text};
 
 use crate::command::{con_copy, import_word};
 use crate::named::con_in_target;
-use crate::room::{Room, text_answer};
+use crate::room::{Room, done_answer};
 use std::alloc::{AllocError, Global};
+use tally_answer::BodyType;
 use tally_import::room::{COUNT_ROOM, push_count};
 use tally_import::{ReturnRows, Sep, list_codes, push_lines};
-use tally_keeper::{ImportCount, Keeper, NamedRow, Refusal};
+use tally_keeper::{ImportCount, ImportFault, Keeper, NamedRow, Refusal};
 use tally_message::Message;
 use tally_setup::{Code, Constituency};
 
@@ -32,19 +33,24 @@ fn trial_lines(
     Ok(text)
 }
 
-/// The answer to a trial of an import that would be done.
+/// The answer to a trial of an import, written into the room where it is a word.
 fn trial_answer(
     alloc: Global,
+    room: Room,
     lists: &[Code],
-    count: &ImportCount,
+    outcome: &Result<ImportCount, ImportFault>,
     named: &[NamedRow],
 ) -> Option<Vec<u8>>
-    ensures { IfSome result (λ text.
-        text.items ≡ trial_text lists.now (Ok count.now) named.now) }
+    ensures text { IfSome result (λ text.
+        text.items ≡ trial_text lists.now outcome.now named.now) }
+    ensures failed { OnErr outcome.now (IsSome result) }
 {
-    match trial_lines(alloc, lists, count, named) {
-        Ok(text) => text_answer(alloc, text.as_bytes()),
-        Err(_) => None,
+    match outcome {
+        Ok(count) => match trial_lines(alloc, lists, count, named) {
+            Ok(text) => done_answer(alloc, BodyType::Text, text.as_bytes()),
+            Err(_) => None,
+        },
+        Err(fault) => Some(room.word(import_word(*fault))),
     }
 }
 
@@ -66,10 +72,8 @@ fn try_rows<K: Keeper>(
     };
     let mut rows = ReturnRows::new(alloc, text, sep, con);
     let mut named = Vec::new(alloc);
-    match keeper.trial_from(&mut rows, &mut named) {
-        Ok(count) => trial_answer(alloc, &lists, &count, &named),
-        Err(fault) => Some(room.word(import_word(fault))),
-    }
+    let outcome = keeper.trial_from(&mut rows, &mut named);
+    trial_answer(alloc, room, &lists, &outcome, &named)
 }
 
 /// Tries the import of the rows that a message has as its body.

@@ -20,9 +20,9 @@ use Rattle.tally_setup.specs.Code.{code_cmp}
 use Rattle.tally_returns.specs.Counts.{VoteCounts}
 use Rattle.tally_returns.specs.State.{ConState}
 use Rattle.tally_schema.specs.Cells.{flag}
-use Rattle.tally_statements.specs.declared.table.KeyedTable.{KeyedTable}
-use Rattle.tally_statements.specs.declared.table.KeyedTable.TheVariants.{Cons, Lots, Seats, Gone, Totals, Past}
-use Rattle.tally_statements.specs.Office.{rows_in, HasRows, numbered_rows}
+use Rattle.tally_schema.specs.declared.table.KeyedTable.{KeyedTable}
+use Rattle.tally_schema.specs.declared.table.KeyedTable.TheVariants.{Cons, Lots, Seats, Gone, Totals, Past}
+use Rattle.tally_schema.specs.Office.{rows_in, HasRows, numbered_rows}
 use Rattle.tally_tables.specs.Cells.{item_row, items_of, numbers_with_places, con_rows, lot_rows, seat_rows, gone_row, gone_rows, past_row, past_rows, record_rows}
 use Rattle.tally_entries.specs.internal.Constituencies.{ChangesOnly, MovesRows, MovesSeats, HasLot, HasGone, HasRecord, HasEdition, sum_rows}
 use Rattle.tally_entries.specs.internal.Entries.{stored_in}

@@ -19,9 +19,9 @@ use Rattle.tally_schema.proofs.RowsLemmas.{partitioned_rows, put_rows}
 use Rattle.tally_setup.specs.Constituency.{Constituency}
 use Rattle.tally_returns.specs.Counts.{VoteCounts}
 use Rattle.tally_returns.specs.Return.{StationReturn, Returns as StationReturns}
-use Rattle.tally_statements.specs.declared.table.KeyedTable.{KeyedTable}
-use Rattle.tally_statements.specs.declared.table.KeyedTable.TheVariants.{Returns, Counts}
-use Rattle.tally_statements.specs.Office.{rows_in, IsInside, HasRows, item_cells, is_item}
+use Rattle.tally_schema.specs.declared.table.KeyedTable.{KeyedTable}
+use Rattle.tally_schema.specs.declared.table.KeyedTable.TheVariants.{Returns, Counts}
+use Rattle.tally_schema.specs.Office.{rows_in, IsInside, HasRows, item_cells, is_item}
 use Rattle.tally_tables.specs.Cells.{item_row, items_of, numbers_with_places, spoiled_item, return_row, return_rows, count_rows, constituency_of}
 use Rattle.tally_entries.specs.internal.Entries.{AreReturnsIn, PutsReturn, stored_in}
 use Rattle.tally_entries.specs.internal.Written.{HasCounts, HasItems}

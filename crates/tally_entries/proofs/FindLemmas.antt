@@ -23,9 +23,9 @@ use Rattle.tally_setup.specs.Code.{is_code}
 use Rattle.tally_setup.specs.Constituency.{Constituency}
 use Rattle.tally_returns.specs.Counts.{VoteCounts}
 use Rattle.tally_returns.specs.Return.{StationReturn, Returns as StationReturns}
-use Rattle.tally_statements.specs.declared.table.KeyedTable.{KeyedTable}
-use Rattle.tally_statements.specs.declared.table.KeyedTable.TheVariants.{Returns, Counts}
-use Rattle.tally_statements.specs.Office.{tree_of, rows_in, key_cells, all_cells, AreInOrder, IsFound, IsInside}
+use Rattle.tally_schema.specs.declared.table.KeyedTable.{KeyedTable}
+use Rattle.tally_schema.specs.declared.table.KeyedTable.TheVariants.{Returns, Counts}
+use Rattle.tally_schema.specs.Office.{tree_of, rows_in, key_cells, all_cells, AreInOrder, IsFound, IsInside}
 use Rattle.tally_tables.specs.Cells.{item_row, items_of, numbers_with_places, spoiled_item, return_rows, count_rows}
 use Rattle.tally_returns.specs.Lawful.{IsLawfulAt}
 use Rattle.tally_tables.specs.Reading.{entries_in}

@@ -1,17 +1,16 @@
 -- Look-ups in a transaction, one after the other.
-use Rattle.std.proofs.Common.{Bool, true, false, ℕ, List, Ok, Err, Result, sym, arith, true≢false}
+use Rattle.std.proofs.Common.{Bool, true, false, ℕ, List, Ok, Err, Result, sym, true≢false}
 use Rattle.std.specs.Prelude.{IsErr, OnOk}
 use Rattle.sqlite_value.specs.Order.{Row}
 use Rattle.sqlite_trees.specs.declared.store.Store.{Ghosts}
 use Rattle.sqlite.specs.declared.error.Error.{Error}
 use Rattle.sqlite.specs.declared.transaction.Transaction.{Transaction}
-use Rattle.sqlite.specs.Held.{state}
-use Rattle.sqlite.specs.State.{State as Seen, HasCleanDisk, IsUnchanged}
+use Rattle.sqlite.specs.State.{State as Seen, IsUnchanged}
 use Rattle.sqlite.proofs.Callers.{unchanged_then}
-use Rattle.tally_statements.specs.declared.table.KeyedTable.{KeyedTable}
-use Rattle.tally_statements.specs.Office.{IsInside}
-use Rattle.tally_statements.specs.internal.Inside.{IsOpenInside, OnlyReads, StaysFrom}
-use Rattle.tally_statements.proofs.StaysLemmas.{stays-then}
+use Rattle.tally_schema.specs.declared.table.KeyedTable.{KeyedTable}
+use Rattle.tally_schema.specs.Office.{IsInside}
+use Rattle.tally_schema.specs.internal.Inside.{IsOpenInside, OnlyReads, StaysFrom}
+use Rattle.tally_schema.proofs.StaysLemmas.{clean_first, stays-then}
 use Rattle.tally_entries.specs.internal.Entries.{ChangesNothing}
 use Rattle.tally_entries.specs.internal.Found.{IsFoundIf}
 use Rattle.tally_entries.proofs.FindLemmas.{inside_still, found_before}
@@ -24,16 +23,13 @@ both_unchanged : {X : Type 0} (a b c : Seen) (r : Result X Error) → IsUnchange
 both_unchanged a b c (Ok x) first second = unchanged_then a b c first second
 both_unchanged a b c (Err e) first second = tt
 
-pub clean_before : {S : Type 0} (starts : Seen → Type 0) (g : Ghosts S) (a b : Transaction S) → StaysFrom starts g a b → HasCleanDisk (state g b.conn.now) → HasCleanDisk (state g a.conn.now)
-clean_before starts g a b stays clean = omega (arith, clean, stays.survives.clean)
-
 pub look_then : {S X Y : Type 0} (g : Ghosts S) (a b c : Transaction S) (first : X) (r : Result Y Error) → OnlyReads g a b (Ok first) → OnlyReads g b c r → OnlyReads g a c r
 look_then g a b c first r one two = record {
   stays = stays-then IsInside IsInside g a b c (λ early inside. inside_still _ _ (one.same early inside) inside) one.stays two.stays;
   same = λ clean inside.
-      let same = one.same (clean_before IsInside g b c two.stays clean) inside in
+      let same = one.same (clean_first two.stays.survives clean) inside in
       both_unchanged _ _ _ r same (two.same clean (inside_still _ _ same inside));
-  answered_open = λ clean. so_answered r (one.answered_open (clean_before IsInside g b c two.stays clean));
+  answered_open = λ clean. so_answered r (one.answered_open (clean_first two.stays.survives clean));
 }
 
 -- the same where the second starts on a connection that is open
@@ -41,9 +37,9 @@ pub look_open : {S X Y : Type 0} (g : Ghosts S) (a b c : Transaction S) (first :
 look_open g a b c first r one stays nothing = record {
   stays = stays-then IsInside IsOpenInside g a b c (λ early inside. let same = one.same early inside in (inside_still _ _ same inside, same.0.is_open)) one.stays stays;
   same = λ clean inside.
-      let same = one.same (clean_before IsOpenInside g b c stays clean) inside in
+      let same = one.same (clean_first stays.survives clean) inside in
       both_unchanged _ _ _ r same (nothing clean (inside_still _ _ same inside, same.0.is_open));
-  answered_open = λ clean. so_answered r (one.answered_open (clean_before IsOpenInside g b c stays clean));
+  answered_open = λ clean. so_answered r (one.answered_open (clean_first stays.survives clean));
 }
 
 -- the same of another answer

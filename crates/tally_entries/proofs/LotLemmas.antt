@@ -9,9 +9,9 @@ use Rattle.tally_schema.specs.Rows.{others, AreRowsOf}
 use Rattle.tally_schema.proofs.RowsLemmas.{AreKeyedBy, put_rows}
 use Rattle.tally_setup.specs.Code.{code_cmp}
 use Rattle.tally_returns.specs.State.{ConState}
-use Rattle.tally_statements.specs.declared.table.KeyedTable.{KeyedTable}
-use Rattle.tally_statements.specs.declared.table.KeyedTable.TheVariants.{Lots}
-use Rattle.tally_statements.specs.Office.{rows_in, HasRows}
+use Rattle.tally_schema.specs.declared.table.KeyedTable.{KeyedTable}
+use Rattle.tally_schema.specs.declared.table.KeyedTable.TheVariants.{Lots}
+use Rattle.tally_schema.specs.Office.{rows_in, HasRows}
 use Rattle.tally_tables.specs.Cells.{item_row, numbers_with_places, lot_rows}
 use Rattle.tally_entries.specs.internal.Entries.{stored_in}
 use Rattle.tally_entries.specs.internal.Written.{Adds}

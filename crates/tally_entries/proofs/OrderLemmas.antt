@@ -17,9 +17,9 @@ use Rattle.sqlite_value.proofs.OrderLemmas.{value_cmp-Int, value_cmp_total}
 use Rattle.tally_schema.specs.Rows.{text_cmp}
 use Rattle.tally_steps.specs.LawfulState.{IsUnderPlaces}
 use Rattle.tally_returns.specs.Counts.{VoteCounts}
-use Rattle.tally_statements.specs.declared.table.KeyedTable.{KeyedTable}
-use Rattle.tally_statements.specs.declared.table.KeyedTable.TheVariants.{Lots, Seats, Gone, Totals, Past}
-use Rattle.tally_statements.specs.Office.{AreInOrder, all_cells, key_cells}
+use Rattle.tally_schema.specs.declared.table.KeyedTable.{KeyedTable}
+use Rattle.tally_schema.specs.declared.table.KeyedTable.TheVariants.{Lots, Seats, Gone, Totals, Past}
+use Rattle.tally_schema.specs.Office.{AreInOrder, all_cells, key_cells}
 use Rattle.tally_tables.specs.Cells.{gone_row, item_row, items_of, numbers_with_places, past_row, record_rows}
 use Rattle.tally_entries.proofs.FindLemmas.{items_rise, numbered_rise}
 

@@ -12,8 +12,8 @@ use Rattle.tally_schema.specs.Rows.{cells, has_key, others, AreRowsOf}
 use Rattle.tally_schema.proofs.RowsLemmas.{AreKeyedBy, add_rows, put_rows, same_rows, rows_of_key}
 use Rattle.tally_setup.specs.Constituency.{Constituency}
 use Rattle.tally_returns.specs.Return.{StationReturn, Returns as StationReturns}
-use Rattle.tally_statements.specs.declared.table.KeyedTable.TheVariants.{Returns, Counts}
-use Rattle.tally_statements.specs.Office.{tree_of, rows_in, HasRows}
+use Rattle.tally_schema.specs.declared.table.KeyedTable.TheVariants.{Returns, Counts}
+use Rattle.tally_schema.specs.Office.{tree_of, rows_in, HasRows}
 use Rattle.tally_tables.specs.Cells.{item_row, items_of, return_row, return_rows, count_rows, constituency_of}
 use Rattle.tally_entries.specs.internal.Entries.{AreReturnsIn, PutsReturn, stored_in}
 use Rattle.tally_entries.specs.internal.Written.{Adds}

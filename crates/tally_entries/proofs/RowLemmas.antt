@@ -3,21 +3,13 @@ use Rattle.std.proofs.Common.{◌≡◌, ℕ, ◌+◌, List, [], ◌∷◌, ◌+
 use Rattle.std.proofs.lemmas.List.{map-append}
 use Rattle.sqlite_value.specs.declared.value.Value.TheVariants.{Text}
 use Rattle.sqlite_value.specs.Order.{Row}
-use Rattle.sqlite.specs.State.{State, KeepsCommit}
+use Rattle.sqlite.specs.State.{State}
 use Rattle.tally_returns.specs.Counts.{VoteCounts}
-use Rattle.tally_statements.specs.declared.table.KeyedTable.{KeyedTable}
-use Rattle.tally_statements.specs.Office.{numbered_rows}
-use Rattle.tally_statements.proofs.NumberedLemmas.{rows_then}
+use Rattle.tally_schema.specs.declared.table.KeyedTable.{KeyedTable}
+use Rattle.tally_schema.specs.Office.{numbered_rows}
+use Rattle.tally_schema.proofs.NumberedLemmas.{rows_then}
 use Rattle.tally_tables.specs.Cells.{item_row, items_of, numbers_with_places, spoiled_item}
 use Rattle.tally_entries.specs.internal.Written.{Adds}
-
--- ---- what each call leaves of the last commit
-
-pub keeps_then : (a b c : State) → KeepsCommit a b → KeepsCommit b c → KeepsCommit a c
-keeps_then a b c p q = record { was_open = λ now. p.was_open (q.was_open now); committed = λ now. q.committed now ∙ p.committed (q.was_open now) }
-
-pub keeps_same : (a : State) → KeepsCommit a a
-keeps_same a = record { was_open = λ now. now; committed = λ _. refl }
 
 -- ---- rows more
 

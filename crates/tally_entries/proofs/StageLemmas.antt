@@ -12,8 +12,8 @@ use Rattle.sqlite.proofs.Callers.{one_permutation}
 use Rattle.sqlite.specs.State.{State}
 use Rattle.tally_schema.specs.Rows.{has_key}
 use Rattle.tally_schema.specs.Cells.{flag}
-use Rattle.tally_statements.specs.declared.table.KeyedTable.TheVariants.{Cons}
-use Rattle.tally_statements.specs.Office.{rows_in}
+use Rattle.tally_schema.specs.declared.table.KeyedTable.TheVariants.{Cons}
+use Rattle.tally_schema.specs.Office.{rows_in}
 use Rattle.tally_tables.specs.Reading.{standing_of}
 use Rattle.tally_tables.proofs.ConLemmas.{standing_is}
 use Rattle.tally_entries.specs.internal.Constituencies.{AreCons}

@@ -20,13 +20,13 @@ use Rattle.tally_returns.specs.State.{ConState, con_state, opening_con}
 use Rattle.tally_returns.specs.declared.progress.ProgressRow.{ProgressRow}
 use Rattle.tally_returns.specs.declared.returns.Status.{Status}
 use Rattle.tally_returns.specs.declared.returns.Status.TheVariants.{Received, Queried, Corrected, Closed}
-use Rattle.tally_statements.specs.declared.table.KeyedTable.TheVariants.{Returns}
-use Rattle.tally_statements.specs.Office.{IsFound, tree_of}
+use Rattle.tally_schema.specs.declared.table.KeyedTable.TheVariants.{Returns}
+use Rattle.tally_schema.specs.Office.{IsFound, tree_of}
 use Rattle.tally_tables.specs.Cells.{return_rows, status_number}
 use Rattle.tally_tables.specs.Reading.{status_of}
 use Rattle.tally_tables.specs.declared.views.Statuses.{Statuses}
 use Rattle.tally_entries.specs.internal.Constituencies.{FindsProgressRow}
-use Rattle.tally_entries.specs.internal.Found.{AreWithin, FindsKnownStatuses, FindsStatus, FindsStatuses, IsStageAmong, row_with, status_in, with_station}
+use Rattle.tally_entries.specs.internal.Found.{AreWithin, FindsKnownStatuses, FindsStatus, FindsStatuses, IsStageAmong, status_in, with_station}
 use Rattle.tally_entries.proofs.StageLemmas.{stage-among}
 use Rattle.tally_entries.specs.internal.Statuses.{statuses_in}
 use Rattle.tally_entries.proofs.ReturnLemmas.{heads_keyed}
@@ -123,17 +123,21 @@ known_before con known old mid found same finds setup returns held rows = finds 
 
 -- ---- how far a constituency has come
 
-pub finds_row : (con : Constituency) (code : List ℕ) (known : Option Statuses) (rows : List Row) (s : State) (stage : ℕ × Bool) (statuses : Statuses) (row : ProgressRow) → code ≡ con.code → IsStageAmong con.code rows stage → FindsKnownStatuses con known s statuses
-    → row ≡ row_with code stage statuses → FindsProgressRow con known rows s row
-finds_row con code known rows s stage statuses row own among counted is setup of there held all returns cons = go (get of.cons con.code) refl there
+pub finds_row : (con : Constituency) (code : List ℕ) (known : Option Statuses) (rows : List Row) (s : State) (stage : ℕ × Bool) (statuses : Statuses) → code ≡ con.code → IsStageAmong con.code rows stage → FindsKnownStatuses con known s statuses
+    → FindsProgressRow con known rows s
+    (record { con = code; stations = statuses.stations; received = statuses.received; queried = statuses.queried; corrected = statuses.corrected; closed = statuses.closed; edition = stage.0; certified = stage.1 })
+finds_row con code known rows s stage statuses own among counted setup of there held all returns cons = go (get of.cons con.code) refl there
   where
+    row : ProgressRow
+    row = record { con = code; stations = statuses.stations; received = statuses.received; queried = statuses.queried; corrected = statuses.corrected; closed = statuses.closed; edition = stage.0; certified = stage.1 }
+
     go : (o : Option ConState) → get of.cons con.code ≡ o → is_some o ≡ true → row ≡ progress_row of con
     go None at some = absurd (true≢false (sym some))
     go (Some c) at some =
         let stands : con_state of con.code ≡ c = ap (λ o. unwrap_or o opening_con) at in
         let here = stage-among con.code s rows stage all among of.cons c at cons in
         let numbers : statuses ≡ statuses_in of.returns con.stations = counted setup of.returns held returns in
-        is ∙ (λ i. record {
+        λ i. record {
           con = own i;
           stations = (numbers i).stations;
           received = (numbers i).received;
@@ -142,4 +146,4 @@ finds_row con code known rows s stage statuses row own among counted is setup of
           closed = (numbers i).closed;
           edition = (here.0 ∙ ap (λ (x : ConState). x.edition) (sym stands)) i;
           certified = (here.1 ∙ ap (λ (x : ConState). x.certified) (sym stands)) i;
-        })
+        }

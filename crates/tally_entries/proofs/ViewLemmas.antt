@@ -14,9 +14,9 @@ use Rattle.tally_schema.proofs.RowsLemmas.{AreKeyedBy, rows_of_key}
 use Rattle.tally_returns.specs.Counts.{VoteCounts}
 use Rattle.tally_returns.specs.State.{ConState}
 use Rattle.tally_schema.specs.Cells.{flag}
-use Rattle.tally_statements.specs.declared.table.KeyedTable.{KeyedTable}
-use Rattle.tally_statements.specs.declared.table.KeyedTable.TheVariants.{Cons, Totals}
-use Rattle.tally_statements.specs.Office.{AreInOrder, IsFound, rows_in}
+use Rattle.tally_schema.specs.declared.table.KeyedTable.{KeyedTable}
+use Rattle.tally_schema.specs.declared.table.KeyedTable.TheVariants.{Cons, Totals}
+use Rattle.tally_schema.specs.Office.{AreInOrder, IsFound, rows_in}
 use Rattle.tally_tables.specs.Cells.{con_rows, item_row, items_of, total_rows, totals_of}
 use Rattle.tally_tables.specs.Reading.{standing_of, sums_of}
 use Rattle.tally_tables.proofs.ConLemmas.{standing_is, standing_row}

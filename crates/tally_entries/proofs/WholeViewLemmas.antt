@@ -26,8 +26,8 @@ use Rattle.tally_returns.specs.PastSeats.{PastSeats}
 use Rattle.tally_returns.specs.Return.{Returns}
 use Rattle.tally_returns.specs.State.{State, ConState, con_state, opening_con}
 use Rattle.tally_returns.specs.View.{View, view_of, view_with, gone_candidate, gone_candidates, past_record, past_records, votes_at, votes_of_lists, closed_counts, blank_of, spoiled_of}
-use Rattle.tally_statements.specs.declared.table.KeyedTable.TheVariants.{Cons, Lots, Seats, Gone, Totals, Past}
-use Rattle.tally_statements.specs.Office.{IsFound}
+use Rattle.tally_schema.specs.declared.table.KeyedTable.TheVariants.{Cons, Lots, Seats, Gone, Totals, Past}
+use Rattle.tally_schema.specs.Office.{IsFound}
 use Rattle.tally_tables.specs.Cells.{con_rows, gone_row, gone_rows, items_of, lot_rows, numbers_with_places, past_rows, record_rows, seat_rows, total_rows, totals_of}
 use Rattle.tally_tables.specs.Reading.{all_gone_of, numbers_from, past_of, standing_of, sums_of}
 use Rattle.tally_tables.specs.TablesOfState.{AreTables}

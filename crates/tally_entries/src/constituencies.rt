@@ -2,10 +2,10 @@
 
 ghost use Rattle.std.specs.Prelude.{◌≡◌, ◌≤◌, length};
 ghost use Rattle.tally_frac.specs.Limits.{most_lists};
-ghost use Rattle.tally_statements.specs.Office.{Inserts};
-ghost use Rattle.tally_statements.specs.declared.table.KeyedTable.TheVariants.{Cons, Lots, Seats};
-ghost use Rattle.tally_statements.specs.declared.table.KeyedTable.TheVariants.{Totals};
-ghost use Rattle.tally_statements.specs.declared.table.KeyedTable.TheVariants as table;
+ghost use Rattle.tally_schema.specs.Office.{Inserts};
+ghost use Rattle.tally_schema.specs.declared.table.KeyedTable.TheVariants.{Cons, Lots, Seats};
+ghost use Rattle.tally_schema.specs.declared.table.KeyedTable.TheVariants.{Totals};
+ghost use Rattle.tally_schema.specs.declared.table.KeyedTable.TheVariants as table;
 ghost use Rattle.tally_tables.specs.Cells.{con_rows, gone_rows, lot_rows, past_rows};
 ghost use Rattle.tally_entries.specs.internal.Constituencies.{Changes, ChangesSums, HasGone};
 ghost use Rattle.tally_entries.specs.internal.Constituencies.{HasLot};
@@ -14,11 +14,11 @@ ghost use Rattle.tally_entries.specs.internal.Constituencies.{WritesSeats};
 ghost use Rattle.tally_entries.specs.internal.Written.{candidate_row};
 ghost use Rattle.tally_entries.specs.internal.Entries.{PutsNumbers};
 ghost use Rattle.tally_entries.specs.internal.Sums.{MovesItem, MovesNumbers};
-ghost use Rattle.tally_statements.specs.internal.Inside.{InDatabase, Stays};
+ghost use Rattle.tally_schema.specs.internal.Inside.{InDatabase, Stays};
 
 use sqlite::{Alter, Error, ErrorCode, Transaction};
 use tally_returns::{Counts, Gone, Past};
-use tally_statements::{
+use tally_schema::{
     delete_lot, delete_seats, insert_gone, insert_lots, insert_past, insert_seats, update_con,
     update_total,
 };

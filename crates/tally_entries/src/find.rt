@@ -4,13 +4,13 @@ ghost use Rattle.std.specs.Prelude.{◌≡◌, [], None, IsErr};
 ghost use Rattle.tally_tables.specs.Reading.{entries_in};
 ghost use Rattle.tally_entries.specs.internal.Entries.{Finds, FindsReturn};
 ghost use Rattle.tally_entries.specs.internal.Found.{FindsNone, FindsOne, GivesOnly};
-ghost use Rattle.tally_statements.specs.internal.Inside.{OnlyReads};
+ghost use Rattle.tally_schema.specs.internal.Inside.{OnlyReads};
 
 use sqlite::{Alter, Error, ErrorCode, Row, Transaction};
 use std::alloc::Global;
 use tally_returns::Return;
+use tally_schema::{KeyedTable, rows_of_key};
 use tally_setup::{Code, Setup};
-use tally_statements::{KeyedTable, rows_of_key};
 use tally_tables::{ReturnFound, entries_in};
 
 /// The only return among those that were read, if there is one.

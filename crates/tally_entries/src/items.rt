@@ -4,12 +4,12 @@ ghost use Rattle.std.specs.Prelude.{◌≤◌, map, length};
 ghost use Rattle.tally_frac.specs.Limits.{most_lists};
 ghost use Rattle.tally_tables.specs.Cells.{item_row, items_of};
 ghost use Rattle.tally_entries.specs.internal.Written.{AddsRows, SetsCounts, SetsVotes};
-ghost use Rattle.tally_statements.specs.internal.Inside.{InDatabase, Stays};
-ghost use Rattle.tally_statements.specs.declared.table.KeyedTable.TheVariants.{Counts};
+ghost use Rattle.tally_schema.specs.internal.Inside.{InDatabase, Stays};
+ghost use Rattle.tally_schema.specs.declared.table.KeyedTable.TheVariants.{Counts};
 
 use sqlite::{Alter, Error, Transaction};
 use tally_returns::Counts as VoteCounts;
-use tally_statements::{insert_numbers, update_count};
+use tally_schema::{insert_numbers, update_count};
 use tally_tables::SPOILED_ITEM;
 
 /// Adds the counts of a station.

@@ -2,17 +2,17 @@
 
 ghost use Rattle.std.specs.Prelude.{◌≤◌, length};
 ghost use Rattle.tally_frac.specs.Limits.{most_lists};
-ghost use Rattle.tally_statements.specs.Office.{Inserts};
-ghost use Rattle.tally_statements.specs.declared.table.KeyedTable.TheVariants.{Returns};
+ghost use Rattle.tally_schema.specs.Office.{Inserts};
+ghost use Rattle.tally_schema.specs.declared.table.KeyedTable.TheVariants.{Returns};
 ghost use Rattle.tally_tables.specs.Cells.{return_row};
 ghost use Rattle.tally_entries.specs.internal.Entries.{AddsReturn, ChangesReturn, CorrectsReturn};
 ghost use Rattle.tally_entries.specs.internal.Written.{ReplacesHead};
-ghost use Rattle.tally_statements.specs.internal.Inside.{InDatabase, Stays};
+ghost use Rattle.tally_schema.specs.internal.Inside.{InDatabase, Stays};
 
 use crate::items::{insert_counts, update_counts};
 use sqlite::{Alter, Error, Transaction};
 use tally_returns::Return;
-use tally_statements::{insert_return, update_return};
+use tally_schema::{insert_return, update_return};
 use tally_tables::status_number;
 
 /// Adds the row of `returns` of a return.

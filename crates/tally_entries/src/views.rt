@@ -1,11 +1,11 @@
 //! Looking up a constituency.
 
-ghost use Rattle.std.specs.Prelude.{◌≡◌, ◌≤◌, IfOk, Some, length, option_and_then};
+ghost use Rattle.std.specs.Prelude.{◌≡◌, IfOk, Some, option_and_then};
 ghost use Rattle.sqlite_value.specs.Order.{column};
 ghost use Rattle.tally_returns.specs.View.{FitsView};
 ghost use Rattle.tally_schema.specs.Values.{number_of};
 ghost use Rattle.tally_setup.specs.Limits.{most_stations};
-ghost use Rattle.tally_statements.specs.Office.{IsFound, ShowsTable};
+ghost use Rattle.tally_schema.specs.Office.{IsFound, ShowsTable};
 ghost use Rattle.tally_tables.specs.Reading.{status_of, sums_of};
 ghost use Rattle.tally_entries.specs.internal.Constituencies.{FindsCertified, FindsProgressRow};
 ghost use Rattle.tally_entries.specs.internal.Constituencies.{FindsSums};
@@ -13,18 +13,17 @@ ghost use Rattle.tally_entries.specs.internal.Constituencies.{FindsView};
 ghost use Rattle.tally_entries.specs.internal.Entries.{ChangesNothing, Finds, FindsFrom};
 ghost use Rattle.tally_entries.specs.internal.Found.{AreRowsFound, AreWithin, FindsKnownStatuses};
 ghost use Rattle.tally_entries.specs.internal.Found.{IsFoundIf};
-ghost use Rattle.tally_entries.specs.internal.Found.{FindsStatus, FindsStatuses, IsStageAmong};
+ghost use Rattle.tally_entries.specs.internal.Found.{FindsStatus, IsStageAmong};
 ghost use Rattle.tally_entries.specs.internal.Found.{certified_in, status_in};
 ghost use Rattle.tally_entries.specs.internal.Found.{view_of_rows, with_station};
-ghost use Rattle.tally_statements.specs.internal.Inside.{IsOpenInside, OnlyReads, StaysFrom};
+ghost use Rattle.tally_schema.specs.internal.Inside.{IsOpenInside, OnlyReads, StaysFrom};
 
 use sqlite::{Alter, Error, ErrorCode, Row, Transaction};
 use std::alloc::Global;
 use std::marker::Model;
 use tally_returns::{ConView, ProgressRow, Status};
-use tally_schema::{number_at, text_at};
-use tally_setup::{Constituency, Setup, Station};
-use tally_statements::{KeyedTable, all_rows, rows_of_key};
+use tally_schema::{KeyedTable, all_rows, number_at, rows_of_key, text_at};
+use tally_setup::{Constituency, Setup};
 use tally_tables::{ConTables, Statuses, Sums, standing_in, status_of, sums_in, view_from_tables};
 
 /// Whether the constituency that has this row is certified. Other rows are an error.
@@ -73,40 +72,25 @@ pub fn find_sums<S: Alter>(
     sums_of_rows(alloc, &rows, con)
 }
 
-/// The rows of a key in two tables.
+/// The rows of a key in two tables, in the second one where they are asked for.
 fn rows_of_two<S: Alter>(
+    alloc: Global,
     tx: &mut Transaction<'_, S>,
     first: KeyedTable,
     second: KeyedTable,
     key: &str,
+    with_second: bool,
 ) -> Result<(Vec<Row>, Vec<Row>), Error>
     ensures reads { OnlyReads S.Store tx.old tx.new result }
     ensures found { Finds S.Store (λ seen rows. IsFound first key.now seen rows.0.items ×
-        IsFound second key.now seen rows.1.items) tx.old tx.new result }
+        IsFoundIf with_second second key.now seen rows.1.items) tx.old tx.new result }
 {
     let of_first = rows_of_key(tx, first, key)?;
+    if !with_second {
+        return Ok((of_first, Vec::new(alloc)));
+    }
     let of_second = rows_of_key(tx, second, key)?;
     Ok((of_first, of_second))
-}
-
-/// The rows of a constituency in `totals`, and those of its certificates on record where they are
-/// asked for.
-fn totals_and_past<S: Alter>(
-    alloc: Global,
-    tx: &mut Transaction<'_, S>,
-    con: &str,
-    with_past: bool,
-) -> Result<(Vec<Row>, Vec<Row>), Error>
-    ensures reads { OnlyReads S.Store tx.old tx.new result }
-    ensures found { Finds S.Store (λ seen rows.
-        IsFound KeyedTable.Totals con.now seen rows.0.items ×
-        IsFoundIf with_past KeyedTable.Past con.now seen rows.1.items) tx.old tx.new result }
-{
-    if !with_past {
-        let totals = rows_of_key(tx, KeyedTable::Totals, con)?;
-        return Ok((totals, Vec::new(alloc)));
-    }
-    rows_of_two(tx, KeyedTable::Totals, KeyedTable::Past, con)
 }
 
 /// The rows of a constituency in the tables that have it for their key.
@@ -147,9 +131,16 @@ fn rows_of_con<S: Alter>(
     ensures reads { OnlyReads S.Store tx.old tx.new result }
     ensures found { Finds S.Store (AreRowsFound with_past con.now) tx.old tx.new result }
 {
-    let (cons, lots) = rows_of_two(tx, KeyedTable::Cons, KeyedTable::Lots, con)?;
-    let (seats, gone) = rows_of_two(tx, KeyedTable::Seats, KeyedTable::Gone, con)?;
-    let (totals, past) = totals_and_past(alloc, tx, con, with_past)?;
+    let (cons, lots) = rows_of_two(alloc, tx, KeyedTable::Cons, KeyedTable::Lots, con, true)?;
+    let (seats, gone) = rows_of_two(alloc, tx, KeyedTable::Seats, KeyedTable::Gone, con, true)?;
+    let (totals, past) = rows_of_two(
+        alloc,
+        tx,
+        KeyedTable::Totals,
+        KeyedTable::Past,
+        con,
+        with_past,
+    )?;
     Ok(ConRows {
         cons,
         lots,
@@ -211,32 +202,6 @@ fn with_station(so_far: Statuses, status: Option<Status>) -> Statuses
     now
 }
 
-/// How many of these stations there are, and how many of their returns are in each status, each
-/// return looked up by its station.
-fn find_statuses<S: Alter>(
-    tx: &mut Transaction<'_, S>,
-    stations: &[Station],
-) -> Result<Statuses, Error>
-    requires few { length stations.now ≤ most_stations }
-    ensures stays { StaysFrom IsOpenInside S.Store tx.old tx.new }
-    ensures found { FindsFrom IsOpenInside S.Store (FindsStatuses stations.now)
-        tx.old tx.new result }
-    ensures same { ChangesNothing S.Store tx.old tx.new result }
-{
-    let mut found = Statuses {
-        stations: 0,
-        received: 0,
-        queried: 0,
-        corrected: 0,
-        closed: 0,
-    };
-    for station in stations {
-        let status = find_status(tx, station.code.as_str())?;
-        found = with_station(found, status);
-    }
-    Ok(found)
-}
-
 /// How many stations a constituency has, and how many of their returns are in each status. Where
 /// that is not known, each return is looked up by its station.
 fn find_known<S: Alter>(
@@ -249,10 +214,22 @@ fn find_known<S: Alter>(
         tx.old tx.new result }
     ensures same { ChangesNothing S.Store tx.old tx.new result }
 {
-    match known {
-        Some(statuses) => Ok(statuses),
-        None => find_statuses(tx, con.stations.as_slice()),
+    if let Some(statuses) = known {
+        return Ok(statuses);
     }
+    let mut found = Statuses {
+        stations: 0,
+        received: 0,
+        queried: 0,
+        corrected: 0,
+        closed: 0,
+    };
+    let stations = con.stations.as_slice();
+    for station in stations {
+        let status = find_status(tx, station.code.as_str())?;
+        found = with_station(found, status);
+    }
+    Ok(found)
 }
 
 /// What is seen of the constituency whose rows these are. Other rows are an error, and so are rows

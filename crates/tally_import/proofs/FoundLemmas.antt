@@ -9,7 +9,7 @@ use Rattle.tally_import.specs.Header.{header_lists}
 use Rattle.tally_import.specs.Check.{Checked, Found, check_fault, records_result, result_at_end, under_header, rows_of_records, text_of}
 use Rattle.tally_records.specs.Input.{AreAll}
 use Rattle.tally_import.specs.internal.Progress.{HasTaken}
-use Rattle.tally_import.specs.internal.Rounds.{FindsCheckText, ImportsRecords, ended_import}
+use Rattle.tally_import.specs.internal.Rounds.{FindsCheckText, ImportsRecords, ended_text}
 use Rattle.tally_import.specs.declared.import.Import.{Import}
 use Rattle.tally_records.specs.declared.end.Stop.{Stop}
 use Rattle.tally_import.specs.declared.check.CheckFault.{CheckFault}
@@ -54,19 +54,19 @@ under-fault header lists records stop fault named (inr stopped) =
 -- an import of all rows, or of those before what stopped the text
 pub Imports-ended : (lists : ℕ) (AreRows : List (List (List ℕ)) → Option Stop → Type 0) (import : Import) (rows : List (List (List ℕ))) (stop : Option Stop)
     → AreRows rows stop → HasTaken (record { lists = lists; rows = rows_of_records lists rows }) import → length rows ≤ row_limit
-    → ImportsRecords lists AreRows (ended_import stop import)
+    → ImportsRecords lists AreRows import (ended_text stop)
 Imports-ended lists AreRows import rows None are taken few = (rows, are, taken, few)
 Imports-ended lists AreRows import rows (Some fault) are taken few = inr (rows, Some fault, are, inr (refl, few))
 
 -- what an import that failed shows of the text
 pub Found-rows : (sep : Sep) (text left : Option (List ℕ)) (header : List (List ℕ)) (lists : List (List ℕ)) (n : ℕ) (fault : CheckFault)
-    (AreRows : List (List (List ℕ)) → Option Stop → Type 0)
+    (AreRows : List (List (List ℕ)) → Option Stop → Type 0) (import : Import)
     → Some lists ≡ header_lists header
     → ((rows : List (List (List ℕ))) (stop : Option Stop) → AreRows rows stop → AreAll sep text left (header ∷ rows) stop)
-    → ImportsRecords n AreRows (Err fault)
+    → ImportsRecords n AreRows import (Err fault)
     → IfSome text (λ t. (fault ≡ Memory) ⊎ Found sep t left (λ f. f ≡ Err fault))
-Found-rows sep text left header lists n fault AreRows named all (inl memory) = Found-memory sep text left fault memory
-Found-rows sep text left header lists n fault AreRows named all (inr found) =
+Found-rows sep text left header lists n fault AreRows import named all (inl memory) = Found-memory sep text left fault memory
+Found-rows sep text left header lists n fault AreRows import named all (inr found) =
     Found-fault sep text left (header ∷ found.0) found.1 fault (all found.0 found.1 found.2) (under-fault header lists found.0 found.1 fault named found.3)
 
 -- what the text that was made of an import shows of the text that was read

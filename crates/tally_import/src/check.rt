@@ -11,7 +11,8 @@ ghost use Rattle.tally_records.specs.Given.{IsReadingOn, WatchAgrees};
 ghost use Rattle.tally_records.specs.Watch.{flag_after_stop, has_failed};
 ghost use Rattle.tally_import.specs.declared.check.CheckFault.TheVariants as cause;
 ghost use Rattle.tally_import.specs.internal.Rounds.{AreRecordsAfter, FindsCheckText, FindsAfter};
-ghost use Rattle.tally_import.specs.internal.Rounds.{ImportsRecords, IsOfReading, ended_import};
+ghost use Rattle.tally_import.specs.internal.Progress.{HasTaken};
+ghost use Rattle.tally_import.specs.internal.Rounds.{ImportsRecords, IsOfReading, ended_text};
 
 use crate::header::lists_in_header;
 use crate::import::Import;
@@ -152,15 +153,17 @@ fn checked_text<R: Read>(
     ensures all_read { OnOk result (has_failed watch.new ≡ has_failed watch.old) }
 {
     let mut records = Records::new(alloc, reader, watch, sep)?;
-    text_of_records(alloc, reader, watch, &mut records, lines)
+    let mut fields = ByteRecord::new(alloc);
+    text_of_records(alloc, reader, watch, &mut records, &mut fields, lines)
 }
 
-/// What is written of records, of which none was given.
+/// What is written of records, of which none was given. One after the other is read into `fields`.
 fn text_of_records<R: Read>(
     alloc: Global,
     reader: &mut R,
     watch: &mut Watch<R>,
     records: &mut Records,
+    fields: &mut ByteRecord,
     lines: bool,
 ) -> Result<String, CheckFault>
     requires { IsReadingOn records.old }
@@ -171,14 +174,21 @@ fn text_of_records<R: Read>(
     ensures all_read { (before : Bool) → WatchAgrees before records.old (has_failed watch.old)
         → OnOk result (has_failed watch.new ≡ before) }
 {
-    let mut header = ByteRecord::new(alloc);
-    if let Some(end) = records.next(alloc, reader, watch, &mut header)? {
+    if let Some(end) = records.next(alloc, reader, watch, fields)? {
         return Err(no_header(end));
     }
-    let Some(lists) = lists_in_header(alloc, &header)? else {
+    let Some(lists) = lists_in_header(alloc, fields)? else {
         return Err(CheckFault::BadHeader);
     };
-    text_under_header(alloc, reader, watch, records, lists.as_slice(), lines)
+    text_under_header(
+        alloc,
+        reader,
+        watch,
+        records,
+        fields,
+        lists.as_slice(),
+        lines,
+    )
 }
 
 /// What is written of the records after a header of these lists.
@@ -187,6 +197,7 @@ fn text_under_header<R: Read>(
     reader: &mut R,
     watch: &mut Watch<R>,
     records: &mut Records,
+    fields: &mut ByteRecord,
     lists: &[Code],
     lines: bool,
 ) -> Result<String, CheckFault>
@@ -200,8 +211,9 @@ fn text_under_header<R: Read>(
     ensures all_read { (before : Bool) → WatchAgrees before records.old (has_failed watch.old)
         → OnOk result (has_failed watch.new ≡ before) }
 {
-    match check_rows(alloc, reader, watch, records, lists.len()) {
-        Ok(import) => import_text(alloc, lists, &import, lines),
+    let mut import = Import::new(alloc, lists.len())?;
+    match check_rows(alloc, reader, watch, records, fields, &mut import) {
+        Ok(()) => import_text(alloc, lists, &import, lines),
         Err(fault) => Err(fault),
     }
 }
@@ -218,48 +230,48 @@ fn no_header(end: End) -> CheckFault
     }
 }
 
-/// Imports the records that are left, under a header of so many lists.
+/// Imports the records that are left. The import has taken none.
 fn check_rows<R: Read>(
     alloc: Global,
     reader: &mut R,
     watch: &mut Watch<R>,
     records: &mut Records,
-    lists: usize,
-) -> Result<Import, CheckFault>
+    fields: &mut ByteRecord,
+    import: &mut Import,
+) -> Result<(), CheckFault>
     requires reading { IsReadingOn records.old }
-    requires lists { lists ≤ most_lists }
-    ensures imports { ImportsRecords lists
-        (AreRecordsAfter (R.remaining reader.old) (R.remaining reader.new) records.old) result }
+    requires none { HasTaken (record { lists = import.old.lists; rows = [] }) import.old }
+    ensures imports { ImportsRecords import.old.lists
+        (AreRecordsAfter (R.remaining reader.old) (R.remaining reader.new) records.old)
+        import.new result }
     ensures read { (before : Bool) → WatchAgrees before records.old (has_failed watch.old)
         → IfErr result (λ fault. IsOfReading fault (has_failed watch.new)) }
     ensures all_read { (before : Bool) → WatchAgrees before records.old (has_failed watch.old)
         → OnOk result (has_failed watch.new ≡ before) }
 {
-    let mut import = Import::new(alloc, lists)?;
-    let mut record = ByteRecord::new(alloc);
     let mut taken = 0;
     loop {
-        if let Some(end) = records.next(alloc, reader, watch, &mut record)? {
-            return ended(import, end);
+        if let Some(end) = records.next(alloc, reader, watch, fields)? {
+            return ended(end);
         }
         if taken == ROW_LIMIT {
             return Err(CheckFault::TooLong);
         }
         taken += 1;
-        import.take_record(alloc, taken, &record)?;
+        import.take_record(alloc, taken, fields)?;
     }
 }
 
-/// An import whose text came to its end, or the fault of one that was stopped.
-fn ended(import: Import, end: End) -> Result<Import, CheckFault>
-    ensures import { result ≡ ended_import end.stop import }
+/// The fault of a text that was stopped, and none of one that came to its end.
+fn ended(end: End) -> Result<(), CheckFault>
+    ensures end { result ≡ ended_text end.stop }
     ensures read { (before failed : Bool) → failed ≡ flag_after_stop end.stop before
         → IfErr result (λ fault. IsOfReading fault failed) }
     ensures all_read { (before failed : Bool) → failed ≡ flag_after_stop end.stop before
         → OnOk result (failed ≡ before) }
 {
     match end.stop {
-        None => Ok(import),
+        None => Ok(()),
         Some(stop) => Err(CheckFault::from(stop)),
     }
 }

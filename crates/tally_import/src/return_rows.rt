@@ -212,8 +212,9 @@ fn next_row<R: Read>(
     }
 }
 
-/// Reads the header, and goes on to the rows. It is a function of its own, since a function pays
-/// for the room of its locals at each call, and only the first row needs these.
+/// Reads the header, which has to be the constituency's, and goes on to the rows. It is a function
+/// of its own, since a function pays for the room of its locals at each call, and only the first
+/// row needs these.
 fn start<R: Read>(
     alloc: Global,
     reader: &mut R,
@@ -231,7 +232,22 @@ fn start<R: Read>(
     ensures before { FailsLast
         (R.remaining reader.old) con.now sep 0 result (R.remaining reader.new) }
 {
-    *stage = Stage::Reading(Rows::new(alloc, reader, watch, sep, con)?);
+    let mut records = Records::new(alloc, reader, watch, sep)?;
+    let mut header = ByteRecord::new(alloc);
+    if let Some(end) = records.next(alloc, reader, watch, &mut header)? {
+        return Err(header_fault(end));
+    }
+    if !is_header(con.lists.as_slice(), &header) {
+        return Err(ImportFault::BadHeader);
+    }
+    let stations = station_codes(alloc, con.stations.as_slice())?;
+    *stage = Stage::Reading(Rows {
+        records,
+        lists: con.lists.len(),
+        stations,
+        came: 0,
+        fields: header,
+    });
     Ok(())
 }
 
@@ -284,42 +300,6 @@ fn next_started<R: Read>(
 }
 
 impl Rows {
-    /// Reads the header, which has to be the constituency's.
-    fn new<R: Read>(
-        alloc: Global,
-        reader: &mut R,
-        watch: &mut Watch<R>,
-        sep: Sep,
-        con: &Constituency,
-    ) -> Result<Rows, ImportFault>
-        ensures reading { IfOk result
-            (IsReadingRows (R.remaining reader.old) (R.remaining reader.new) con.now sep) }
-        ensures came { IfOk result (λ rows. rows.came ≡ 0) }
-        ensures fault { IfErr result (IsNext (R.remaining reader.old) (text_coming con.now sep)) }
-        ensures true_at { IfOk result (λ rows.
-            WatchAgrees (has_failed watch.old) rows.records (has_failed watch.new)) }
-        ensures read { IfErr result (λ fault. IsTrueFault fault (has_failed watch.new)) }
-        ensures before { FailsLast
-            (R.remaining reader.old) con.now sep 0 result (R.remaining reader.new) }
-    {
-        let mut records = Records::new(alloc, reader, watch, sep)?;
-        let mut header = ByteRecord::new(alloc);
-        if let Some(end) = records.next(alloc, reader, watch, &mut header)? {
-            return Err(header_fault(end));
-        }
-        if !is_header(con.lists.as_slice(), &header) {
-            return Err(ImportFault::BadHeader);
-        }
-        let stations = station_codes(alloc, con.stations.as_slice())?;
-        Ok(Rows {
-            records,
-            lists: con.lists.len(),
-            stations,
-            came: 0,
-            fields: header,
-        })
-    }
-
     /// The next row, or the end or the fault after the last one.
     fn next<R: Read>(
         &mut self,

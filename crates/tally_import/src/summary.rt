@@ -29,24 +29,6 @@ pub(crate) fn import_text(
         ≡ text_of lines (record { lists = lists.now; rows = taken.rows })) }
     ensures fault { IfErr result (λ fault. fault ≡ CheckFault.Memory) }
 {
-    match text_of(alloc, lists, import, lines) {
-        Ok(text) => Ok(text),
-        Err(AllocError) => Err(CheckFault::Memory),
-    }
-}
-
-fn text_of(
-    alloc: Global,
-    lists: &[Code],
-    import: &Import,
-    lines: bool,
-) -> Result<String, AllocError>
-    requires lists { import.now.lists ≡ length lists.now }
-    requires totals { length import.now.totals.votes.items ≡ length lists.now }
-    ensures { IfOk result (λ text. (taken : Taken) → HasTaken taken import.now
-        → string_bytes text
-        ≡ text_of lines (record { lists = lists.now; rows = taken.rows })) }
-{
     let mut text = String::with_capacity(alloc, COUNT_ROOM)?;
     push_count(&mut text, &import.count);
     push_totals(&mut text, lists, &import.totals)?;

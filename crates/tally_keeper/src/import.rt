@@ -41,7 +41,7 @@ pub enum Column {
 }
 
 /// A row that was neither lodged nor there already, and why.
-#[derive(Clone, Copy, Debug, PartialEq, Eq)]
+#[derive(Clone, Copy, Debug)]
 pub struct NamedRow {
     /// Its number, from 1.
     pub row: u32,

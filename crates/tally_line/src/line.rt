@@ -1,9 +1,8 @@
 //! The command line.
 
 ghost use Rattle.std.specs.Prelude.{◌≡◌, ◌≤◌, IfOk, IfErr, Some, true, false, codes, is_some, map};
-ghost use Rattle.std.specs.Prelude.{option_map, string_bytes};
-ghost use Rattle.std.specs.Result.{IsOkAnd};
-ghost use Rattle.clap.specs.Words.{AddsSubcommand, app_of, first_of, kind_of, new_app};
+ghost use Rattle.std.specs.Prelude.{OnOk, option_map, string_bytes};
+ghost use Rattle.clap.specs.Words.{app_of, first_of, kind_of, new_app};
 ghost use Rattle.clap.specs.declared.error.ErrorKind.TheVariants.{InvalidValue};
 ghost use Rattle.tally_line.specs.Line.{GivesLine, IsRefusal, IsLineWithinLimits, bare_office_app};
 ghost use Rattle.tally_line.specs.Line.{check_app, flag_rule, import_app, import_line, is_set};
@@ -11,10 +10,10 @@ ghost use Rattle.tally_line.specs.Line.{line_of, line_of_command, new_line, new_
 ghost use Rattle.tally_line.specs.Line.{number_given, number_rule, office_app, sep_given};
 ghost use Rattle.tally_line.specs.Line.{serve_app, serve_line, show_app, show_line};
 ghost use Rattle.tally_line.specs.Line.{value_rule, wanted_rule};
-ghost use Rattle.tally_line.specs.internal.Arguments.{IsCommandFault, IsShowFault, given_rows, has};
+ghost use Rattle.tally_line.specs.internal.Arguments.{IsCommandFault, IsGivenText, IsShowFault};
+ghost use Rattle.tally_line.specs.internal.Arguments.{IsTextIfGiven, given_rows, has};
 ghost use Rattle.tally_line.specs.internal.Arguments.{has_arguments, has_count, has_port};
-ghost use Rattle.tally_line.specs.internal.Commands.{HasRule, Offers, OffersAll};
-ghost use Rattle.tally_line.specs.internal.Commands.{with_import_show_and_serve};
+ghost use Rattle.tally_line.specs.internal.Commands.{AddsMade, HasRule, Offers, OffersAll};
 
 use crate::help;
 use clap::builder::ValueParser;
@@ -223,8 +222,7 @@ fn read_serve(alloc: Global, arguments: &ArgMatches<'_>) -> Result<Line, AllocEr
 // The text of an argument that was given.
 fn read_text(alloc: Global, arguments: &ArgMatches<'_>, id: &str) -> Result<String, AllocError>
     requires { has id.now (given_rows arguments.now) ≡ true }
-    ensures { IfOk result (λ text.
-        first_of id.now (given_rows arguments.now) ≡ Some (string_bytes text)) }
+    ensures { IfOk result (IsGivenText id.now (given_rows arguments.now)) }
 {
     match text_of(arguments, id) {
         Some(text) => text.to_string(alloc),
@@ -248,8 +246,7 @@ fn read_number(arguments: &ArgMatches<'_>, id: &str, most: u64) -> u64
 }
 
 fn read_con(alloc: Global, arguments: &ArgMatches<'_>) -> Result<Option<String>, AllocError>
-    ensures { IfOk result (λ con.
-        option_map string_bytes con ≡ first_of (codes "con") (given_rows arguments.now)) }
+    ensures { IfOk result (IsTextIfGiven (codes "con") (given_rows arguments.now)) }
 {
     match text_of(arguments, CON) {
         Some(text) => Ok(Some(text.to_string(alloc)?)),
@@ -303,20 +300,13 @@ fn show_error(alloc: Global, message: &str) -> Result<clap::Error, AllocError>
 fn office_command<'a>(alloc: Global) -> Result<Command<'a>, AllocError>
     ensures { IfOk result (λ c. app_of c ≡ office_app) }
 {
-    let office = with_command(bare_office_command(alloc), check_command(alloc))?;
-    let office = with_command(office, new_command(alloc))?;
-    with_import_show_and_serve(alloc, office)
-}
-
-fn with_import_show_and_serve<'a>(
-    alloc: Global,
-    office: Command<'a>,
-) -> Result<Command<'a>, AllocError>
-    ensures { IfOk result (λ c. app_of c ≡ with_import_show_and_serve (app_of office.entry)) }
-{
-    let office = with_command(office, import_command(alloc))?;
-    let office = with_command(office, show_command(alloc))?;
-    with_command(office, serve_command(alloc))
+    let mut commands = Vec::new(alloc);
+    push_command(&mut commands, check_command(alloc))?;
+    push_command(&mut commands, new_command(alloc))?;
+    push_command(&mut commands, import_command(alloc))?;
+    push_command(&mut commands, show_command(alloc))?;
+    push_command(&mut commands, serve_command(alloc))?;
+    bare_office_command(alloc).subcommands(commands)
 }
 
 // The program without its commands.
@@ -331,14 +321,15 @@ fn bare_office_command<'a>(alloc: Global) -> Command<'a>
         .arg_required_else_help(true)
 }
 
-// The program with one command more, where there was memory to make that.
-fn with_command<'a>(
-    office: Command<'a>,
+// Appends a command, where there was memory to make it.
+fn push_command<'a>(
+    commands: &mut Vec<Command<'a>>,
     command: Result<Command<'a>, AllocError>,
-) -> Result<Command<'a>, AllocError>
-    ensures { IfOk result (λ c. IsOkAnd command.entry (λ sub. AddsSubcommand office.entry sub c)) }
+) -> Result<(), AllocError>
+    ensures { OnOk result (AddsMade commands.old.items command.entry commands.new.items) }
 {
-    office.subcommand(command?)
+    commands.push(command?)?;
+    Ok(())
 }
 
 // A command: its name, the texts of its help, and its arguments.

@@ -19,7 +19,7 @@ use tally_returns::{ConView, LAST_EDITION, Past, Refusal};
 use tally_setup::{Code, Constituency, good_note};
 
 /// What a reopening comes to.
-#[derive(Debug, Drop)]
+#[derive(Drop)]
 pub struct Reopening {
     /// The note that says why.
     pub note: String,

@@ -13,7 +13,7 @@ use tally_returns::{ConView, Gone, Refusal};
 use tally_setup::{Code, Constituency, good_note};
 
 /// A seat that was left.
-#[derive(Debug, Drop)]
+#[derive(Drop)]
 pub struct Vacancy {
     /// The candidate who left it.
     pub gone: Gone,

@@ -1,5 +1,5 @@
 -- Heads in the bytes that came so far, and in the whole text.
-use Rattle.std.proofs.Common.{◌≡◌, ℕ, Bool, ◌+◌, ◌-◌, ◌≤◌, List, ◌++◌, length, take, drop, sym, ap, subst, append_assoc, inr, ◌∙◌, arith}
+use Rattle.std.proofs.Common.{◌≡◌, ℕ, Bool, false, ◌+◌, ◌-◌, ◌≤◌, ◌<◌, List, [], ◌++◌, length, take, drop, sym, ap, subst, append_assoc, append-nil, inl, inr, ◌∙◌, arith}
 use Rattle.std.proofs.Math.Seq.{take-append_seam, take-append-add, take-length}
 use Rattle.std.proofs.lemmas.List.{take-append-drop, take-append-le, length-append, length-drop}
 use Rattle.httparse.specs.Grammar.{ReadsRequest, HasNoRequest, print_request}
@@ -41,6 +41,12 @@ cannot_become text buf left is short over more h rest reads few =
 
 pub longer : (text buf left : List ℕ) → text ≡ buf ++ left → head_limit ≤ length buf → head_limit ≤ length text
 longer text buf left is full = let long : length text ≡ length buf + length left = ap length is ∙ length-append buf left in omega (arith, long, full)
+
+-- the text ended before its head did
+pub ended_head : (text buf left : List ℕ) (fails : Bool) → text ≡ buf ++ left → left ≡ [] → fails ≡ false → length buf < head_limit → HasNoRequest buf → IsFault text fails BadHead
+ended_head text buf left fails is empty ended short none =
+    let same : text ≡ buf = is ∙ ap (λ t. buf ++ t) empty ∙ append-nil buf in
+    subst (λ t. IsFault t fails BadHead) (sym same) (none_yet buf none, inl (short, ended))
 
 -- bytes of which no head can come
 pub overflowing_head : (text buf left : List ℕ) (fails : Bool) (found : MessageFault) → text ≡ buf ++ left → length buf ≤ head_limit

@@ -2,10 +2,9 @@
 //! `?`, since the `?` of an enum that holds a text (`Trouble`) has no proof yet.
 
 ghost use Rattle.std.specs.Prelude.{◌≡◌, false, IfErr, IfOk};
-ghost use Rattle.tally_commands.specs.Trouble.{IsTroubleOfDatabase, IsTroubleOfMaking};
-ghost use Rattle.tally_commands.specs.Trouble.{IsTroubleOfOpening};
+ghost use Rattle.tally_commands.specs.Trouble.{IsTroubleOfDatabase};
 
-use sqlite::{Alter, Connection, Error, ErrorCode, FileFrom, FileStore, Wary};
+use sqlite::{Connection, Error, ErrorCode, FileFrom, FileStore, Wary};
 use std::fs::{self, File};
 use std::io::{self, ErrorKind};
 use std::net::{Ipv4Addr, TcpListener};
@@ -30,11 +29,58 @@ impl Offices for Databases {
     ghost Opens = { λ _ _ _. Unit {0} };
 
     fn open_office(&self, rt: &HostRuntime, path: &str) -> Result<Office, Trouble> {
-        open_office(rt, path)
+        if !names_file(path) {
+            return Err(Trouble::Store);
+        }
+        match has_nothing(rt, path) {
+            Ok(false) => {}
+            Ok(true) => return Err(Trouble::NoTables),
+            Err(error) => return Err(trouble_of(&error)),
+        }
+        let log = match log_path(rt, path) {
+            Ok(log) => log,
+            Err(error) => return Err(trouble_of(&error)),
+        };
+        let conn = match connect(rt, path, log.as_str(), false) {
+            Ok(conn) => conn,
+            Err(trouble) => return Err(trouble),
+        };
+        match Store::open(rt.alloc(), conn) {
+            Ok(office) => Ok(office),
+            Err((conn, fault)) => {
+                let _closed = close(rt, path, conn);
+                Err(Trouble::from_open(&fault))
+            }
+        }
     }
 
+    /// Makes an office in a new file, or in one that has no tables yet. A file that it made is
+    /// removed if that fails.
     fn make_office(&self, rt: &HostRuntime, path: &str, text: &[u8]) -> Result<Office, Trouble> {
-        make_office(rt, path, text)
+        if !names_file(path) {
+            return Err(Trouble::Store);
+        }
+        let log = match log_path(rt, path) {
+            Ok(log) => log,
+            Err(error) => return Err(trouble_of(&error)),
+        };
+        let was_made = File::create_new(rt, path).is_ok();
+        let conn = match connect(rt, path, log.as_str(), was_made) {
+            Ok(conn) => conn,
+            Err(trouble) => return Err(trouble),
+        };
+        match Store::create(rt.alloc(), conn, text) {
+            Ok(office) => Ok(office),
+            Err((conn, fault)) => {
+                if !was_made {
+                    let _closed = close(rt, path, conn);
+                } else if conn.schema().tables.as_slice().is_empty() {
+                    // As long as the connection is open, no other program has these files.
+                    let _ = remove_files(rt, path, log.as_str());
+                }
+                Err(Trouble::from_create(&fault))
+            }
+        }
     }
 
     fn listen(&self, rt: &HostRuntime, port: u16) -> Result<TcpListener, Trouble> {
@@ -163,73 +209,6 @@ fn remove_empty(rt: &HostRuntime, path: &str, log: &str) -> io::Result<()> {
         return Ok(());
     }
     fs::remove_file(rt, log)
-}
-
-/// Opens an office. Where there is no database, none is made.
-fn open_office(rt: &HostRuntime, path: &str) -> Result<Office, Trouble>
-    ensures named { IfErr result IsTroubleOfOpening }
-{
-    if !names_file(path) {
-        return Err(Trouble::Store);
-    }
-    match has_nothing(rt, path) {
-        Ok(false) => {}
-        Ok(true) => return Err(Trouble::NoTables),
-        Err(error) => return Err(trouble_of(&error)),
-    }
-    let log = match log_path(rt, path) {
-        Ok(log) => log,
-        Err(error) => return Err(trouble_of(&error)),
-    };
-    let conn = match connect(rt, path, log.as_str(), false) {
-        Ok(conn) => conn,
-        Err(trouble) => return Err(trouble),
-    };
-    match Store::open(rt.alloc(), conn) {
-        Ok(office) => Ok(office),
-        Err((conn, fault)) => {
-            let _closed = close(rt, path, conn);
-            Err(Trouble::from_open(&fault))
-        }
-    }
-}
-
-/// Makes an office in a new file, or in one that has no tables yet. A file that it made is removed
-/// if that fails.
-fn make_office(rt: &HostRuntime, path: &str, text: &[u8]) -> Result<Office, Trouble>
-    ensures named { IfErr result IsTroubleOfMaking }
-{
-    if !names_file(path) {
-        return Err(Trouble::Store);
-    }
-    let log = match log_path(rt, path) {
-        Ok(log) => log,
-        Err(error) => return Err(trouble_of(&error)),
-    };
-    let was_made = File::create_new(rt, path).is_ok();
-    let conn = match connect(rt, path, log.as_str(), was_made) {
-        Ok(conn) => conn,
-        Err(trouble) => return Err(trouble),
-    };
-    match Store::create(rt.alloc(), conn, text) {
-        Ok(office) => Ok(office),
-        Err((conn, fault)) => {
-            if was_made {
-                remove(rt, path, log.as_str(), conn);
-            } else {
-                let _closed = close(rt, path, conn);
-            }
-            Err(Trouble::from_create(&fault))
-        }
-    }
-}
-
-/// Removes the files of a database that has no tables: as long as the connection is open, no other
-/// program has them.
-fn remove<S: Alter + Drop>(rt: &HostRuntime, path: &str, log: &str, conn: Connection<S>) {
-    if conn.schema().tables.as_slice().is_empty() {
-        let _ = remove_files(rt, path, log);
-    }
 }
 
 /// Closes a database, so that all of it is in its one file, and answers whether that was done. It

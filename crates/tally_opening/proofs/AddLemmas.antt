@@ -11,8 +11,8 @@ use Rattle.sqlite.specs.State.{State as Seen}
 use Rattle.tally_schema.specs.Rows.{cells}
 use Rattle.tally_setup.specs.Constituency.{Constituency}
 use Rattle.tally_returns.specs.View.{votes_at, votes_of_lists}
-use Rattle.tally_statements.specs.declared.table.KeyedTable.TheVariants.{Cons, Totals}
-use Rattle.tally_statements.specs.Office.{IsInside, HasRows, rows_in}
+use Rattle.tally_schema.specs.declared.table.KeyedTable.TheVariants.{Cons, Totals}
+use Rattle.tally_schema.specs.Office.{IsInside, HasRows, rows_in}
 use Rattle.tally_tables.specs.Cells.{item_row, numbers_with_places}
 use Rattle.tally_opening.specs.internal.Making.{AddsTotals, AddsCons, no_list_rows, no_vote_rows, opening_row, opening_totals}
 

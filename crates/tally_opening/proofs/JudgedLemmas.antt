@@ -8,7 +8,7 @@ use Rattle.tally_steps.specs.LawfulState.{IsLawfulState}
 use Rattle.tally_schema.specs.Cells.{setup_row}
 use Rattle.tally_schema.specs.Tables.{setup_tree}
 use Rattle.tally_tables.specs.TablesOfState.{AreTables, version}
-use Rattle.tally_judge.specs.OfficeRows.{AreLawfulRows, AreRowsOfOneState, RowsInOrder}
+use Rattle.tally_opening.specs.OfficeRows.{AreLawfulRows, AreRowsOfOneState, RowsInOrder}
 use Rattle.tally_opening.specs.internal.Opening.{AreOfOne, ShowsOffice}
 use Rattle.tally_opening.proofs.TableLemmas.{rows_of_tables, tables_of_rows}
 

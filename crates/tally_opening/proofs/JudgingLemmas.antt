@@ -15,13 +15,13 @@ use Rattle.sqlite.proofs.Callers.{unchanged_then}
 use Rattle.tally_schema.specs.Rows.{cells}
 use Rattle.tally_setup.specs.Constituency.{Constituency}
 use Rattle.tally_setup.specs.Limits.{IsSetup}
-use Rattle.tally_judge.specs.Numbers.{HasNumbersOfRows, numbers_of}
-use Rattle.tally_judge.specs.OfficeRows.{AreLawfulRows, AreRowsOfOneState, RowsInOrder}
-use Rattle.tally_statements.specs.declared.table.KeyedTable.{KeyedTable}
-use Rattle.tally_statements.specs.declared.table.KeyedTable.TheVariants.{Returns, Counts, Cons, Lots, Seats, Gone, Totals, Past}
-use Rattle.tally_statements.specs.internal.Inside.{OnlyReadsFrom}
-use Rattle.tally_statements.proofs.StaysLemmas.{stays-then}
-use Rattle.tally_statements.specs.Office.{HasTables, ShowsTable, rows_in, tree_of}
+use Rattle.tally_opening.specs.Numbers.{HasNumbersOfRows, numbers_of}
+use Rattle.tally_opening.specs.OfficeRows.{AreLawfulRows, AreRowsOfOneState, RowsInOrder}
+use Rattle.tally_schema.specs.declared.table.KeyedTable.{KeyedTable}
+use Rattle.tally_schema.specs.declared.table.KeyedTable.TheVariants.{Returns, Counts, Cons, Lots, Seats, Gone, Totals, Past}
+use Rattle.tally_schema.specs.internal.Inside.{OnlyReadsFrom}
+use Rattle.tally_schema.proofs.StaysLemmas.{stays-then}
+use Rattle.tally_schema.specs.Office.{HasTables, ShowsTable, rows_in, tree_of}
 use Rattle.tally_opening.specs.internal.Opening.{AreTablesOfNone, CountsTables, HasSetupRow, IsJudged, IsJudgedFault, IsUnlawful, ShowsOffice, trees_with}
 use Rattle.tally_keeper.specs.declared.fault.OpenFault.{OpenFault}
 use Rattle.tally_opening.proofs.JudgedLemmas.{accepted, refused}

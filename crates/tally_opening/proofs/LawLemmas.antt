@@ -18,9 +18,9 @@ use Rattle.sqlite_catalog.specs.Listing.{AreListed, IsSound}
 use Rattle.sqlite_catalog.proofs.LayoutLemmas.{laid_out, objects_rise}
 use Rattle.tally_schema.specs.Rows.{HaveDistinctRowids}
 use Rattle.tally_schema.specs.Tables.{former_schema, office_schema}
-use Rattle.tally_statements.specs.Office.{tree_of}
-use Rattle.tally_statements.specs.declared.table.KeyedTable.{KeyedTable}
-use Rattle.tally_statements.specs.declared.table.KeyedTable.TheVariants.{Returns, Counts, Cons, Lots, Seats, Gone, Totals, Past}
+use Rattle.tally_schema.specs.Office.{tree_of}
+use Rattle.tally_schema.specs.declared.table.KeyedTable.{KeyedTable}
+use Rattle.tally_schema.specs.declared.table.KeyedTable.TheVariants.{Returns, Counts, Cons, Lots, Seats, Gone, Totals, Past}
 use Rattle.tally_opening.specs.Open.{tables_taken_over}
 
 free : (r : Row) (rows : List Row) → AllByRecursion (λ x. value_cmp (rowid r) (rowid x) ≡ Less) rows → is_taken rows r ≡ false

@@ -2,7 +2,7 @@ pub mod AddLemmas
 pub mod EmptyLemmas
 pub mod WholeLemmas
 pub mod OpeningLemmas
-pub mod ReturnLemmas
+pub mod EndingLemmas
 pub mod TextLemmas
 pub mod OrderLemmas
 pub mod ShownLemmas
@@ -14,3 +14,15 @@ pub mod OpenedLemmas
 pub mod TakeoverLemmas
 pub mod UnwrittenLemmas
 pub mod LawLemmas
+pub mod AllLemmas
+pub mod RiseLemmas
+pub mod EntriesLemmas
+pub mod CountLemmas
+pub mod LedgerLemmas
+pub mod SeenLemmas
+pub mod OfficeLemmas
+pub mod MustPassLemmas
+pub mod StateLemmas
+pub mod VerdictLemmas
+pub mod NumberLemmas
+pub mod OneStateLemmas

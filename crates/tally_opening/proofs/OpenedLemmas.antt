@@ -10,14 +10,14 @@ use Rattle.sqlite_value.specs.declared.value.Value.TheVariants.{Int, Null, Text}
 use Rattle.tally_schema.specs.Rows.{AreRowsOf, HaveDistinctRowids}
 use Rattle.tally_setup.specs.Constituency.{Constituency}
 use Rattle.tally_rules.specs.Reading.{setup_of_text}
-use Rattle.tally_judge.specs.Numbers.{HasNumbers, numbers_of}
+use Rattle.tally_opening.specs.Numbers.{HasNumbers, numbers_of}
 use Rattle.tally_steps.specs.LawfulState.{IsLawfulState}
 use Rattle.tally_returns.specs.State.{State}
 use Rattle.tally_schema.specs.Made.{has_former_tables, has_table}
 use Rattle.tally_schema.specs.Tables.{former_schema, office_schema, setup_tree}
-use Rattle.tally_statements.specs.declared.table.KeyedTable.{KeyedTable}
-use Rattle.tally_statements.specs.declared.table.KeyedTable.TheVariants.{Returns, Counts, Cons, Lots, Seats, Gone, Totals, Past}
-use Rattle.tally_statements.specs.Office.{tree_of}
+use Rattle.tally_schema.specs.declared.table.KeyedTable.{KeyedTable}
+use Rattle.tally_schema.specs.declared.table.KeyedTable.TheVariants.{Returns, Counts, Cons, Lots, Seats, Gone, Totals, Past}
+use Rattle.tally_schema.specs.Office.{tree_of}
 use Rattle.tally_tables.specs.Cells.{return_rows, count_rows, con_rows, lot_rows, seat_rows, gone_rows, total_rows, past_rows}
 use Rattle.tally_tables.specs.TablesOfState.{AreTables, version}
 use Rattle.tally_tables.specs.declared.views.Statuses.{Statuses}

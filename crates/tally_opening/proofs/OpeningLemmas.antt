@@ -27,9 +27,9 @@ use Rattle.tally_returns.specs.View.{blank_of, closed_counts, counts_if_closed, 
 use Rattle.tally_steps.specs.Outcome.{HasSeats}
 use Rattle.tally_keeper.proofs.SetupLemmas.{Apart, Differ, Has, cons-differ, con-only}
 use Rattle.tally_schema.specs.Made.{HasEmptyTables}
-use Rattle.tally_statements.specs.declared.table.KeyedTable.{KeyedTable}
-use Rattle.tally_statements.specs.declared.table.KeyedTable.TheVariants.{Returns, Counts, Cons, Lots, Seats, Gone, Totals, Past}
-use Rattle.tally_statements.specs.Office.{PutsSetup, rows_in, tree_of}
+use Rattle.tally_schema.specs.declared.table.KeyedTable.{KeyedTable}
+use Rattle.tally_schema.specs.declared.table.KeyedTable.TheVariants.{Returns, Counts, Cons, Lots, Seats, Gone, Totals, Past}
+use Rattle.tally_schema.specs.Office.{PutsSetup, rows_in, tree_of}
 use Rattle.tally_tables.specs.Cells.{con_rows, gone_rows, item_row, items_of, lot_rows, past_rows, record_rows, seat_rows, total_rows}
 use Rattle.tally_opening.specs.internal.Making.{AddsCons, IsMade, opening_row, opening_totals}
 use Rattle.tally_opening.proofs.EmptyLemmas.{tree_empty}

@@ -15,9 +15,9 @@ use Rattle.sqlite_value.specs.Order.{Row, column, row_cmp, value_cmp}
 use Rattle.sqlite_value.proofs.OrderLemmas.{value_cmp-Int, value_cmp-Text, value_cmp_total}
 use Rattle.tally_schema.specs.Rows.{text_cmp}
 use Rattle.tally_schema.proofs.RowsLemmas.{AreKeyedBy, keys_rise}
-use Rattle.tally_statements.specs.declared.table.KeyedTable.{KeyedTable}
-use Rattle.tally_statements.specs.declared.table.KeyedTable.TheVariants.{Returns, Counts, Cons, Lots, Seats, Gone, Totals, Past}
-use Rattle.tally_statements.specs.Office.{AreInOrder, all_cells, key_cells}
+use Rattle.tally_schema.specs.declared.table.KeyedTable.{KeyedTable}
+use Rattle.tally_schema.specs.declared.table.KeyedTable.TheVariants.{Returns, Counts, Cons, Lots, Seats, Gone, Totals, Past}
+use Rattle.tally_schema.specs.Office.{AreInOrder, all_cells, key_cells}
 use Rattle.tally_tables.specs.Cells.{item_row, numbers_with_places}
 
 -- the key of a row is below that of another

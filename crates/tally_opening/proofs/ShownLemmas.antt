@@ -1,6 +1,6 @@
 -- The rows of whole tables, as queries answer them in the order of the
 -- keys, and the tables of a lawful state.
-use Rattle.std.proofs.Common.{◌≡◌, ◌<◌, ◌&&◌, ℕ, pos, Bool, true, false, cond, nat_lt, T, List, [], ◌∷◌, map, Ordering, Less, Equal, Greater, refl, sym, ap₂, ◌∙◌, arith}
+use Rattle.std.proofs.Common.{◌≡◌, ◌<◌, ℕ, pos, Bool, true, false, cond, nat_lt, T, List, [], ◌∷◌, map, Ordering, Less, Equal, Greater, refl, sym, ap₂, ◌∙◌, arith}
 use Rattle.std.specs.Prelude.{slice_index, ◌==◌}
 use Rattle.std.specs.FinMap.Entries.{is_sorted, below_all}
 use Rattle.std.specs.List.{AllByRecursion, flat_map}
@@ -13,10 +13,11 @@ use Rattle.sqlite_value.specs.Order.{column, value_cmp}
 use Rattle.sqlite_value.proofs.OrderLemmas.{value_cmp-Int}
 use Rattle.tally_schema.specs.Rows.{text_cmp}
 use Rattle.tally_steps.specs.LawfulState.{IsUnderPlaces}
-use Rattle.tally_statements.specs.declared.table.KeyedTable.TheVariants.{Gone, Past}
-use Rattle.tally_statements.specs.Office.{AreInOrder}
+use Rattle.tally_schema.specs.declared.table.KeyedTable.TheVariants.{Gone, Past}
+use Rattle.tally_schema.specs.Office.{AreInOrder}
 use Rattle.tally_tables.specs.Cells.{gone_row, item_row, numbers_with_places, past_row, record_rows}
 use Rattle.tally_opening.proofs.OrderLemmas.{IsBelow, IsWhole, numbered_rise, numbers_below, same_then, first_then}
+use Rattle.tally_opening.proofs.RiseLemmas.{left_of, right_of}
 
 -- ---- the keys of the rows of an entry
 
@@ -55,14 +56,6 @@ is_less : (r : Ordering) → T (is_lt r) → r ≡ Less
 is_less Less h = refl
 is_less Equal h = absurd h
 is_less Greater h = absurd h
-
-left_of : (a b : Bool) → T (a && b) → T a
-left_of true b h = tt
-left_of false b h = h
-
-right_of : (a b : Bool) → T (a && b) → T b
-right_of true b h = h
-right_of false b h = absurd h
 
 module _ {K X : Type 0} (R : K → K → Ordering) where
   below_rise : (k : K) (es : List (K × X)) → T (below_all R k es) → AllByRecursion (λ e. R k e.0 ≡ Less) es

@@ -15,7 +15,7 @@ use Rattle.tally_schema.specs.Values.{number_of, text_of}
 use Rattle.tally_setup.specs.Constituency.{Constituency}
 use Rattle.tally_schema.specs.Cells.{setup_row}
 use Rattle.tally_schema.specs.Tables.{setup_tree}
-use Rattle.tally_statements.specs.Office.{ShowsSetup, shown_setup, stored_setup}
+use Rattle.tally_schema.specs.Office.{ShowsSetup, shown_setup, stored_setup}
 use Rattle.tally_tables.specs.TablesOfState.{version}
 use Rattle.tally_opening.specs.internal.Opening.{HasSetupRow, IsAnswerOf, IsJudgedFault, IsTodayFault, HasShownRow, HasStoredRow, IsSetupFault, IsShownFault, IsShownSetup, IsTablesFault, OrFails, setup_shown, shown_of_row}
 use Rattle.tally_keeper.specs.declared.fault.OpenFault.{OpenFault}

@@ -29,13 +29,13 @@ use Rattle.tally_keeper.proofs.SetupLemmas.{con-found, con-limits, station-found
 use Rattle.tally_steps.specs.LawfulState.{IsLawfulState, IsUnderPlaces}
 use Rattle.tally_schema.specs.Cells.{setup_row}
 use Rattle.tally_schema.specs.Tables.{setup_tree}
-use Rattle.tally_statements.specs.declared.table.KeyedTable.{KeyedTable}
-use Rattle.tally_statements.specs.declared.table.KeyedTable.TheVariants.{Returns as Heads, Counts, Cons, Lots, Seats, Gone, Totals, Past}
-use Rattle.tally_statements.specs.Office.{AreInOrder, ShowsTable, rows_in, tree_of}
+use Rattle.tally_schema.specs.declared.table.KeyedTable.{KeyedTable}
+use Rattle.tally_schema.specs.declared.table.KeyedTable.TheVariants.{Returns as Heads, Counts, Cons, Lots, Seats, Gone, Totals, Past}
+use Rattle.tally_schema.specs.Office.{AreInOrder, ShowsTable, rows_in, tree_of}
 use Rattle.tally_tables.specs.Cells.{con_rows, count_rows, gone_rows, items_of, lot_rows, numbers_with_places, past_rows, return_rows, seat_rows, total_rows, totals_of}
 use Rattle.tally_tables.specs.TablesOfState.{AreTables, version}
-use Rattle.tally_judge.specs.OfficeRows.{AreOfficeRows, RowsInOrder}
-use Rattle.tally_judge.proofs.EntriesLemmas.{each_found}
+use Rattle.tally_opening.specs.OfficeRows.{AreOfficeRows, RowsInOrder}
+use Rattle.tally_opening.proofs.EntriesLemmas.{each_found}
 use Rattle.tally_opening.specs.internal.Opening.{ShowsOffice}
 use Rattle.tally_opening.proofs.OrderLemmas.{counted_rise, counts_items, in_order, items_in_order, lots_items, numbered_rise, seats_items, totals_items}
 use Rattle.tally_opening.proofs.ShownLemmas.{gone_in_order, gone_keyed, items_keyed, past_in_order, past_keyed, sorted_rise}

@@ -15,9 +15,9 @@ use Rattle.tally_steps.specs.LawfulState.{IsLawfulState}
 use Rattle.tally_returns.specs.State.{State}
 use Rattle.tally_schema.specs.Made.{AddsTable, HasFirstTables}
 use Rattle.tally_schema.specs.Tables.{former_schema, office_schema, past_tree, setup_tree}
-use Rattle.tally_statements.specs.declared.table.KeyedTable.{KeyedTable}
-use Rattle.tally_statements.specs.declared.table.KeyedTable.TheVariants.{Returns, Counts, Cons, Lots, Seats, Gone, Totals, Past}
-use Rattle.tally_statements.specs.Office.{PutsSetup as SetsSetup, IsInside, tree_of}
+use Rattle.tally_schema.specs.declared.table.KeyedTable.{KeyedTable}
+use Rattle.tally_schema.specs.declared.table.KeyedTable.TheVariants.{Returns, Counts, Cons, Lots, Seats, Gone, Totals, Past}
+use Rattle.tally_schema.specs.Office.{PutsSetup as SetsSetup, IsInside, tree_of}
 use Rattle.tally_tables.specs.TablesOfState.{AreTables, version}
 use Rattle.tally_opening.specs.Crash.{IsWholeOrNothing, LeavesTakenOver}
 use Rattle.tally_opening.specs.Create.{IsAsBefore}
@@ -28,7 +28,8 @@ use Rattle.tally_keeper.specs.declared.fault.OpenFault.{OpenFault}
 use Rattle.tally_keeper.specs.declared.fault.OpenFault.TheVariants.{Memory, Store}
 use Rattle.tally_opening.proofs.JudgingLemmas.{tables_still}
 use Rattle.tally_opening.proofs.OpenedLemmas.{AreSame, beside_setup, forms_differ, same_back, same_tables}
-use Rattle.tally_opening.proofs.ReturnLemmas.{clean_first, has_begun, rolled_back, survives_begun}
+use Rattle.tally_schema.proofs.StaysLemmas.{clean_first}
+use Rattle.tally_opening.proofs.EndingLemmas.{has_begun, rolled_back, survives_begun}
 use Rattle.tally_opening.proofs.StoredLemmas.{fault_as, or_fails}
 use Rattle.tally_opening.proofs.UnwrittenLemmas.{on_err}
 use Rattle.tally_opening.proofs.WholeLemmas.{whole_left}

@@ -6,11 +6,12 @@ use Rattle.sqlite.specs.State.{State as Seen, HasCleanDisk, IsRolledBack, IsUnch
 use Rattle.sqlite.proofs.StateLemmas.{survives_then}
 use Rattle.sqlite_trees.specs.Tree.{Trees}
 use Rattle.tally_schema.specs.Tables.{office_schema}
-use Rattle.tally_statements.specs.Office.{HasTables}
+use Rattle.tally_schema.specs.Office.{HasTables}
 use Rattle.tally_opening.specs.Crash.{CountsNothing, IsUnwritten, IsWholeOrNothing}
 use Rattle.tally_opening.specs.Create.{IsAsBefore}
 use Rattle.tally_opening.specs.internal.Ending.{EndsUnchanged, IsSettled}
-use Rattle.tally_opening.proofs.ReturnLemmas.{Began, clean_first, has_begun, rolled_back, survives_begun}
+use Rattle.tally_schema.proofs.StaysLemmas.{clean_first}
+use Rattle.tally_opening.proofs.EndingLemmas.{Began, has_begun, rolled_back, survives_begun}
 
 -- a crash leaves the last commit of a connection that is open, and
 -- nothing else: a law of every store

@@ -8,7 +8,7 @@ use Rattle.tally_setup.specs.Constituency.{Constituency}
 use Rattle.tally_rules.specs.Reading.{setup_of_text}
 use Rattle.tally_returns.specs.State.{State}
 use Rattle.tally_schema.specs.Tables.{office_schema}
-use Rattle.tally_statements.specs.Office.{IsInside}
+use Rattle.tally_schema.specs.Office.{IsInside}
 use Rattle.tally_tables.specs.TablesOfState.{AreTables}
 use Rattle.tally_opening.specs.Office.{HasOfficeSchema, IsWholeOffice}
 

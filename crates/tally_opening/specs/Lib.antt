@@ -4,3 +4,5 @@ pub mod Office
 pub mod Create
 pub mod Open
 pub mod Crash
+pub mod OfficeRows
+pub mod Numbers

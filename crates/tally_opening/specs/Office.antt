@@ -8,8 +8,8 @@ use Rattle.tally_setup.specs.Constituency.{Constituency}
 use Rattle.tally_rules.specs.Reading.{setup_of_text}
 use Rattle.tally_returns.specs.State.{State}
 use Rattle.tally_schema.specs.Tables.{office_schema}
-use Rattle.tally_statements.specs.declared.table.KeyedTable.{KeyedTable}
-use Rattle.tally_statements.specs.Office.{tree_of}
+use Rattle.tally_schema.specs.declared.table.KeyedTable.{KeyedTable}
+use Rattle.tally_schema.specs.Office.{tree_of}
 use Rattle.tally_tables.specs.TablesOfState.{AreTables}
 
 -- the catalogue that is stored lists the tables of the office and no others, and the rows obey them

@@ -9,7 +9,7 @@ use Rattle.tally_setup.specs.Constituency.{Constituency}
 use Rattle.tally_rules.specs.Fault.{IsFaultIn}
 use Rattle.tally_rules.specs.Reading.{setup_of_text}
 use Rattle.tally_rules.specs.declared.fault.SetupFault.TheVariants as setup_fault
-use Rattle.tally_judge.specs.Numbers.{HasNumbers, numbers_of}
+use Rattle.tally_opening.specs.Numbers.{HasNumbers, numbers_of}
 use Rattle.tally_steps.specs.LawfulState.{IsLawfulState}
 use Rattle.tally_returns.specs.State.{State}
 use Rattle.tally_schema.specs.Cells.{setup_row}
@@ -17,8 +17,8 @@ use Rattle.tally_schema.specs.Made.{has_former_tables, has_table}
 use Rattle.tally_schema.specs.Tables.{former_schema, office_schema, past_tree, setup_tree}
 use Rattle.tally_tables.specs.TablesOfState.{AreTables, version}
 use Rattle.tally_tables.specs.declared.views.Statuses.{Statuses}
-use Rattle.tally_statements.specs.declared.table.KeyedTable.{KeyedTable}
-use Rattle.tally_statements.specs.Office.{tree_of}
+use Rattle.tally_schema.specs.declared.table.KeyedTable.{KeyedTable}
+use Rattle.tally_schema.specs.Office.{tree_of}
 use Rattle.tally_opening.specs.Office.{HasState}
 use Rattle.tally_keeper.specs.declared.fault.OpenFault.{OpenFault}
 use Rattle.tally_keeper.specs.declared.fault.OpenFault.TheVariants.{NoTables, BadTables, Setup}

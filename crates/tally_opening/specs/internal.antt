@@ -2,3 +2,7 @@
 pub mod Ending
 pub mod Making
 pub mod Opening
+pub mod Entries
+pub mod Found
+pub mod Seen
+pub mod Tree

@@ -20,9 +20,8 @@ use std::alloc::Global;
 use std::str;
 use tally_keeper::CreateFault;
 use tally_rules::{SetupFault, read_setup};
-use tally_schema::takes_office_name;
+use tally_schema::{is_memory, takes_office_name};
 use tally_setup::Setup;
-use tally_statements::is_memory;
 
 fn create_fault_of(error: &Error) -> CreateFault
     ensures own { (result ≡ CreateFault.Memory) ⊎ (result ≡ CreateFault.Store) }

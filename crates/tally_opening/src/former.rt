@@ -4,9 +4,7 @@ ghost use Rattle.std.specs.Prelude.{◌≡◌, false, IsTrue};
 ghost use Rattle.sqlite.specs.Held.{state};
 ghost use Rattle.tally_schema.specs.Made.{HasFirstTables};
 ghost use Rattle.tally_schema.specs.Tables.{former_schema};
-ghost use Rattle.tally_statements.specs.internal.Inside.{InDatabase, Stays, StaysFrom};
-ghost use Rattle.tally_statements.specs.Office.{SetsVersion};
-ghost use Rattle.tally_tables.specs.TablesOfState.{version};
+ghost use Rattle.tally_schema.specs.internal.Inside.{StaysFrom};
 ghost use Rattle.tally_opening.specs.Calls.{Accepts, OnDisk, Rejects, Yields};
 ghost use Rattle.tally_opening.specs.Crash.{EndsWhole, LeavesTakenOver};
 ghost use Rattle.tally_opening.specs.Open.{IsOpened};
@@ -21,9 +19,8 @@ use sqlite::{Alter, Connection, Error, Transaction};
 use std::alloc::Global;
 use std::collections::BTreeMap;
 use tally_keeper::OpenFault;
-use tally_schema::create_past;
+use tally_schema::{create_past, update_version};
 use tally_setup::{Code, Setup};
-use tally_statements::update_version;
 use tally_tables::Statuses;
 
 /// The version of the tables before there was a table `past`.
@@ -44,14 +41,6 @@ fn judge_with_past<S: Alter>(
     judge_stored(alloc, tx, FORMER_VERSION, known)
 }
 
-/// Writes today's version into the table `setup`.
-fn raise_version<S: Alter>(tx: &mut Transaction<'_, S>) -> Result<(), Error>
-    ensures stays { Stays S.Store tx.old tx.new }
-    ensures raised { InDatabase S.Store (SetsVersion version) tx.old tx.new result }
-{
-    update_version(tx, VERSION)
-}
-
 /// Takes the tables of version 1 over, where they are those of a lawful state.
 fn take_over<S: Alter>(
     alloc: Global,
@@ -67,7 +56,7 @@ fn take_over<S: Alter>(
     if judged.is_err() {
         return Ok(judged);
     }
-    raise_version(tx)?;
+    update_version(tx, VERSION)?;
     Ok(judged)
 }
 

@@ -1,22 +1,22 @@
 //! Whether the tables of an office are those of a lawful state.
 
 ghost use Rattle.std.specs.Prelude.{◌≡◌, IfErr, IfOk, OnOk};
-ghost use Rattle.tally_judge.specs.Numbers.{HasNumbersOfRows, numbers_of};
-ghost use Rattle.tally_judge.specs.OfficeRows.{AreLawfulRows, AreRowsOfOneState, rows_in_order};
+ghost use Rattle.tally_opening.specs.Numbers.{HasNumbersOfRows, numbers_of};
+ghost use Rattle.tally_opening.specs.OfficeRows.{AreLawfulRows, AreRowsOfOneState, rows_in_order};
 ghost use Rattle.tally_keeper.specs.declared.fault.OpenFault.TheVariants.{BadTables};
-ghost use Rattle.tally_statements.specs.internal.Inside.{OnlyReadsFrom};
-ghost use Rattle.tally_statements.specs.Office.{HasTables, ShowsTable};
+ghost use Rattle.tally_schema.specs.internal.Inside.{OnlyReadsFrom};
+ghost use Rattle.tally_schema.specs.Office.{HasTables, ShowsTable};
 ghost use Rattle.tally_opening.specs.Calls.{Accepts, Rejects};
 ghost use Rattle.tally_opening.specs.internal.Opening.{CountsTables, IsJudged, IsUnlawful, Sees};
 ghost use Rattle.tally_opening.specs.internal.Opening.{ShowsOffice, rows_found};
 
+use crate::office::{OfficeRows, accept_rows};
 use sqlite::{Alter, Error, ErrorCode, Row, Transaction};
 use std::alloc::Global;
 use std::collections::BTreeMap;
-use tally_judge::{OfficeRows, accept_rows};
 use tally_keeper::OpenFault;
+use tally_schema::{KeyedTable, all_rows};
 use tally_setup::{Code, Setup};
-use tally_statements::{KeyedTable, all_rows};
 use tally_tables::{ConTables, Statuses};
 
 /// The rows of all tables but `setup`.

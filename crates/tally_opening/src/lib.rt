@@ -3,13 +3,20 @@
 //! exists is in `tally_store`.
 #![tactic(auto)]
 
+mod cons;
 mod create;
 mod former;
+mod found;
 mod judging;
 mod making;
+mod numbers;
+mod office;
 mod open;
 mod opening;
+mod returns;
+mod view;
 
 pub use create::create_in;
+pub use office::{OfficeRows, accept_rows};
 pub use open::open_in;
 pub use tally_keeper::{CreateFault, OpenFault};

@@ -5,7 +5,7 @@ ghost use Rattle.sqlite.specs.Held.{state};
 ghost use Rattle.tally_setup.specs.Limits.{IsSetup};
 ghost use Rattle.tally_rules.specs.Reading.{setup_of_text};
 ghost use Rattle.tally_schema.specs.Tables.{schema_with};
-ghost use Rattle.tally_statements.specs.internal.Inside.{InDatabase, Stays};
+ghost use Rattle.tally_schema.specs.internal.Inside.{InDatabase, Stays};
 ghost use Rattle.tally_opening.specs.Calls.{OnDisk, Yields};
 ghost use Rattle.tally_opening.specs.Crash.{EndsWhole};
 ghost use Rattle.tally_opening.specs.internal.Ending.{IsSettled};
@@ -13,9 +13,8 @@ ghost use Rattle.tally_opening.specs.internal.Making.{no_list_rows, no_vote_rows
 ghost use Rattle.tally_opening.specs.internal.Making.{IsNew, Made, MakesNew, Opened, Totalled};
 
 use sqlite::{Alter, Connection, Error, Transaction};
-use tally_schema::create_tables;
+use tally_schema::{create_tables, insert_con, insert_setup, insert_total};
 use tally_setup::{Constituency, Setup};
-use tally_statements::{insert_con, insert_setup, insert_total};
 use tally_tables::SPOILED_ITEM;
 
 /// The version of the tables.

@@ -4,8 +4,8 @@ ghost use Rattle.std.specs.Prelude.{◌≡◌, ◌↔◌, ◌⊎◌, false, IfEr
 ghost use Rattle.sqlite.specs.State.{KeepsCounts};
 ghost use Rattle.sqlite.specs.Held.{state};
 ghost use Rattle.tally_rules.specs.Reading.{setup_of_text};
-ghost use Rattle.tally_statements.specs.internal.Inside.{OnlyReadsFrom};
-ghost use Rattle.tally_statements.specs.Office.{HasTables};
+ghost use Rattle.tally_schema.specs.internal.Inside.{OnlyReadsFrom};
+ghost use Rattle.tally_schema.specs.Office.{HasTables};
 ghost use Rattle.sqlite.specs.Effect.{IsDatabase};
 ghost use Rattle.tally_schema.specs.Tables.{office_schema};
 ghost use Rattle.tally_tables.specs.TablesOfState.{version};
@@ -23,9 +23,8 @@ use std::alloc::Global;
 use std::collections::BTreeMap;
 use tally_keeper::OpenFault;
 use tally_rules::{SetupFault, read_setup};
-use tally_schema::{number_at, text_at};
+use tally_schema::{all_setup, is_memory, number_at, text_at};
 use tally_setup::{Code, Setup};
-use tally_statements::{all_setup, is_memory};
 use tally_tables::Statuses;
 
 fn shown_of_row(row: &Row) -> Option<(u32, &[u8])>

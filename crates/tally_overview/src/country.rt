@@ -60,7 +60,6 @@ pub fn country_text(
 {
     let counted = count_views(cons, views);
     let seats = all_seats(cons);
-    let mut totals = totals_of(alloc, cons, views)?;
     let mut text = String::from_str(alloc, "COUNTRY\n")?;
     push_pair(
         &mut text,
@@ -76,7 +75,7 @@ pub fn country_text(
         "closed",
         counted.closed,
     )?;
-    push_constituencies(&mut text, &mut totals, cons)?;
+    push_constituencies(&mut text, totals_of(alloc, cons, views)?, cons)?;
     push_numbers(&mut text, "total", counted.seats, counted.votes)?;
     text.push_str("\n")?;
     push_pair(&mut text, "seats", seats, "majority", seats / 2 + 1)?;
@@ -262,14 +261,14 @@ fn total_of(totals: &BTreeMap<Code, Total>, code: Code) -> Total
 /// list's first place.
 fn push_constituencies(
     text: &mut String,
-    totals: &mut BTreeMap<Code, Total>,
+    mut totals: BTreeMap<Code, Total>,
     cons: &[Constituency],
 ) -> Result<(), AllocError>
     ensures { OnOk result (string_bytes text.new ≡ string_bytes text.old
-        ++ lines_left (get code_cmp totals.old) (all_lists cons.now)) }
+        ++ lines_left (get code_cmp totals) (all_lists cons.now)) }
 {
     for con in cons {
-        push_lists(text, totals, &con.lists)?;
+        push_lists(text, &mut totals, &con.lists)?;
     }
     Ok(())
 }

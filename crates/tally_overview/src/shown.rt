@@ -12,7 +12,7 @@ use tally_returns::StationRow;
 use tally_setup::Constituency;
 
 /// The reports of a constituency that are made of its stations.
-#[derive(Clone, Copy, Debug, PartialEq, Eq)]
+#[derive(Clone, Copy)]
 pub enum StationsReport {
     /// The returns, as CSV.
     Returns,
@@ -21,7 +21,7 @@ pub enum StationsReport {
 }
 
 /// What is shown of an office.
-#[derive(Clone, Copy, Debug, PartialEq, Eq)]
+#[derive(Clone, Copy)]
 pub enum Shown {
     /// How far each constituency has come.
     Progress,

@@ -45,6 +45,18 @@ Fills-too_long old_left left old items cut came taken n same is one count some c
     cut_at : (xs : List ℕ) (n : ℕ) → n ≡ length xs + (length came - 1) → take n (xs ++ came) ≡ xs ++ take (length came - 1) came
     cut_at xs n at = ap (λ k. take k (xs ++ came)) at ∙ take-behind xs came (length came - 1)
 
+-- what came before, and what came then
+pub Consumes-on : (text old left : Option (List ℕ)) (bytes more : List ℕ) → Consumes text old bytes → Consumes old left more → Consumes text left (bytes ++ more)
+Consumes-on None old left bytes more one two = tt
+Consumes-on (Some t) None left bytes more one two = absurd one
+Consumes-on (Some t) (Some o) None bytes more one two = absurd two
+Consumes-on (Some t) (Some o) (Some l) bytes more one two = one ∙ ap (λ r. bytes ++ r) two ∙ sym (append_assoc bytes more l)
+
+-- what came is within the limit
+pub HoldsMore-fills : (old_left left : Option (List ℕ)) (old new : HeldText) → HoldsMore old_left left old new → new.taken ≤ size_limit → FillsHeld old_left left old new None
+HoldsMore-fills old_left left old new came within =
+    (came.0, came.1, λ text bytes given counted. (came.3 text bytes given, omega (arith, came.2, counted, length-append bytes came.0), within))
+
 -- what came, and then what came after it
 pub HoldsMore-on : (old_left mid_left left : Option (List ℕ)) (old mid new : HeldText)
     → HoldsMore old_left mid_left old mid → HoldsMore mid_left left mid new → HoldsMore old_left left old new

@@ -2,7 +2,7 @@
 use Rattle.std.proofs.Common.{◌≡◌, ◌<◌, ◌≤◌, ◌+◌, ◌-◌, ◌++◌, ◌∷◌, ◌∙◌, ℕ, zero, suc, List, [], Bool, true, false, Option, Some, None, length, take, drop, get_or, refl, sym, ap, subst, arith, add-one, length-append}
 use Rattle.std.specs.Prelude.{◌==◌, ◌||◌, ◌⊎◌, if◌then◌else◌, nat_le}
 use Rattle.std.proofs.Common.{inl, inr}
-use Rattle.std.proofs.lemmas.Bool.{eqb-true, leb-true}
+use Rattle.std.proofs.lemmas.Bool.{eqb-true, false≢true, leb-true, true≢false}
 use Rattle.std.proofs.lemmas.Bool.Decides.{nat_tests}
 use Rattle.std.proofs.lemmas.List.{append-nil}
 use Rattle.csv.specs.Machine.{Read, step, is_end, ends_at_end, ends_with, after_end, in_field, start_field, start_record, next_record, fields_after, field_after, carriage_return}
@@ -16,10 +16,17 @@ use Rattle.tally_records.specs.internal.Pieces.{is_line_end, ends_line, nothing}
 use Rattle.tally_records.specs.Separator.{separator, config}
 use Rattle.tally_records.specs.declared.separator.Sep.{Sep}
 use Rattle.tally_records.specs.declared.separator.Sep.TheVariants.{Comma, Semicolon}
+use Rattle.tally_records.proofs.FieldLemmas.{same_some, none_some}
 use Rattle.tally_records.proofs.RecordLemmas.{next_record-after, next_record-takes, records_from-enough}
 use Rattle.tally_records.proofs.FrontLemmas.{next_record-ends_before, records_from-nothing}
 
 -- ---- lists
+
+same_cons : {X : Type 0} (x y : X) (xs ys : List X) → x ∷ xs ≡ y ∷ ys → (x ≡ y) × (xs ≡ ys)
+same_cons x y xs ys e = (cc e, cc e)
+
+nil_cons : {X : Type 0} (x : X) (xs : List X) → [] ≡ x ∷ xs → ⊥
+nil_cons x xs e = cc e
 
 -- the text ends as the whole of it does
 ends_line-behind : (ws zs : List ℕ) → ends_line (ws ++ zs) ≡ true → ends_line zs ≡ true
@@ -59,8 +66,8 @@ unfolding next_record
 next_record-behind cfg s fields field [] p e = at_end (ends_at_end s) e
   where
     at_end : (b : Bool) → ◌≡◌ {A = Option Read} (if b then Some (fields ++ (field ∷ []), st.StartRecord, []) else None) (Some p) → (ws : List ℕ) × ([] ≡ ws ++ p.2)
-    at_end true e = let is : ◌≡◌ {A = Read} (fields ++ (field ∷ []), st.StartRecord, []) p = cc in ([], ap (λ r. r.2) is)
-    at_end false e = cc
+    at_end true e = ([], ap (λ r. r.2) (same_some _ p e))
+    at_end false e = absurd (none_some p e)
 next_record-behind cfg s fields field (c ∷ rest) p e =
     in_text (is_end (step cfg s c).1) e (next_record-behind cfg (step cfg s c).0 (fields_after (step cfg s c).1 fields field) (field_after (step cfg s c).1 c field) rest p)
   where
@@ -72,9 +79,7 @@ next_record-behind cfg s fields field (c ∷ rest) p e =
         else next_record cfg (step cfg s c).0 (fields_after (step cfg s c).1 fields field) (field_after (step cfg s c).1 c field) rest) ≡ Some p
         → (more ≡ Some p → (ws : List ℕ) × (rest ≡ ws ++ p.2))
         → (ws : List ℕ) × (c ∷ rest ≡ ws ++ p.2)
-    in_text true e later =
-        let is : ◌≡◌ {A = Read} (fields_after (step cfg s c).1 fields field, (step cfg s c).0, rest) p = cc in
-        (c ∷ [], ap (λ r. c ∷ r.2) is)
+    in_text true e later = (c ∷ [], ap (λ r. c ∷ r.2) (same_some _ p e))
     in_text false e later = let behind = later e in (c ∷ behind.0, ap (λ l. c ∷ l) behind.1)
 
 -- A record before another one is the first of the text whatever follows; after it come these bytes.
@@ -95,33 +100,27 @@ all-steps cfg s ys d a b more between is = go (next_record cfg s [] [] (ys ++ d 
         let zs = ends.0 in
         let after = next_record-after cfg s [] [] (ys ++ d ∷ []) p e in
         let same = first p e in
-        let is_first : p.0 ≡ a = cc same in
-        let others : all cfg p.1 p.2 ≡ b ∷ more = cc same in
+        let are = same_cons p.0 a (all cfg p.1 p.2) (b ∷ more) same in
         let behind = next_record-behind cfg s [] [] (ys ++ []) (p.0, p.1, zs ++ []) (ends.2 []) in
         let split : ys ≡ behind.0 ++ zs = sym (append-nil ys) ∙ behind.1 ∙ ap (λ l. behind.0 ++ l) (append-nil zs) in (
           p.1,
           zs,
           after.1,
           (λ line. ends_line-behind behind.0 zs (ap ends_line (sym split) ∙ line)),
-          ap (all cfg p.1) (sym ends.1) ∙ others,
-          (λ rest. all-next cfg s (ys ++ rest) between ∙ ap (records_next (all cfg)) (ends.2 rest) ∙ ap (λ r. r ∷ all cfg p.1 (zs ++ rest)) is_first),
+          ap (all cfg p.1) (sym ends.1) ∙ are.1,
+          (λ rest. all-next cfg s (ys ++ rest) between ∙ ap (records_next (all cfg)) (ends.2 rest) ∙ ap (λ r. r ∷ all cfg p.1 (zs ++ rest)) are.0),
         )
 
     left : (p : Read) (behind : List ℕ) → p.2 ≡ behind → next_record cfg s [] [] (ys ++ d ∷ []) ≡ Some p → Steps cfg s ys d a (b ∷ more)
     left p [] none e =
         let after = next_record-after cfg s [] [] (ys ++ d ∷ []) p e in
         let last : all cfg p.1 p.2 ≡ [] = ap (all cfg p.1) none ∙ all-nothing cfg p.1 after.1 in
-        let same = first p e in
-        let others : all cfg p.1 p.2 ≡ b ∷ more = cc same in
-        let no : [] ≡ b ∷ more = sym last ∙ others in
-        cc no
+        absurd (nil_cons b more (sym last ∙ (same_cons p.0 a (all cfg p.1 p.2) (b ∷ more) (first p e)).1))
     left p (c ∷ behind) some e = under p e (subst (λ l. 0 < length l) (sym some) (omega arith))
 
     go : (o : Option Read) → next_record cfg s [] [] (ys ++ d ∷ []) ≡ o → Steps cfg s ys d a (b ∷ more)
     go None e =
-        let none : all cfg s (ys ++ d ∷ []) ≡ [] = all-next cfg s (ys ++ d ∷ []) between ∙ ap (records_next (all cfg)) e in
-        let no : [] ≡ a ∷ b ∷ more = sym none ∙ is in
-        cc no
+        absurd (nil_cons a (b ∷ more) (sym (all-next cfg s (ys ++ d ∷ []) between ∙ ap (records_next (all cfg)) e) ∙ is))
     go (Some p) e = left p p.2 refl e
 
 -- After so many records of a text these bytes come, whatever follows.
@@ -139,8 +138,8 @@ all-passes cfg (suc k) s ys d a more between is =
     Later = (s2 : State) (zs : List ℕ) → ends_at_end s2 ≡ false → drop k (all cfg s2 (zs ++ d ∷ [])) ≡ a ∷ more → Passes cfg s2 zs d k (a ∷ more)
 
     go : Later → (rows : List (List (List ℕ))) → all cfg s (ys ++ d ∷ []) ≡ rows → drop (suc k) rows ≡ a ∷ more → Passes cfg s ys d (suc k) (a ∷ more)
-    go later [] e same = cc same
-    go later (r ∷ []) e same = let no : [] ≡ a ∷ more = sym (drop-nothing k) ∙ same in cc no
+    go later [] e same = absurd (nil_cons a more same)
+    go later (r ∷ []) e same = absurd (nil_cons a more (sym (drop-nothing k) ∙ same))
     go later (r ∷ q ∷ rows) e same =
         let one = all-steps cfg s ys d r q rows between e in
         let others = later one.0 one.1 one.2 (ap (drop k) one.4 ∙ same) in
@@ -152,22 +151,22 @@ all-passes cfg (suc k) s ys d a more between is =
 next-found : (sep : Sep) (s : State) (fields : List (List ℕ)) (field xs : List ℕ)
     → next_record (config sep) s fields field (xs ++ separator sep ∷ []) ≡ None → ⊥
 unfolding next_record
-next-found Comma st.StartRecord fields field [] e = cc e
-next-found Comma st.StartField fields field [] e = cc e
-next-found Comma st.InField fields field [] e = cc e
-next-found Comma st.InQuoted fields field [] e = cc e
-next-found Comma st.AfterQuote fields field [] e = cc e
-next-found Comma st.InEscape fields field [] e = cc e
-next-found Comma st.InComment fields field [] e = cc e
-next-found Comma st.AfterCr fields field [] e = cc e
-next-found Semicolon st.StartRecord fields field [] e = cc e
-next-found Semicolon st.StartField fields field [] e = cc e
-next-found Semicolon st.InField fields field [] e = cc e
-next-found Semicolon st.InQuoted fields field [] e = cc e
-next-found Semicolon st.AfterQuote fields field [] e = cc e
-next-found Semicolon st.InEscape fields field [] e = cc e
-next-found Semicolon st.InComment fields field [] e = cc e
-next-found Semicolon st.AfterCr fields field [] e = cc e
+next-found Comma st.StartRecord fields field [] e = none_some _ (sym e)
+next-found Comma st.StartField fields field [] e = none_some _ (sym e)
+next-found Comma st.InField fields field [] e = none_some _ (sym e)
+next-found Comma st.InQuoted fields field [] e = none_some _ (sym e)
+next-found Comma st.AfterQuote fields field [] e = none_some _ (sym e)
+next-found Comma st.InEscape fields field [] e = none_some _ (sym e)
+next-found Comma st.InComment fields field [] e = none_some _ (sym e)
+next-found Comma st.AfterCr fields field [] e = none_some _ (sym e)
+next-found Semicolon st.StartRecord fields field [] e = none_some _ (sym e)
+next-found Semicolon st.StartField fields field [] e = none_some _ (sym e)
+next-found Semicolon st.InField fields field [] e = none_some _ (sym e)
+next-found Semicolon st.InQuoted fields field [] e = none_some _ (sym e)
+next-found Semicolon st.AfterQuote fields field [] e = none_some _ (sym e)
+next-found Semicolon st.InEscape fields field [] e = none_some _ (sym e)
+next-found Semicolon st.InComment fields field [] e = none_some _ (sym e)
+next-found Semicolon st.AfterCr fields field [] e = none_some _ (sym e)
 next-found sep s fields field (c ∷ xs) e =
     go (is_end (step (config sep) s c).1) e
     (next-found sep (step (config sep) s c).0 (fields_after (step (config sep) s c).1 fields field) (field_after (step (config sep) s c).1 c field) xs)
@@ -177,7 +176,7 @@ next-found sep s fields field (c ∷ xs) e =
 
     go : (b : Bool) → (if b then Some (fields_after (step (config sep) s c).1 fields field, (step (config sep) s c).0, xs ++ separator sep ∷ []) else more) ≡ None
         → (more ≡ None → ⊥) → ⊥
-    go true same later = cc same
+    go true same later = none_some _ (sym same)
     go false same later = later same
 
 -- there is a first one
@@ -231,142 +230,95 @@ plain-step sep st.InField c plain = plain-field sep c
 plain-step sep st.InQuoted c plain = plain-choose (c == 34) _ _ refl refl
 plain-step sep st.InEscape c plain = refl
 plain-step sep st.AfterQuote c plain = plain-choose (c == 34) _ _ refl (plain-field sep c)
-plain-step sep st.InComment c plain = cc plain
+plain-step sep st.InComment c plain = absurd (false≢true plain)
 plain-step sep st.AfterCr c plain = plain-choose (c == 10) _ _ refl (plain-record sep c)
 
 plain-between : (s : State) → ends_at_end s ≡ false → is_plain s ≡ true
 plain-between st.StartRecord between = refl
-plain-between st.StartField between = cc
-plain-between st.InField between = cc
-plain-between st.InQuoted between = cc
-plain-between st.AfterQuote between = cc
-plain-between st.InEscape between = cc
-plain-between st.InComment between = cc between
+plain-between st.StartField between = absurd (true≢false between)
+plain-between st.InField between = absurd (true≢false between)
+plain-between st.InQuoted between = absurd (true≢false between)
+plain-between st.AfterQuote between = absurd (true≢false between)
+plain-between st.InEscape between = absurd (true≢false between)
+plain-between st.InComment between = absurd (true≢false between)
 plain-between st.AfterCr between = refl
 
 -- a record of two empty fields, which a separator began
 two-fields : (fields : List (List ℕ)) (field : List ℕ) → (fields ++ field ∷ []) ++ [] ∷ [] ≡ nothing → (fields ≡ []) × (field ≡ [])
-two-fields [] field e = (refl, cc e)
+two-fields [] field e = (refl, (same_cons field [] ([] ∷ []) ([] ∷ []) e).0)
 two-fields (x ∷ fields) field e = absurd (omega (arith, ap length e, length-append (fields ++ field ∷ []) ([] ∷ []), length-append fields (field ∷ [])))
 
 no-quote : (fields : List (List ℕ)) (field : List ℕ) (c d : ℕ) → fields ++ ((field ++ c ∷ []) ++ d ∷ []) ∷ [] ≡ nothing → ⊥
 no-quote [] field c d e = omega (arith, ap length e)
-no-quote (x ∷ []) field c d e = let last : (field ++ c ∷ []) ++ d ∷ [] ≡ [] = cc e in some field c last
+no-quote (x ∷ []) field c d e =
+    some field c (same_cons ((field ++ c ∷ []) ++ d ∷ []) [] [] [] (same_cons x [] (((field ++ c ∷ []) ++ d ∷ []) ∷ []) ([] ∷ []) e).1).0
   where
     some : (xs : List ℕ) (c : ℕ) → (xs ++ c ∷ []) ++ d ∷ [] ≡ [] → ⊥
-    some [] c same = cc same
-    some (y ∷ xs) c same = cc same
+    some [] c same = nil_cons c (d ∷ []) (sym same)
+    some (y ∷ xs) c same = nil_cons y ((xs ++ c ∷ []) ++ d ∷ []) (sym same)
 no-quote (x ∷ y ∷ fields) field c d e = omega (arith, ap length e, length-append fields (((field ++ c ∷ []) ++ d ∷ []) ∷ []))
 
 -- After a line end after which a separator would begin nothing the machine begins again.
 abbrev pub BeginsAnew : Sep → State → List (List ℕ) → List ℕ → List ℕ → Type 0
 BeginsAnew sep s fields field xs = (rest : List ℕ) → next_record (config sep) s fields field (xs ++ rest) ≡ next_record (config sep) st.StartRecord [] [] rest
 
-begins : (sep : Sep) (s : State) (fields : List (List ℕ)) (field xs rest : List ℕ)
-    → (fields ++ field ∷ []) ++ [] ∷ [] ≡ nothing
+begins : (sep : Sep) (s : State) (fields : List (List ℕ)) (field xs rest : List ℕ) (p : Read)
+    → ◌≡◌ {A = Option Read} (Some ((fields ++ field ∷ []) ++ [] ∷ [], st.StartRecord, [])) (Some p) → p.0 ≡ nothing
     → next_record (config sep) s fields field xs ≡ next_record (config sep) st.StartRecord fields field rest
     → next_record (config sep) s fields field xs ≡ next_record (config sep) st.StartRecord [] [] rest
-begins sep s fields field xs rest same e =
-    let are = two-fields fields field same in
+begins sep s fields field xs rest p is none e =
+    let are = two-fields fields field (ap (λ r. r.0) (same_some _ p is) ∙ none) in
     e ∙ ap (λ f. next_record (config sep) st.StartRecord f field rest) are.0 ∙ ap (λ f. next_record (config sep) st.StartRecord [] f rest) are.1
+
+-- nor does it where a byte is left, or where one was quoted
+left-over : (fields : List (List ℕ)) (s : State) (c : ℕ) (p : Read) → ◌≡◌ {A = Option Read} (Some (fields, s, c ∷ [])) (Some p) → p.2 ≡ [] → ⊥
+left-over fields s c p is last = nil_cons c [] (sym (ap (λ r. r.2) (same_some _ p is) ∙ last))
+
+quoted : (fields : List (List ℕ)) (field : List ℕ) (c d : ℕ) (s : State) (p : Read)
+    → ◌≡◌ {A = Option Read} (Some (fields ++ ((field ++ c ∷ []) ++ d ∷ []) ∷ [], s, [])) (Some p) → p.0 ≡ nothing → ⊥
+quoted fields field c d s p is none = no-quote fields field c d (ap (λ r. r.0) (same_some _ p is) ∙ none)
 
 at-carriage : (sep : Sep) (s : State) (fields : List (List ℕ)) (field : List ℕ) (p : Read)
     → is_plain s ≡ true → next_record (config sep) s fields field (13 ∷ separator sep ∷ []) ≡ Some p → p.2 ≡ [] → p.0 ≡ nothing
     → BeginsAnew sep s fields field (13 ∷ [])
 unfolding next_record
-at-carriage Comma st.StartRecord fields field p plain e last none = λ rest.
-    let is : ◌≡◌ {A = Read} ((fields ++ (field ∷ [])) ++ ([] ∷ []), st.StartRecord, []) p = cc in
-    begins Comma st.StartRecord fields field (13 ∷ rest) rest (ap (λ r. r.0) is ∙ none) refl
-at-carriage Comma st.AfterCr fields field p plain e last none = λ rest.
-    let is : ◌≡◌ {A = Read} ((fields ++ (field ∷ [])) ++ ([] ∷ []), st.StartRecord, []) p = cc in
-    begins Comma st.AfterCr fields field (13 ∷ rest) rest (ap (λ r. r.0) is ∙ none) refl
-at-carriage Comma st.StartField fields field p plain e last none =
-    let is : ◌≡◌ {A = Read} (fields ++ (field ∷ []), st.AfterCr, 44 ∷ []) p = cc in
-    let no : 44 ∷ [] ≡ [] = ap (λ r. r.2) is ∙ last in cc no
-at-carriage Comma st.InField fields field p plain e last none =
-    let is : ◌≡◌ {A = Read} (fields ++ (field ∷ []), st.AfterCr, 44 ∷ []) p = cc in
-    let no : 44 ∷ [] ≡ [] = ap (λ r. r.2) is ∙ last in cc no
-at-carriage Comma st.AfterQuote fields field p plain e last none =
-    let is : ◌≡◌ {A = Read} (fields ++ (field ∷ []), st.AfterCr, 44 ∷ []) p = cc in
-    let no : 44 ∷ [] ≡ [] = ap (λ r. r.2) is ∙ last in cc no
-at-carriage Comma st.InQuoted fields field p plain e last none =
-    let is : ◌≡◌ {A = Read} (fields ++ (((field ++ (13 ∷ [])) ++ (44 ∷ [])) ∷ []), st.StartRecord, []) p = cc in
-    absurd (no-quote fields field 13 44 (ap (λ r. r.0) is ∙ none))
-at-carriage Comma st.InEscape fields field p plain e last none =
-    let is : ◌≡◌ {A = Read} (fields ++ (((field ++ (13 ∷ [])) ++ (44 ∷ [])) ∷ []), st.StartRecord, []) p = cc in
-    absurd (no-quote fields field 13 44 (ap (λ r. r.0) is ∙ none))
-at-carriage Comma st.InComment fields field p plain e last none = cc plain
-at-carriage Semicolon st.StartRecord fields field p plain e last none = λ rest.
-    let is : ◌≡◌ {A = Read} ((fields ++ (field ∷ [])) ++ ([] ∷ []), st.StartRecord, []) p = cc in
-    begins Semicolon st.StartRecord fields field (13 ∷ rest) rest (ap (λ r. r.0) is ∙ none) refl
-at-carriage Semicolon st.AfterCr fields field p plain e last none = λ rest.
-    let is : ◌≡◌ {A = Read} ((fields ++ (field ∷ [])) ++ ([] ∷ []), st.StartRecord, []) p = cc in
-    begins Semicolon st.AfterCr fields field (13 ∷ rest) rest (ap (λ r. r.0) is ∙ none) refl
-at-carriage Semicolon st.StartField fields field p plain e last none =
-    let is : ◌≡◌ {A = Read} (fields ++ (field ∷ []), st.AfterCr, 59 ∷ []) p = cc in
-    let no : 59 ∷ [] ≡ [] = ap (λ r. r.2) is ∙ last in cc no
-at-carriage Semicolon st.InField fields field p plain e last none =
-    let is : ◌≡◌ {A = Read} (fields ++ (field ∷ []), st.AfterCr, 59 ∷ []) p = cc in
-    let no : 59 ∷ [] ≡ [] = ap (λ r. r.2) is ∙ last in cc no
-at-carriage Semicolon st.AfterQuote fields field p plain e last none =
-    let is : ◌≡◌ {A = Read} (fields ++ (field ∷ []), st.AfterCr, 59 ∷ []) p = cc in
-    let no : 59 ∷ [] ≡ [] = ap (λ r. r.2) is ∙ last in cc no
-at-carriage Semicolon st.InQuoted fields field p plain e last none =
-    let is : ◌≡◌ {A = Read} (fields ++ (((field ++ (13 ∷ [])) ++ (59 ∷ [])) ∷ []), st.StartRecord, []) p = cc in
-    absurd (no-quote fields field 13 59 (ap (λ r. r.0) is ∙ none))
-at-carriage Semicolon st.InEscape fields field p plain e last none =
-    let is : ◌≡◌ {A = Read} (fields ++ (((field ++ (13 ∷ [])) ++ (59 ∷ [])) ∷ []), st.StartRecord, []) p = cc in
-    absurd (no-quote fields field 13 59 (ap (λ r. r.0) is ∙ none))
-at-carriage Semicolon st.InComment fields field p plain e last none = cc plain
+at-carriage Comma st.StartRecord fields field p plain e last none = λ rest. begins Comma st.StartRecord fields field (13 ∷ rest) rest p e none refl
+at-carriage Comma st.AfterCr fields field p plain e last none = λ rest. begins Comma st.AfterCr fields field (13 ∷ rest) rest p e none refl
+at-carriage Comma st.StartField fields field p plain e last none = absurd (left-over _ _ 44 p e last)
+at-carriage Comma st.InField fields field p plain e last none = absurd (left-over _ _ 44 p e last)
+at-carriage Comma st.AfterQuote fields field p plain e last none = absurd (left-over _ _ 44 p e last)
+at-carriage Comma st.InQuoted fields field p plain e last none = absurd (quoted fields field 13 44 _ p e none)
+at-carriage Comma st.InEscape fields field p plain e last none = absurd (quoted fields field 13 44 _ p e none)
+at-carriage Comma st.InComment fields field p plain e last none = absurd (false≢true plain)
+at-carriage Semicolon st.StartRecord fields field p plain e last none = λ rest. begins Semicolon st.StartRecord fields field (13 ∷ rest) rest p e none refl
+at-carriage Semicolon st.AfterCr fields field p plain e last none = λ rest. begins Semicolon st.AfterCr fields field (13 ∷ rest) rest p e none refl
+at-carriage Semicolon st.StartField fields field p plain e last none = absurd (left-over _ _ 59 p e last)
+at-carriage Semicolon st.InField fields field p plain e last none = absurd (left-over _ _ 59 p e last)
+at-carriage Semicolon st.AfterQuote fields field p plain e last none = absurd (left-over _ _ 59 p e last)
+at-carriage Semicolon st.InQuoted fields field p plain e last none = absurd (quoted fields field 13 59 _ p e none)
+at-carriage Semicolon st.InEscape fields field p plain e last none = absurd (quoted fields field 13 59 _ p e none)
+at-carriage Semicolon st.InComment fields field p plain e last none = absurd (false≢true plain)
 
 at-feed : (sep : Sep) (s : State) (fields : List (List ℕ)) (field : List ℕ) (p : Read)
     → is_plain s ≡ true → next_record (config sep) s fields field (10 ∷ separator sep ∷ []) ≡ Some p → p.2 ≡ [] → p.0 ≡ nothing
     → BeginsAnew sep s fields field (10 ∷ [])
 unfolding next_record
-at-feed Comma st.StartRecord fields field p plain e last none = λ rest.
-    let is : ◌≡◌ {A = Read} ((fields ++ (field ∷ [])) ++ ([] ∷ []), st.StartRecord, []) p = cc in
-    begins Comma st.StartRecord fields field (10 ∷ rest) rest (ap (λ r. r.0) is ∙ none) refl
-at-feed Comma st.AfterCr fields field p plain e last none = λ rest.
-    let is : ◌≡◌ {A = Read} ((fields ++ (field ∷ [])) ++ ([] ∷ []), st.StartRecord, []) p = cc in
-    begins Comma st.AfterCr fields field (10 ∷ rest) rest (ap (λ r. r.0) is ∙ none) refl
-at-feed Comma st.StartField fields field p plain e last none =
-    let is : ◌≡◌ {A = Read} (fields ++ (field ∷ []), st.StartRecord, 44 ∷ []) p = cc in
-    let no : 44 ∷ [] ≡ [] = ap (λ r. r.2) is ∙ last in cc no
-at-feed Comma st.InField fields field p plain e last none =
-    let is : ◌≡◌ {A = Read} (fields ++ (field ∷ []), st.StartRecord, 44 ∷ []) p = cc in
-    let no : 44 ∷ [] ≡ [] = ap (λ r. r.2) is ∙ last in cc no
-at-feed Comma st.AfterQuote fields field p plain e last none =
-    let is : ◌≡◌ {A = Read} (fields ++ (field ∷ []), st.StartRecord, 44 ∷ []) p = cc in
-    let no : 44 ∷ [] ≡ [] = ap (λ r. r.2) is ∙ last in cc no
-at-feed Comma st.InQuoted fields field p plain e last none =
-    let is : ◌≡◌ {A = Read} (fields ++ (((field ++ (10 ∷ [])) ++ (44 ∷ [])) ∷ []), st.StartRecord, []) p = cc in
-    absurd (no-quote fields field 10 44 (ap (λ r. r.0) is ∙ none))
-at-feed Comma st.InEscape fields field p plain e last none =
-    let is : ◌≡◌ {A = Read} (fields ++ (((field ++ (10 ∷ [])) ++ (44 ∷ [])) ∷ []), st.StartRecord, []) p = cc in
-    absurd (no-quote fields field 10 44 (ap (λ r. r.0) is ∙ none))
-at-feed Comma st.InComment fields field p plain e last none = cc plain
-at-feed Semicolon st.StartRecord fields field p plain e last none = λ rest.
-    let is : ◌≡◌ {A = Read} ((fields ++ (field ∷ [])) ++ ([] ∷ []), st.StartRecord, []) p = cc in
-    begins Semicolon st.StartRecord fields field (10 ∷ rest) rest (ap (λ r. r.0) is ∙ none) refl
-at-feed Semicolon st.AfterCr fields field p plain e last none = λ rest.
-    let is : ◌≡◌ {A = Read} ((fields ++ (field ∷ [])) ++ ([] ∷ []), st.StartRecord, []) p = cc in
-    begins Semicolon st.AfterCr fields field (10 ∷ rest) rest (ap (λ r. r.0) is ∙ none) refl
-at-feed Semicolon st.StartField fields field p plain e last none =
-    let is : ◌≡◌ {A = Read} (fields ++ (field ∷ []), st.StartRecord, 59 ∷ []) p = cc in
-    let no : 59 ∷ [] ≡ [] = ap (λ r. r.2) is ∙ last in cc no
-at-feed Semicolon st.InField fields field p plain e last none =
-    let is : ◌≡◌ {A = Read} (fields ++ (field ∷ []), st.StartRecord, 59 ∷ []) p = cc in
-    let no : 59 ∷ [] ≡ [] = ap (λ r. r.2) is ∙ last in cc no
-at-feed Semicolon st.AfterQuote fields field p plain e last none =
-    let is : ◌≡◌ {A = Read} (fields ++ (field ∷ []), st.StartRecord, 59 ∷ []) p = cc in
-    let no : 59 ∷ [] ≡ [] = ap (λ r. r.2) is ∙ last in cc no
-at-feed Semicolon st.InQuoted fields field p plain e last none =
-    let is : ◌≡◌ {A = Read} (fields ++ (((field ++ (10 ∷ [])) ++ (59 ∷ [])) ∷ []), st.StartRecord, []) p = cc in
-    absurd (no-quote fields field 10 59 (ap (λ r. r.0) is ∙ none))
-at-feed Semicolon st.InEscape fields field p plain e last none =
-    let is : ◌≡◌ {A = Read} (fields ++ (((field ++ (10 ∷ [])) ++ (59 ∷ [])) ∷ []), st.StartRecord, []) p = cc in
-    absurd (no-quote fields field 10 59 (ap (λ r. r.0) is ∙ none))
-at-feed Semicolon st.InComment fields field p plain e last none = cc plain
+at-feed Comma st.StartRecord fields field p plain e last none = λ rest. begins Comma st.StartRecord fields field (10 ∷ rest) rest p e none refl
+at-feed Comma st.AfterCr fields field p plain e last none = λ rest. begins Comma st.AfterCr fields field (10 ∷ rest) rest p e none refl
+at-feed Comma st.StartField fields field p plain e last none = absurd (left-over _ _ 44 p e last)
+at-feed Comma st.InField fields field p plain e last none = absurd (left-over _ _ 44 p e last)
+at-feed Comma st.AfterQuote fields field p plain e last none = absurd (left-over _ _ 44 p e last)
+at-feed Comma st.InQuoted fields field p plain e last none = absurd (quoted fields field 10 44 _ p e none)
+at-feed Comma st.InEscape fields field p plain e last none = absurd (quoted fields field 10 44 _ p e none)
+at-feed Comma st.InComment fields field p plain e last none = absurd (false≢true plain)
+at-feed Semicolon st.StartRecord fields field p plain e last none = λ rest. begins Semicolon st.StartRecord fields field (10 ∷ rest) rest p e none refl
+at-feed Semicolon st.AfterCr fields field p plain e last none = λ rest. begins Semicolon st.AfterCr fields field (10 ∷ rest) rest p e none refl
+at-feed Semicolon st.StartField fields field p plain e last none = absurd (left-over _ _ 59 p e last)
+at-feed Semicolon st.InField fields field p plain e last none = absurd (left-over _ _ 59 p e last)
+at-feed Semicolon st.AfterQuote fields field p plain e last none = absurd (left-over _ _ 59 p e last)
+at-feed Semicolon st.InQuoted fields field p plain e last none = absurd (quoted fields field 10 59 _ p e none)
+at-feed Semicolon st.InEscape fields field p plain e last none = absurd (quoted fields field 10 59 _ p e none)
+at-feed Semicolon st.InComment fields field p plain e last none = absurd (false≢true plain)
 
 pub line-end : (c : ℕ) → is_line_end c ≡ true → (c ≡ 13) ⊎ (c ≡ 10)
 line-end c e = go (c == 13) refl
@@ -407,28 +359,26 @@ anew-inside sep s fields field p c (d ∷ ys) line plain e last none =
     go : (b : Bool) → (if b then now (d ∷ (ys ++ separator sep ∷ [])) else more (d ∷ (ys ++ separator sep ∷ []))) ≡ Some p
         → (more (d ∷ (ys ++ separator sep ∷ [])) ≡ Some p → BeginsAnew sep (step (config sep) s c).0 (fields_after (step (config sep) s c).1 fields field) (field_after (step (config sep) s c).1 c field) (d ∷ ys))
         → (rest : List ℕ) → (if b then now (d ∷ (ys ++ rest)) else more (d ∷ (ys ++ rest))) ≡ next_record (config sep) st.StartRecord [] [] rest
-    go true same later =
-        let is : ◌≡◌ {A = Read} (fields_after (step (config sep) s c).1 fields field, (step (config sep) s c).0, d ∷ (ys ++ separator sep ∷ [])) p = cc in
-        let no : d ∷ (ys ++ separator sep ∷ []) ≡ [] = ap (λ r. r.2) is ∙ last in
-        cc no
+    go true same later = absurd (nil_cons d (ys ++ separator sep ∷ []) (sym (ap (λ r. r.2) (same_some _ p same) ∙ last)))
     go false same later = later same
 
 -- between two records a text reads alike
 next-between : (sep : Sep) (s : State) (rest : List ℕ) → ends_at_end s ≡ false → next_record (config sep) s [] [] rest ≡ next_record (config sep) st.StartRecord [] [] rest
 unfolding next_record
 next-between sep st.StartRecord rest between = refl
-next-between sep st.StartField rest between = cc
-next-between sep st.InField rest between = cc
-next-between sep st.InQuoted rest between = cc
-next-between sep st.AfterQuote rest between = cc
-next-between sep st.InEscape rest between = cc
-next-between sep st.InComment rest between = cc
+next-between sep st.StartField rest between = absurd (true≢false between)
+next-between sep st.InField rest between = absurd (true≢false between)
+next-between sep st.InQuoted rest between = absurd (true≢false between)
+next-between sep st.AfterQuote rest between = absurd (true≢false between)
+next-between sep st.InEscape rest between = absurd (true≢false between)
+next-between sep st.InComment rest between = absurd (true≢false between)
 next-between sep st.AfterCr [] between = refl
 next-between sep st.AfterCr (c ∷ rest) between = go (c == 10) refl
   where
     go : (b : Bool) → (c == 10) ≡ b
         → next_record (config sep) st.AfterCr [] [] (c ∷ rest) ≡ next_record (config sep) st.StartRecord [] [] (c ∷ rest)
-    go true is = let same = eqb-true _ _ is in rw same refl
+    go true is =
+        subst (λ d. next_record (config sep) st.AfterCr [] [] (d ∷ rest) ≡ next_record (config sep) st.StartRecord [] [] (d ∷ rest)) (sym (eqb-true c 10 is)) refl
     go false is = rw is refl
 
 -- After a piece that ends with a line, and all of whose records but one that a separator begins
@@ -452,13 +402,11 @@ all-anew sep k s ys between line is rest =
     zs = passed.1
 
     last : (p : Read) → next_record cfg s2 [] [] (zs ++ separator sep ∷ []) ≡ Some p → (p.2 ≡ []) × (p.0 ≡ nothing)
-    last p e = (go p.2 refl, cc same)
+    last p e = (go p.2 refl, same.0)
       where
-        same : p.0 ∷ all cfg p.1 p.2 ≡ nothing ∷ []
-        same = sym (all-next cfg s2 (zs ++ separator sep ∷ []) passed.2 ∙ ap (records_next (all cfg)) e) ∙ passed.4
-
-        none : all cfg p.1 p.2 ≡ []
-        none = cc same
+        same : (p.0 ≡ nothing) × (all cfg p.1 p.2 ≡ [])
+        same = same_cons p.0 nothing (all cfg p.1 p.2) []
+            (sym (all-next cfg s2 (zs ++ separator sep ∷ []) passed.2 ∙ ap (records_next (all cfg)) e) ∙ passed.4)
 
         after : ends_at_end p.1 ≡ false
         after = (next_record-after cfg s2 [] [] (zs ++ separator sep ∷ []) p e).1
@@ -469,9 +417,7 @@ all-anew sep k s ys between line is rest =
             let some : 0 < length p.2 = subst (λ l. 0 < length l) (sym is) (omega arith) in
             let ends = next_record-ends_before cfg s2 [] [] zs (separator sep) p e some in
             let first = all-found sep p.1 ends.0 after in
-            let found : all cfg p.1 p.2 ≡ first.0 ∷ first.1 = ap (all cfg p.1) ends.1 ∙ first.2 in
-            let not : [] ≡ first.0 ∷ first.1 = sym none ∙ found in
-            cc not
+            absurd (nil_cons first.0 first.1 (sym same.1 ∙ ap (all cfg p.1) ends.1 ∙ first.2))
 
     inside : (xs : List ℕ) → ends_line xs ≡ true → ((p : Read) → next_record cfg s2 [] [] (xs ++ separator sep ∷ []) ≡ Some p → (p.2 ≡ []) × (p.0 ≡ nothing))
         → next_record cfg s2 [] [] (xs ++ rest) ≡ next_record cfg st.StartRecord [] [] rest
@@ -518,8 +464,7 @@ last-line bytes n (suc k) none within line = go (nat_le n k) refl
 
     go : (b : Bool) → nat_le n k ≡ b → suc k ≤ n
     go true is =
-        let not : false ≡ true = sym (none k (leb-true n k is) (omega (arith, within))) ∙ byte bytes k within line in
-        cc not
+        absurd (false≢true (sym (none k (leb-true n k is) (omega (arith, within))) ∙ byte bytes k within line))
     go false is = grind (arith, nat_tests)
 
 pub ends_line-at : (bytes : List ℕ) (n : ℕ) → 0 < n → n ≤ length bytes → is_line_end (get_or bytes (n - 1) 0) ≡ true → ends_line (take n bytes) ≡ true

@@ -18,6 +18,7 @@ use crate::text::Text;
 use csv::{ByteRecord, Reader};
 use memchr::memrchr2;
 use std::alloc::{AllocError, Global};
+use std::collections::VecDeque;
 
 /// Whether an input ended of itself.
 pub(crate) fn ended_itself(end: Option<End>) -> bool
@@ -98,13 +99,13 @@ pub(crate) fn given_size(
 
 /// The text of a piece: after it a field is begun, so that the last record is the one that may go
 /// on.
-pub(crate) fn piece_text(alloc: Global, piece: &[u8], sep: Sep) -> Result<Vec<u8>, AllocError>
-    ensures { IfOk result (λ text. text.items ≡ piece.now ++ separator sep ∷ []) }
+pub(crate) fn piece_text(alloc: Global, piece: &[u8], sep: Sep) -> Result<Text, AllocError>
+    ensures { IfOk result (λ text. bytes_left text ≡ piece.now ++ separator sep ∷ []) }
 {
-    let mut text = Vec::with_capacity(alloc, piece.len().saturating_add(1))?;
-    text.extend_from_slice(piece)?;
-    text.push(sep.byte())?;
-    Ok(text)
+    let mut bytes = Vec::with_capacity(alloc, piece.len().saturating_add(1))?;
+    bytes.extend_from_slice(piece)?;
+    bytes.push(sep.byte())?;
+    Text::new(alloc, bytes, VecDeque::new(alloc))
 }
 
 /// The text of the last piece, of which no copy is made: a field is begun after it unless the
@@ -129,8 +130,7 @@ fn is_given(alloc: Global, front: &[u8], sep: Sep, given: usize) -> Result<bool,
     ensures given { IfOk result (λ all. all ≡ true → HasNothingAfter sep given front.now) }
     ensures found { IfOk result (λ all. HasNothingAfter sep given front.now → all ≡ true) }
 {
-    let text = Text::of(alloc, piece_text(alloc, front, sep)?)?;
-    let mut reader = records_in(alloc, text, sep)?;
+    let mut reader = records_in(alloc, piece_text(alloc, front, sep)?, sep)?;
     let mut record = ByteRecord::new(alloc);
     has_nothing_after(&mut reader.reader, &mut record, given)
 }

@@ -72,7 +72,16 @@ impl HeldText {
         self.bytes
             .reserve(missing.min(SIZE_LIMIT + 1 - self.taken))?;
         let mut buffer = [0; READ_SIZE];
-        while self.bytes.len() < size && self.taken <= SIZE_LIMIT {
+        loop {
+            if self.taken > SIZE_LIMIT {
+                self.bytes.pop();
+                return Ok(Some(End {
+                    stop: Some(Stop::TooLong),
+                }));
+            }
+            if self.bytes.len() >= size {
+                return Ok(None);
+            }
             let wanted = READ_SIZE
                 .min(size - self.bytes.len())
                 .min(SIZE_LIMIT + 1 - self.taken);
@@ -80,13 +89,6 @@ impl HeldText {
                 return Ok(Some(end));
             }
         }
-        if self.taken <= SIZE_LIMIT {
-            return Ok(None);
-        }
-        self.bytes.pop();
-        Ok(Some(End {
-            stop: Some(Stop::TooLong),
-        }))
     }
 
     // Reads once into some room, and holds what came. Answers how the input ended, where it did.

@@ -35,13 +35,6 @@ impl Text {
         })
     }
 
-    /// A text of one part.
-    pub(crate) fn of(alloc: Global, bytes: Vec<u8>) -> Result<Text, AllocError>
-        ensures { IfOk result (λ text. bytes_left text ≡ bytes.items) }
-    {
-        Text::new(alloc, bytes, VecDeque::new(alloc))
-    }
-
     /// Appends a byte to the text.
     pub(crate) fn push(&mut self, alloc: Global, byte: u8) -> Result<(), AllocError>
         ensures { OnOk result (bytes_left self.new ≡ bytes_left self.old ++ byte ∷ []) }
@@ -61,14 +54,15 @@ impl Read for Text {
         ensures bytes { ReadConsumes (text_left self.old) (text_left self.new) result buf.new }
         ensures ok { IsOk result }
     {
-        let mut count = self.front.read(buf)?;
-        while count == 0 && !buf.is_empty() {
+        loop {
+            let count = self.front.read(buf)?;
+            if count > 0 || buf.is_empty() {
+                return Ok(count);
+            }
             let Some(next) = self.later.pop_front() else {
-                break;
+                return Ok(0);
             };
             self.front = Cursor::new(next);
-            count = self.front.read(buf)?;
         }
-        Ok(count)
     }
 }

@@ -90,7 +90,7 @@ impl Work {
             return Work::last(alloc, held, VecDeque::new(alloc), end, sep, 0);
         }
         let piece = piece_size(held.bytes.as_slice());
-        let text = Text::of(alloc, piece_text(alloc, &held.bytes[..piece], sep)?)?;
+        let text = piece_text(alloc, &held.bytes[..piece], sep)?;
         let last = Snapshot::of(&text);
         let rest = Rest::new(alloc, text, sep, false, 0)?;
         Ok(Work {
@@ -237,14 +237,13 @@ impl Work {
         let held = &mut self.held;
         let piece = &held.bytes[..self.piece];
         let done = given_size(alloc, piece, self.sep, self.given, &self.rest.ahead)?;
+        let mut held = mem::replace(held, HeldText::new(alloc));
         if done > 1 {
             held.drop_front(alloc, done)?;
-            let held = mem::replace(held, HeldText::new(alloc));
             return Work::read(alloc, held, input, watch, self.sep);
         }
         // The record that goes on is given back, as far as it was read, only when all is read: an
         // allocator may keep room of a size that was given back before, and so the parts.
-        let held = mem::replace(held, HeldText::new(alloc));
         Work::read_all(alloc, held, input, watch, self.sep, self.given)
     }
 }

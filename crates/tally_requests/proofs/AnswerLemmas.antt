@@ -12,10 +12,10 @@ use Rattle.sqlite.specs.Held.{state}
 use Rattle.sqlite_trees.specs.declared.store.Store.{Ghosts}
 use Rattle.sqlite.specs.State.{State as Seen, HasCleanDisk, IsUnchanged}
 use Rattle.std.proofs.lemmas.List.{map-append, take_more}
-use Rattle.tally_statements.specs.internal.Inside.{InDatabase, IsOpenInside, StaysFrom, StaysInside}
-use Rattle.tally_statements.specs.Office.{IsInside, tree_of}
-use Rattle.tally_statements.proofs.StaysLemmas.{stays-then}
-use Rattle.tally_statements.specs.declared.table.KeyedTable.TheVariants.{Cons}
+use Rattle.tally_schema.specs.internal.Inside.{InDatabase, IsOpenInside, StaysFrom, StaysInside}
+use Rattle.tally_schema.specs.Office.{IsInside, tree_of}
+use Rattle.tally_schema.proofs.StaysLemmas.{stays-then}
+use Rattle.tally_schema.specs.declared.table.KeyedTable.TheVariants.{Cons}
 use Rattle.tally_schema.specs.Rows.{cells}
 use Rattle.tally_entries.proofs.FindLemmas.{inside_still}
 use Rattle.tally_setup.specs.Constituency.{Constituency}

@@ -36,7 +36,7 @@ use Rattle.tally_steps.proofs.ConStepLemmas.{same-constituency}
 use Rattle.tally_steps.proofs.DecisionLemmas.{gone-once}
 use Rattle.tally_steps.proofs.LawfulViewLemmas.{certified-seats, drawn-open}
 use Rattle.tally_steps.proofs.PastLemmas.{past-lawful}
-use Rattle.tally_statements.specs.declared.table.KeyedTable.TheVariants.{Returns, Counts, Cons, Lots, Seats, Gone, Totals, Past}
+use Rattle.tally_schema.specs.declared.table.KeyedTable.TheVariants.{Returns, Counts, Cons, Lots, Seats, Gone, Totals, Past}
 use Rattle.tally_tables.specs.Cells.{con_rows, gone_row, gone_rows, items_of, lot_rows, numbers_with_places, past_row, past_rows, record_rows, seat_rows, total_rows, totals_of}
 use Rattle.tally_tables.specs.TablesOfState.{AreSeats, AreTables}
 use Rattle.tally_entries.specs.internal.Constituencies.{ChangesOnly, HasGone, MovesRows, MovesSeats, with_past_of}

@@ -37,8 +37,8 @@ use Rattle.tally_keeper.proofs.SetupLemmas.{con-limits, station-found}
 use Rattle.tally_steps.specs.LawfulState.{IsLawfulState}
 use Rattle.tally_steps.specs.Outcome.{HasSeats}
 use Rattle.tally_steps.specs.Step.{Answer, state_after, after_return, answer, return_reply, return_shown, reply_seen}
-use Rattle.tally_statements.specs.Office.{IsInside, tree_of}
-use Rattle.tally_statements.specs.declared.table.KeyedTable.TheVariants.{Cons, Lots, Seats, Gone, Totals, Past}
+use Rattle.tally_schema.specs.Office.{IsInside, tree_of}
+use Rattle.tally_schema.specs.declared.table.KeyedTable.TheVariants.{Cons, Lots, Seats, Gone, Totals, Past}
 use Rattle.tally_tables.specs.Cells.{con_rows, gone_rows, item_row, items_of, lot_rows, past_rows, seat_rows, total_rows, totals_of}
 use Rattle.tally_tables.specs.TablesOfState.{AreTables}
 use Rattle.tally_entries.specs.internal.Entries.{AddsReturn, FindsReturn, PutsReturn}

@@ -25,9 +25,9 @@ use Rattle.tally_returns.proofs.ClosedLemmas.{closed_counts-same, get-kept, get-
 use Rattle.tally_steps.specs.LawfulState.{IsLawfulState}
 use Rattle.tally_steps.specs.Outcome.{HasSeats}
 use Rattle.tally_steps.specs.Step.{with_return, without_lot}
-use Rattle.tally_statements.specs.Office.{IsInside, tree_of}
-use Rattle.tally_statements.specs.declared.table.KeyedTable.{KeyedTable}
-use Rattle.tally_statements.specs.declared.table.KeyedTable.TheVariants.{Returns, Counts, Cons, Lots, Seats, Gone, Totals, Past}
+use Rattle.tally_schema.specs.Office.{IsInside, tree_of}
+use Rattle.tally_schema.specs.declared.table.KeyedTable.{KeyedTable}
+use Rattle.tally_schema.specs.declared.table.KeyedTable.TheVariants.{Returns, Counts, Cons, Lots, Seats, Gone, Totals, Past}
 use Rattle.tally_tables.specs.Cells.{con_rows, count_rows, gone_rows, item_row, items_of, lot_rows, past_rows, return_rows, seat_rows, total_rows}
 use Rattle.tally_tables.specs.TablesOfState.{AreSeats, AreTables}
 use Rattle.tally_entries.specs.internal.Constituencies.{ChangesOnly, HasLot}

@@ -1,6 +1,10 @@
 -- An import in a transaction, so far.
-use Rattle.std.proofs.Common.{◌≡◌, ◌≢◌, ◌≤◌, ◌+◌, ◌∙◌, ℕ, List, [], ◌++◌, ◌∷◌, None, Some, Ok, Err, length, refl, sym, ap, subst, arith, length-append, append-nil}
+use Rattle.std.proofs.Common.{◌≡◌, ◌≢◌, ◌≤◌, ◌+◌, ◌∙◌, ℕ, List, [], ◌++◌, ◌∷◌, Option, None, Some, Result, Ok, Err, inr, length, refl, sym, ap, subst, arith, length-append, append-nil, true≢false}
+use Rattle.std.specs.Prelude.{IfSome, IsErr, IsErrAnd, OnOk}
+use Rattle.std.specs.BTreeMap.{BTreeMap}
 use Rattle.std.specs.FinMap.{empty}
+use Rattle.sqlite_trees.specs.declared.store.Store.{Ghosts}
+use Rattle.sqlite.specs.declared.transaction.Transaction.{Transaction}
 use Rattle.sqlite.specs.State.{State as Seen}
 use Rattle.tally_setup.specs.Constituency.{Constituency}
 use Rattle.tally_setup.specs.Limits.{IsSetup}
@@ -12,20 +16,22 @@ use Rattle.tally_returns.specs.declared.ask.Ask.{Ask}
 use Rattle.tally_returns.specs.declared.ask.Ask.TheVariants.{Lodge}
 use Rattle.tally_steps.specs.LawfulState.{IsLawfulState}
 use Rattle.tally_keeper.specs.Kept.{Kept}
-use Rattle.tally_keeper.specs.Import.{IsCodedRow, RowAnswer, after_row, count_of, count_with_row, row_answer}
+use Rattle.tally_keeper.specs.Import.{IsBelow, IsCodedRow, RowAnswer, after_row, count_of, count_with_row, row_answer}
 use Rattle.tally_keeper.specs.Keeper.{IsImportFault, IsOwnFault}
 use Rattle.tally_keeper.specs.NamedRows.{NamesRows, named_row}
-use Rattle.tally_keeper.specs.Source.{GaveAll, SourceAt, row_limit}
+use Rattle.tally_keeper.specs.Source.{Coming, Delivery, GaveAll, IsWithinRowLimit, SourceAt, row_limit}
 use Rattle.tally_keeper.specs.declared.import.ImportCount.{ImportCount}
 use Rattle.tally_keeper.specs.declared.import.NamedRow.{NamedRow}
 use Rattle.tally_keeper.specs.declared.import.Row.{Row}
 use Rattle.tally_keeper.specs.declared.import.Row.TheVariants as row
 use Rattle.tally_keeper.specs.declared.source.ImportFault.{ImportFault}
-use Rattle.tally_keeper.proofs.ImportLemmas.{push_is}
-use Rattle.tally_keeper.proofs.TakenLemmas.{GivesAt, NamedSoFar, NamedSoFar-end, NamedSoFar-next, NamedSoFar-start, SoFar, SoFar-end, SoFar-fault, SoFar-next, SoFar-own, SoFar-start, all-given}
+use Rattle.tally_keeper.specs.declared.source.ImportFault.TheVariants.{TooLong}
+use Rattle.tally_keeper.proofs.ImportLemmas.{count_of-below, push_is}
+use Rattle.tally_keeper.proofs.TakenLemmas.{AreTaken, GivesAt, NamedSoFar, NamedSoFar-end, NamedSoFar-next, NamedSoFar-start, SoFar, SoFar-end, SoFar-fault, SoFar-next, SoFar-own, SoFar-start, all-given}
+use Rattle.tally_tables.specs.declared.views.Statuses.{Statuses}
 use Rattle.tally_requests.specs.internal.Known.{AreKnown, Known}
 use Rattle.tally_requests.specs.internal.Counting.{known_after_row as after_row_known}
-use Rattle.tally_requests.specs.internal.Requests.{IsImportedKnown, IsInState}
+use Rattle.tally_requests.specs.internal.Requests.{IsImportedKnown, IsInState, LodgesRows}
 use Rattle.tally_requests.specs.internal.Lodging.{IsRowTaken}
 use Rattle.tally_requests.proofs.KnownLemmas.{known-row}
 use Rattle.tally_requests.proofs.LodgeLemmas.{row-lawful}
@@ -60,6 +66,31 @@ came-fault all left next many fault was given = SoFar-fault no_stations empty wa
 pub came-own : (all left next : SourceAt) (many : ℕ) (r : Row) (fault : ImportFault) → Came all left many → GivesAt left (Ok (Some r)) next → IsOwnFault fault → IsImportFault (record { start = all; finish = next }) fault
 came-own all left next many r fault was given own = SoFar-own no_stations empty was.1 all left next was.0 many r fault was.2 given own
 
+-- a source of which it was not known what comes gave one row more than an import has
+pub came-long : (all left : SourceAt) (many : ℕ) → Came all left many → many ≡ row_limit + 1 → IfSome all.coming IsWithinRowLimit → IsImportFault (record { start = all; finish = left }) TooLong
+came-long all left many was many_is within = (h.rows, (h.given, first all.coming h.taken), inr (inr (refl, h.many_are ∙ many_is, none all.coming h.taken within)))
+  where
+    h : SoFar no_stations empty was.1 all left was.0 many
+    h = was.2
+
+    first : (known : Option Coming) → AreTaken known h.rows left.coming → IfSome known (λ coming. (rest : List Row) × (coming.rows ≡ h.rows ++ rest))
+    first None taken = tt
+    first (Some coming) taken = (taken.0, taken.2)
+
+    none : (known : Option Coming) → AreTaken known h.rows left.coming → IfSome known IsWithinRowLimit → known ≡ None
+    none None taken within = refl
+    none (Some coming) taken within = let long = ap length taken.2 ∙ length-append h.rows taken.0 in absurd (omega (arith, long, h.many_are, many_is, within.0))
+
+-- of a fault nothing else is said
+pub lodges-failed : {S : Type 0} {g : Ghosts S} {setup : List Constituency} {d : Delivery} {before after : BTreeMap (List ℕ) Statuses} {old new : Transaction S} (r : Result ImportCount ImportFault) (fault : ImportFault) → IsErrAnd r (λ e. e ≡ fault)
+    → IsImportFault d fault → LodgesRows g setup d before after old new r
+lodges-failed (Ok count) fault wrong so = absurd wrong
+lodges-failed {d = d} (Err e) fault is so = record { imported = λ _ _. tt; unwritten = λ _ _. tt; gave = tt; fault = subst (IsImportFault d) (sym is) so; forgets = tt }
+
+pub none-named : (P : Type 0) (r : Result ImportCount ImportFault) → IsErr r → OnOk r P
+none-named P (Ok count) wrong = absurd (true≢false (sym wrong))
+none-named P (Err e) is = tt
+
 -- so many answers were counted
 abbrev pub Counted : ImportCount → ℕ → Type 0
 Counted count many = (answered : List RowAnswer) × (count ≡ count_of answered) × (length answered ≡ many)
@@ -70,6 +101,9 @@ counted-next count more many answer was is = (
   push_is count more was.0 answer (many + 1) was.1 (ap (λ n. n + 1) (sym was.2)) is,
   length-append was.0 (answer ∷ []) ∙ ap (λ n. n + 1) was.2,
 )
+
+pub counted-below : (count : ImportCount) (many : ℕ) → Counted count many → IsBelow count (many + 1)
+counted-below count many was = subst (λ c. IsBelow c (many + 1)) (sym was.1) (count_of-below was.0 (many + 1) (ap (λ n. n + 1) (sym was.2)))
 
 -- a request that has no answer is not named
 pub unanswered : (number : ℕ) (named : List NamedRow) (asked : Ask) → named ≡ named ++ named_row number (row.Lodge asked) None

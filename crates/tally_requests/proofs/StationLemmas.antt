@@ -1,7 +1,6 @@
 -- The stations of a constituency, each with the return that is found of it.
 use Rattle.std.proofs.Common.{◌≡◌, ◌≤◌, ℕ, List, length, Option, Some, None, Ok, Err, inl, refl, ap, subst, sym}
-use Rattle.std.specs.Prelude.{Vec, map}
-use Rattle.std.specs.FinMap.{get}
+use Rattle.std.specs.Prelude.{Vec}
 use Rattle.std.specs.declared.alloc.Global.{Global}
 use Rattle.sqlite.specs.State.{State as Seen, IsUnchanged}
 use Rattle.tally_setup.specs.Constituency.{Constituency}
@@ -11,12 +10,10 @@ use Rattle.tally_setup.specs.declared.constituency.Station.{Station}
 use Rattle.tally_returns.specs.Return.{StationReturn}
 use Rattle.tally_returns.specs.State.{State}
 use Rattle.tally_returns.specs.StationRows.{station_row}
-use Rattle.tally_returns.specs.declared.refusal.Refusal.{Refusal}
 use Rattle.tally_returns.specs.declared.refusal.Refusal.TheVariants.{NoConstituency}
 use Rattle.tally_returns.specs.declared.station_row.StationRow.{StationRow}
 use Rattle.tally_steps.specs.LawfulState.{IsLawfulState}
-use Rattle.tally_keeper.specs.Shown.{ShowsReturns}
-use Rattle.tally_statements.specs.Office.{IsInside}
+use Rattle.tally_schema.specs.Office.{IsInside}
 use Rattle.tally_tables.specs.TablesOfState.{AreTables}
 use Rattle.tally_entries.specs.internal.Entries.{FindsReturn}
 use Rattle.tally_requests.specs.internal.Stations.{FindsRows, FindsStations}

@@ -28,8 +28,8 @@ use Rattle.tally_keeper.proofs.SetupLemmas.{Has, Apart, Differ, apart-has, bytes
 use Rattle.tally_keeper.proofs.SumLemmas.{at_place, closed-total, if_closed, mapped-same, total}
 use Rattle.tally_steps.specs.LawfulState.{IsLawfulState}
 use Rattle.tally_schema.specs.Tables.{setup_tree}
-use Rattle.tally_statements.specs.Office.{IsInside, tree_of}
-use Rattle.tally_statements.specs.declared.table.KeyedTable.TheVariants.{Totals}
+use Rattle.tally_schema.specs.Office.{IsInside, tree_of}
+use Rattle.tally_schema.specs.declared.table.KeyedTable.TheVariants.{Totals}
 use Rattle.tally_tables.specs.Cells.{total_rows, totals_of}
 use Rattle.tally_entries.specs.internal.Constituencies.{ChangesOnly, ChangesSums, DifferBy, FindsSums}
 use Rattle.tally_entries.specs.internal.Entries.{stored_in}

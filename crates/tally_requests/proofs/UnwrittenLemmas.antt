@@ -13,7 +13,7 @@ use Rattle.tally_steps.specs.Runs.{is_act}
 use Rattle.tally_keeper.specs.Events.{as_answer}
 use Rattle.tally_keeper.specs.Import.{RowAnswer, count_with_row, is_lodged}
 use Rattle.tally_keeper.specs.declared.import.ImportCount.{ImportCount}
-use Rattle.tally_statements.specs.Office.{IsInside}
+use Rattle.tally_schema.specs.Office.{IsInside}
 use Rattle.tally_entries.proofs.FindLemmas.{inside_still}
 use Rattle.tally_requests.specs.internal.Requests.{WritesOnlyActs}
 

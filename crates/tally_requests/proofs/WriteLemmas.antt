@@ -9,9 +9,9 @@ use Rattle.tally_schema.specs.Rows.{AreRowsOf}
 use Rattle.tally_setup.specs.Code.{code_cmp}
 use Rattle.tally_returns.specs.PastSeats.{PastSeats}
 use Rattle.tally_returns.specs.State.{ConState}
-use Rattle.tally_statements.specs.declared.table.KeyedTable.{KeyedTable}
-use Rattle.tally_statements.specs.declared.table.KeyedTable.TheVariants.{Cons, Lots, Seats, Past}
-use Rattle.tally_statements.specs.Office.{tree_of}
+use Rattle.tally_schema.specs.declared.table.KeyedTable.{KeyedTable}
+use Rattle.tally_schema.specs.declared.table.KeyedTable.TheVariants.{Cons, Lots, Seats, Past}
+use Rattle.tally_schema.specs.Office.{tree_of}
 use Rattle.tally_tables.specs.Cells.{con_rows, lot_rows, past_rows, seat_rows}
 use Rattle.tally_entries.specs.internal.Constituencies.{ChangesOnly, HasLot, HasRecord, HasEdition, MovesRows, MovesSeats}
 use Rattle.tally_entries.specs.internal.Entries.{stored_in}

@@ -1,7 +1,6 @@
 //! A request, answered and carried out.
 
-ghost use Rattle.tally_returns.specs.declared.ask.Ask.TheVariants.{Lodge};
-ghost use Rattle.tally_statements.specs.internal.Inside.{StaysInside};
+ghost use Rattle.tally_schema.specs.internal.Inside.{StaysInside};
 ghost use Rattle.tally_requests.specs.internal.Requests.{AnswersIn};
 
 use crate::constituencies::{answer_on_con, show_progress};
@@ -9,7 +8,7 @@ use crate::returns::{lodge, move_on, show_return};
 use sqlite::{Alter, Error, Transaction};
 use std::alloc::Global;
 use std::collections::BTreeMap;
-use tally_returns::{Ask, Counts, Refusal, Reply};
+use tally_returns::{Ask, Refusal, Reply};
 use tally_setup::{Code, Setup};
 use tally_tables::Statuses;
 
@@ -33,7 +32,10 @@ pub fn answer_in<S: Alter>(
             station,
             slip,
             counts,
-        } => lodge_at(alloc, tx, setup, known, *station, *slip, counts),
+        } => match lodge(alloc, tx, setup, known, *station, *slip, counts)? {
+            Ok(reply) => Ok(Ok(Reply::from(reply))),
+            Err(refusal) => Ok(Err(refusal)),
+        },
         Ask::Query { station, .. } => move_on(alloc, tx, setup, known, *station, ask),
         Ask::Correct { station, .. } => move_on(alloc, tx, setup, known, *station, ask),
         Ask::Close { station, .. } => move_on(alloc, tx, setup, known, *station, ask),
@@ -41,25 +43,5 @@ pub fn answer_in<S: Alter>(
         Ask::ShowReturn { station } => show_return(alloc, tx, setup, *station),
         Ask::ShowProgress => show_progress(alloc, tx, setup, known),
         _ => unreachable!(),
-    }
-}
-
-/// Lodges the return of a station. It takes one layer off, which the prover needs.
-fn lodge_at<S: Alter>(
-    alloc: Global,
-    tx: &mut Transaction<'_, S>,
-    setup: &Setup,
-    known: &mut BTreeMap<Code, Statuses>,
-    station: Code,
-    slip: Code,
-    counts: &Counts,
-) -> Result<Result<Reply, Refusal>, Error>
-    ensures stays { StaysInside S.Store tx.old tx.new }
-    ensures answers { AnswersIn S.Store setup.now (Lodge station slip counts.now)
-        known.old known.new tx.old tx.new result }
-{
-    match lodge(alloc, tx, setup, known, station, slip, counts)? {
-        Ok(reply) => Ok(Ok(Reply::from(reply))),
-        Err(refusal) => Ok(Err(refusal)),
     }
 }

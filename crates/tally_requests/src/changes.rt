@@ -1,7 +1,6 @@
 //! Changes of a constituency, carried out on its tables.
 
-ghost use Rattle.std.specs.Prelude.{◌≡◌, ◌≢◌, ◌≤◌, Ok, Some, IfOk, length, true};
-ghost use Rattle.tally_frac.specs.Limits.{most_lists};
+ghost use Rattle.std.specs.Prelude.{◌≡◌, ◌≢◌, Ok, Some, IfOk, true};
 ghost use Rattle.tally_steps.specs.Kinds.{IsReplyTo};
 ghost use Rattle.tally_steps.specs.Runs.{is_act};
 ghost use Rattle.tally_steps.specs.Step.{Decides, IsConDecision, certified_with, gone_for_good};
@@ -10,11 +9,8 @@ ghost use Rattle.tally_returns.specs.Named.{con_named};
 ghost use Rattle.tally_returns.specs.View.{FitsView};
 ghost use Rattle.tally_returns.specs.declared.change.Change.TheVariants.{Same};
 ghost use Rattle.tally_setup.specs.Setup.{constituency_with};
-ghost use Rattle.tally_requests.specs.internal.Changes.{CarriesDecided, HasWrittenLot};
-ghost use Rattle.tally_requests.specs.internal.Changes.{HasWrittenRecord, HasWrittenSeats};
-ghost use Rattle.tally_requests.specs.internal.Changes.{WritesSo};
-ghost use Rattle.tally_statements.specs.internal.Inside.{InDatabase, Stays, StaysInside};
-ghost use Rattle.tally_requests.specs.internal.Changes.{CarriesChange};
+ghost use Rattle.tally_requests.specs.internal.Changes.{CarriesChange, CarriesDecided};
+ghost use Rattle.tally_schema.specs.internal.Inside.{InDatabase, Stays, StaysInside};
 
 use sqlite::{Alter, Error, Transaction};
 use tally_entries::{put_con, put_gone, put_lot, put_record, put_seats};
@@ -71,29 +67,11 @@ fn set_lot<S: Alter>(
         tx.old tx.new result }
     ensures acts { IfOk result (λ reply. is_act (Ok reply) ≡ true) }
 {
+    let code = con.code.as_str();
     let edition = view.edition + 1;
-    let certified = view.certified;
-    let note = view.note.as_str();
-    write_lot(tx, con.code.as_str(), edition, certified, note, lot)?;
+    put_con(tx, code, edition, view.certified, view.note.as_str())?;
+    put_lot(tx, code, lot)?;
     Ok(Reply::Edition { edition })
-}
-
-/// Writes what a constituency has in `cons` and in `lots`.
-fn write_lot<S: Alter>(
-    tx: &mut Transaction<'_, S>,
-    con: &str,
-    edition: u32,
-    certified: bool,
-    note: &str,
-    lot: &[u32],
-) -> Result<(), Error>
-    requires few { length lot.now ≤ most_lists }
-    ensures stays { Stays S.Store tx.old tx.new }
-    ensures written { InDatabase S.Store (WritesSo con.now
-        (HasWrittenLot con.now edition certified note.now lot.now)) tx.old tx.new result }
-{
-    put_con(tx, con, edition, certified, note)?;
-    put_lot(tx, con, lot)
 }
 
 /// Certifies a constituency, with these seats of its lists.
@@ -114,9 +92,10 @@ fn set_certified<S: Alter>(
         (certified_with seats.now)) tx.old tx.new result }
     ensures acts { IfOk result (λ reply. is_act (Ok reply) ≡ true) }
 {
+    let code = con.code.as_str();
     let edition = view.edition + 1;
-    let note = view.note.as_str();
-    write_seats(tx, con.code.as_str(), edition, true, note, seats)?;
+    put_con(tx, code, edition, true, view.note.as_str())?;
+    put_seats(tx, code, seats)?;
     Ok(Reply::Edition { edition })
 }
 
@@ -139,44 +118,12 @@ fn set_reopened<S: Alter>(
         (open_again note.now past.now)) tx.old tx.new result }
     ensures acts { IfOk result (λ reply. is_act (Ok reply) ≡ true) }
 {
+    let code = con.code.as_str();
     let edition = view.edition + 1;
-    write_record(tx, con.code.as_str(), edition, note, past)?;
+    put_con(tx, code, edition, false, note)?;
+    put_seats(tx, code, &[])?;
+    put_record(tx, code, past)?;
     Ok(Reply::Edition { edition })
-}
-
-/// Writes what a constituency has in `cons` and in `seats`.
-fn write_seats<S: Alter>(
-    tx: &mut Transaction<'_, S>,
-    con: &str,
-    edition: u32,
-    certified: bool,
-    note: &str,
-    seats: &[u32],
-) -> Result<(), Error>
-    requires few { length seats.now ≤ most_lists }
-    ensures stays { Stays S.Store tx.old tx.new }
-    ensures written { InDatabase S.Store (WritesSo con.now
-        (HasWrittenSeats con.now edition certified note.now seats.now)) tx.old tx.new result }
-{
-    put_con(tx, con, edition, certified, note)?;
-    put_seats(tx, con, seats)
-}
-
-/// Writes that a constituency is open, and puts its certificate on record.
-fn write_record<S: Alter>(
-    tx: &mut Transaction<'_, S>,
-    con: &str,
-    edition: u32,
-    note: &str,
-    past: &Past,
-) -> Result<(), Error>
-    requires few { length past.now.seats ≤ most_lists }
-    ensures stays { Stays S.Store tx.old tx.new }
-    ensures written { InDatabase S.Store (WritesSo con.now
-        (HasWrittenRecord con.now edition note.now past.now)) tx.old tx.new result }
-{
-    write_seats(tx, con, edition, false, note, &[])?;
-    put_record(tx, con, past)
 }
 
 /// Writes that a candidate is gone, and answers who moves in.

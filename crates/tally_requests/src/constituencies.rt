@@ -1,19 +1,15 @@
 //! Requests on a constituency, and the one that shows how far constituencies have come.
 
-ghost use Rattle.std.specs.Prelude.{◌≡◌, Some, OnOk};
-ghost use Rattle.tally_steps.specs.Step.{IsConDecision};
+ghost use Rattle.std.specs.Prelude.{◌≡◌, Some};
 ghost use Rattle.tally_returns.specs.Named.{con_named};
 ghost use Rattle.tally_returns.specs.View.{FitsView};
 ghost use Rattle.tally_returns.specs.declared.ask.Ask.TheVariants.{ShowProgress};
 ghost use Rattle.tally_setup.specs.Limits.{IsSetup};
 ghost use Rattle.tally_setup.specs.Setup.{constituency_with};
-ghost use Rattle.tally_entries.specs.internal.Entries.{Finds};
-ghost use Rattle.tally_statements.specs.internal.Inside.{OnlyReads, StaysInside};
-ghost use Rattle.tally_requests.specs.internal.Known.{ForgetsNone, known_of};
+ghost use Rattle.tally_schema.specs.internal.Inside.{StaysInside};
 ghost use Rattle.tally_requests.specs.internal.Requests.{AnswersIn};
 ghost use Rattle.tally_requests.specs.internal.Answering.{AnswersSo};
-ghost use Rattle.tally_requests.specs.internal.Seen.{CarriesOutSeen, FindsKnown, FindsProgress};
-ghost use Rattle.tally_requests.specs.internal.Seen.{shows_con};
+ghost use Rattle.tally_requests.specs.internal.Seen.{CarriesOutSeen, shows_con};
 
 use crate::changes::carry_out;
 use crate::known::{known_at, remember, statuses_of_row};
@@ -22,7 +18,7 @@ use sqlite::{Alter, Error, Transaction};
 use std::alloc::Global;
 use std::collections::BTreeMap;
 use tally_entries::{find_progress_row, find_view, rows_of_cons};
-use tally_machine::{Ask, Change, ConView, ProgressRow, Refusal, Reply, decide_con};
+use tally_machine::{Ask, Change, ConView, Refusal, Reply, decide_con};
 use tally_setup::{Code, Constituency, Setup};
 use tally_tables::{Statuses, statuses_of};
 
@@ -66,7 +62,8 @@ fn shows_con(ask: &Ask) -> bool
     }
 }
 
-/// Answers a request on a constituency of which this was seen, and carries it out.
+/// Answers a request on a constituency of which this was seen, and carries out what was decided.
+/// Where nothing changes, what was seen is shown.
 fn answer_seen<S: Alter>(
     alloc: Global,
     tx: &mut Transaction<'_, S>,
@@ -83,37 +80,18 @@ fn answer_seen<S: Alter>(
     ensures answers { AnswersSo S.Store setup.now ask.now
         (CarriesOutSeen setup.now con.now view ask.now) tx.old tx.new result }
 {
-    match decide_con(alloc, con, &view, ask) {
-        Ok(change) => carry_out_or_show(tx, setup, con, view, ask, change),
-        Err(refusal) => Ok(Err(refusal)),
-    }
-}
-
-/// Carries out what was decided of a request on a constituency. Where nothing changes, what was
-/// seen is shown.
-fn carry_out_or_show<S: Alter>(
-    tx: &mut Transaction<'_, S>,
-    setup: &Setup,
-    con: &Constituency,
-    view: ConView,
-    ask: &Ask,
-    change: Change,
-) -> Result<Result<Reply, Refusal>, Error>
-    requires found { constituency_with con.now.code setup.now ≡ Some con.now }
-    requires named { con_named ask.now ≡ Some con.now.code }
-    requires fits { FitsView con.now view }
-    requires decided { IsConDecision con.now view ask.now change }
-    ensures stays { StaysInside S.Store tx.old tx.new }
-    ensures answers { AnswersSo S.Store setup.now ask.now
-        (CarriesOutSeen setup.now con.now view ask.now) tx.old tx.new result }
-{
+    let change = match decide_con(alloc, con, &view, ask) {
+        Ok(change) => change,
+        Err(refusal) => return Ok(Err(refusal)),
+    };
     match change {
         Change::Same => Ok(Ok(Reply::Con(view))),
         change => Ok(Ok(carry_out(tx, setup, con, &view, ask, change)?)),
     }
 }
 
-/// How far constituencies have come.
+/// How far each constituency has come, in the setup's order. The rows of `cons` are read at once,
+/// and no station of a constituency of which it is known how many returns are in each status.
 pub(crate) fn show_progress<S: Alter>(
     alloc: Global,
     tx: &mut Transaction<'_, S>,
@@ -124,27 +102,6 @@ pub(crate) fn show_progress<S: Alter>(
     ensures answers { AnswersIn S.Store setup.now ShowProgress
         known.old known.new tx.old tx.new result }
 {
-    let rows = find_progress(alloc, tx, setup, known)?;
-    Ok(Ok(Reply::Progress(rows)))
-}
-
-/// How far each constituency has come, in the setup's order. The rows of `cons` are read at once,
-/// and no station of a constituency of which it is known how many returns are in each status.
-fn find_progress<S: Alter>(
-    alloc: Global,
-    tx: &mut Transaction<'_, S>,
-    setup: &Setup,
-    known: &mut BTreeMap<Code, Statuses>,
-) -> Result<Vec<ProgressRow>, Error>
-    ensures reads { OnlyReads S.Store tx.old tx.new result }
-    ensures found { Finds S.Store
-        (λ seen rows. FindsProgress setup.now (known_of known.old) seen rows.items)
-        tx.old tx.new result }
-    ensures known { Finds S.Store
-        (λ seen _. FindsKnown setup.now (known_of known.old) (known_of known.new) seen)
-        tx.old tx.new result }
-    ensures forgets { OnOk result (ForgetsNone (known_of known.old) (known_of known.new)) }
-{
     let cons = setup.cons();
     let standing = rows_of_cons(tx)?;
     let mut rows = Vec::new(alloc);
@@ -153,5 +110,5 @@ fn find_progress<S: Alter>(
         remember(known, con.code, statuses_of_row(&row))?;
         rows.push(row)?;
     }
-    Ok(rows)
+    Ok(Ok(Reply::Progress(rows)))
 }

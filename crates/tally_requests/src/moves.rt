@@ -2,16 +2,15 @@
 
 ghost use Rattle.std.specs.Prelude.{◌≡◌, ◌≢◌, ◌≤◌, length};
 ghost use Rattle.tally_frac.specs.Limits.{most_lists};
-ghost use Rattle.tally_returns.specs.declared.returns.Status.TheVariants.{Closed, Corrected};
-ghost use Rattle.tally_returns.specs.declared.returns.Status.TheVariants.{Queried};
-ghost use Rattle.tally_statements.specs.internal.Inside.{InDatabase, StaysInside};
+ghost use Rattle.tally_returns.specs.declared.returns.Status.TheVariants.{Closed, Queried};
+ghost use Rattle.tally_schema.specs.internal.Inside.{InDatabase, StaysInside};
 ghost use Rattle.tally_requests.specs.internal.Moves.{PutsMoved, Uncounts, with_queried};
 ghost use Rattle.tally_requests.specs.internal.Moves.{with_standing};
 
 use crate::sums::move_sums;
 use sqlite::{Alter, Error, Transaction};
 use std::alloc::Global;
-use tally_entries::{change_return, correct_return, put_lot};
+use tally_entries::{change_return, put_lot};
 use tally_returns::{Return, Status};
 use tally_setup::{Code, Constituency};
 
@@ -52,25 +51,6 @@ fn uncount<S: Alter>(
         Status::Closed => move_sums(alloc, tx, con, &before.counts, false),
         _ => Ok(()),
     }
-}
-
-/// Writes a return that is corrected now.
-pub(crate) fn put_corrected<S: Alter>(
-    tx: &mut Transaction<'_, S>,
-    con: &Constituency,
-    station: Code,
-    before: &Return,
-    standing: &Return,
-) -> Result<(), Error>
-    requires few { length con.now.lists ≤ most_lists }
-    requires queried { before.now.status ≡ Queried }
-    requires corrected { standing.now.status ≡ Corrected }
-    requires lists { length standing.now.counts.votes ≡ length con.now.lists }
-    ensures stays { StaysInside S.Store tx.old tx.new }
-    ensures put { InDatabase S.Store (PutsMoved (with_standing station standing.now) con.now station
-        before.now) tx.old tx.new result }
-{
-    correct_return(tx, station.as_str(), standing)
 }
 
 /// Writes a return that is closed now. Its counts are added to the totals.

@@ -1,9 +1,8 @@
 //! Requests on the return of a station.
 
-ghost use Rattle.std.specs.Prelude.{◌≡◌, ◌≤◌, length, Some, Ok, IfOk, OnOk, true};
+ghost use Rattle.std.specs.Prelude.{◌≡◌, ◌≤◌, length, Some, IfOk, OnOk, true};
 ghost use Rattle.tally_frac.specs.Limits.{most_lists};
 ghost use Rattle.tally_keeper.specs.internal.Held.{moves_return};
-ghost use Rattle.tally_returns.specs.Decide.{return_change_at};
 ghost use Rattle.tally_returns.specs.Named.{station_named};
 ghost use Rattle.tally_returns.specs.Return.{first_return};
 ghost use Rattle.tally_returns.specs.declared.ask.Ask.TheVariants.{ShowReturn};
@@ -12,7 +11,7 @@ ghost use Rattle.tally_setup.specs.Setup.{station_with};
 ghost use Rattle.tally_entries.specs.internal.Entries.{AddsReturn, Finds, FindsReturn};
 ghost use Rattle.tally_requests.specs.internal.Found.{CarriesOutFound, IsLawfulIfFound, MovesTo};
 ghost use Rattle.tally_requests.specs.internal.Found.{after_move};
-ghost use Rattle.tally_statements.specs.internal.Inside.{InDatabase, OnlyReads, Stays, StaysInside};
+ghost use Rattle.tally_schema.specs.internal.Inside.{InDatabase, OnlyReads, Stays, StaysInside};
 ghost use Rattle.tally_requests.specs.internal.Lodging.{DecidesLodge, IsFewIfLodged};
 ghost use Rattle.tally_requests.specs.internal.Lodging.{WritesOnlyLodged};
 ghost use Rattle.tally_requests.specs.internal.Moves.{PutsMoved};
@@ -23,12 +22,12 @@ ghost use Rattle.tally_requests.specs.internal.Found.{CarriesOut};
 ghost use Rattle.tally_requests.specs.internal.Lodging.{Lodges};
 
 use crate::known::{count_command, count_move, status_found};
-use crate::moves::{put_closed, put_corrected, put_queried};
+use crate::moves::{put_closed, put_queried};
 use crate::shown::see_open;
 use sqlite::{Alter, Error, ErrorCode, Transaction};
 use std::alloc::Global;
 use std::collections::BTreeMap;
-use tally_entries::{add_return, find_certified, find_return};
+use tally_entries::{add_return, correct_return, find_certified, find_return};
 use tally_machine::{
     Ask, Change, Counts, LodgeReply, Refusal, Reply, Return, decide_at, decide_lodge,
 };
@@ -162,7 +161,8 @@ fn find_lawful<S: Alter>(
     Ok(Some(standing))
 }
 
-/// Answers a command that moves a return, by what was found of its station, and carries it out.
+/// Answers a command that moves a return, by what was found of its station, and writes the return
+/// that was decided on in place of that one.
 fn move_found<S: Alter>(
     alloc: Global,
     tx: &mut Transaction<'_, S>,
@@ -183,36 +183,10 @@ fn move_found<S: Alter>(
     ensures answers { AnswersSo S.Store setup.now ask.now
         (CarriesOutFound setup.now con.now station certified found ask.now) tx.old tx.new result }
 {
-    match decide_at(alloc, con, place, certified, found.as_ref(), ask) {
-        Ok(change) => put_next(
-            alloc, tx, setup, con, place, station, ask, certified, found, change,
-        ),
-        Err(refusal) => Ok(Err(refusal)),
-    }
-}
-
-/// Writes the return that was decided on in place of the one that was found.
-fn put_next<S: Alter>(
-    alloc: Global,
-    tx: &mut Transaction<'_, S>,
-    setup: &Setup,
-    con: &Constituency,
-    place: &Station,
-    station: Code,
-    ask: &Ask,
-    certified: bool,
-    found: Option<Return>,
-    change: Change,
-) -> Result<Result<Reply, Refusal>, Error>
-    requires limits { IsSetup setup.now }
-    requires known { station_with station setup.now ≡ Some (con.now, place.now) }
-    requires named { station_named ask.now ≡ Some station }
-    requires moves { moves_return ask.now ≡ true }
-    requires decided { return_change_at con.now place.now certified found ask.now ≡ Ok change }
-    ensures stays { StaysInside S.Store tx.old tx.new }
-    ensures answers { AnswersSo S.Store setup.now ask.now
-        (CarriesOutFound setup.now con.now station certified found ask.now) tx.old tx.new result }
-{
+    let change = match decide_at(alloc, con, place, certified, found.as_ref(), ask) {
+        Ok(change) => change,
+        Err(refusal) => return Ok(Err(refusal)),
+    };
     let Change::PutReturn(standing) = change else {
         unreachable!()
     };
@@ -239,7 +213,7 @@ fn put_moved<S: Alter>(
 {
     match ask {
         Ask::Query { .. } => put_queried(alloc, tx, con, station, before, standing),
-        Ask::Correct { .. } => put_corrected(tx, con, station, before, standing),
+        Ask::Correct { .. } => correct_return(tx, station.as_str(), standing),
         Ask::Close { .. } => put_closed(alloc, tx, con, station, before, standing),
         Ask::Confirm { .. } => put_closed(alloc, tx, con, station, before, standing),
         _ => unreachable!(),

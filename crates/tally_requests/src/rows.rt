@@ -1,30 +1,28 @@
 //! The rows of a source, lodged.
 
-ghost use Rattle.std.specs.Prelude.{◌≡◌, ◌↔◌, ◌++◌, Some, IfErr, IfOk, true};
+ghost use Rattle.std.specs.Prelude.{◌≡◌, ◌↔◌, ◌++◌, IfErr, IfOk};
 ghost use Rattle.sqlite.specs.Held.{state};
 ghost use Rattle.tally_keeper.specs.Delivery.{delivery};
 ghost use Rattle.tally_keeper.specs.Import.{IsCodedRow};
 ghost use Rattle.tally_keeper.specs.Keeper.{IsOwnFault};
 ghost use Rattle.tally_keeper.specs.NamedRows.{named_row};
 ghost use Rattle.tally_keeper.specs.declared.import.Row.{Row};
-ghost use Rattle.tally_setup.specs.Code.{is_code};
-ghost use Rattle.tally_statements.specs.internal.Inside.{StaysInside};
+ghost use Rattle.tally_schema.specs.internal.Inside.{StaysInside};
 ghost use Rattle.tally_requests.specs.internal.Inside.{StaysInState};
-ghost use Rattle.tally_requests.specs.internal.Counting.{CountsLodge, CountsRow};
+ghost use Rattle.tally_requests.specs.internal.Counting.{CountsRow};
 ghost use Rattle.tally_requests.specs.internal.Requests.{LodgesRows, NamesImported};
-ghost use Rattle.tally_requests.specs.internal.Lodging.{Lodges, TakesRow, WritesOnlyLodged};
-ghost use Rattle.tally_requests.specs.internal.Lodging.{WritesOnlyLodgedRow};
+ghost use Rattle.tally_requests.specs.internal.Lodging.{TakesRow, WritesOnlyLodgedRow};
 
 use crate::returns::lodge;
 use sqlite::{Alter, Error, ErrorCode, Transaction};
 use std::alloc::Global;
 use std::collections::BTreeMap;
 use tally_keeper::{
-    Ask, Counts, ImportCount, ImportFault, LodgeReply, NamedRow, ROW_LIMIT, Refusal, Row,
-    RowSource, name_bad, name_refused,
+    Ask, ImportCount, ImportFault, LodgeReply, NamedRow, ROW_LIMIT, Refusal, Row, RowSource,
+    name_bad, name_refused,
 };
+use tally_schema::is_memory;
 use tally_setup::{Code, Setup};
-use tally_statements::is_memory;
 use tally_tables::Statuses;
 
 /// Lodges the rows of a source one by one. Refused and bad rows are passed over, and named. With a
@@ -87,7 +85,8 @@ fn take_row<S: Alter>(
 }
 
 /// Lodges what a Lodge brings, and names the row where that is refused. Another request has no
-/// answer. It takes one layer off, which the prover needs.
+/// answer. An error of the database is a fault of the import. It takes one layer off, which the
+/// prover needs.
 fn take_ask<S: Alter>(
     alloc: Global,
     tx: &mut Transaction<'_, S>,
@@ -116,37 +115,14 @@ fn take_ask<S: Alter>(
     else {
         return Ok(None);
     };
-    let answer = take_return(alloc, tx, setup, known, station, slip, &counts)?;
-    name_refused(named, number, station, &answer)?;
-    Ok(Some(answer))
-}
-
-/// Lodges a return. An error of the database is a fault of the import. It takes one layer off,
-/// which the prover needs.
-fn take_return<S: Alter>(
-    alloc: Global,
-    tx: &mut Transaction<'_, S>,
-    setup: &Setup,
-    known: &mut BTreeMap<Code, Statuses>,
-    station: Code,
-    slip: Code,
-    counts: &Counts,
-) -> Result<Result<LodgeReply, Refusal>, ImportFault>
-    ensures stays { StaysInside S.Store tx.old tx.new }
-    ensures codes { is_code slip ≡ true }
-    ensures lodged { Lodges setup.now station slip counts.now
-        (state S.Store tx.old.conn.now) (state S.Store tx.new.conn.now) result }
-    ensures known { CountsLodge setup.now station known.old known.new result }
-    ensures unwritten { WritesOnlyLodged
-        (state S.Store tx.old.conn.now) (state S.Store tx.new.conn.now) result }
-    ensures own { IfErr result IsOwnFault }
-{
     // Called for what its contract says: a slip is a code.
     let _slip = slip.as_bytes();
-    match lodge(alloc, tx, setup, known, station, slip, counts) {
-        Ok(answer) => Ok(answer),
-        Err(error) => Err(import_fault_of(&error)),
-    }
+    let answer = match lodge(alloc, tx, setup, known, station, slip, &counts) {
+        Ok(answer) => answer,
+        Err(error) => return Err(import_fault_of(&error)),
+    };
+    name_refused(named, number, station, &answer)?;
+    Ok(Some(answer))
 }
 
 /// The fault with which an import ends where a call on the database failed.

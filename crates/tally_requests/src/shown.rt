@@ -5,7 +5,7 @@ ghost use Rattle.tally_setup.specs.Constituency as value;
 ghost use Rattle.tally_setup.specs.Setup.{constituency_with};
 ghost use Rattle.tally_returns.specs.View.{FitsView};
 ghost use Rattle.tally_entries.specs.internal.Entries.{Finds};
-ghost use Rattle.tally_statements.specs.internal.Inside.{OnlyReads};
+ghost use Rattle.tally_schema.specs.internal.Inside.{OnlyReads};
 ghost use Rattle.tally_requests.specs.internal.Known.{ForgetsNone, known_of};
 ghost use Rattle.tally_requests.specs.internal.Shown.{FindsKnown, FindsShown};
 
@@ -15,8 +15,8 @@ use std::alloc::Global;
 use std::collections::BTreeMap;
 use tally_entries::find_view;
 use tally_returns::{ConView, Refusal};
+use tally_schema::{KeyedTable, rows_of_key};
 use tally_setup::{Code, Setup};
-use tally_statements::{KeyedTable, rows_of_key};
 use tally_tables::{Statuses, statuses_of};
 
 /// Reads a row that is never there. A connection that is shut does not answer this. So a request

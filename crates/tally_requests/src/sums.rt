@@ -2,7 +2,7 @@
 
 ghost use Rattle.std.specs.Prelude.{◌≡◌, ◌≤◌, OnSome, SomeIff, length};
 ghost use Rattle.tally_frac.specs.Limits.{most_lists};
-ghost use Rattle.tally_statements.specs.internal.Inside.{InDatabase, StaysInside};
+ghost use Rattle.tally_schema.specs.internal.Inside.{InDatabase, StaysInside};
 ghost use Rattle.tally_requests.specs.internal.Moves.{MovesSums};
 ghost use Rattle.tally_keeper.specs.MovedSum.{CanMove, moved_sum};
 ghost use Rattle.tally_keeper.specs.internal.Sums.{moved_sums};

@@ -4,7 +4,7 @@ use tally_setup::Code;
 
 /// How far a constituency has come: its stations, how many of their returns are in each status,
 /// its edition and whether it is certified.
-#[derive(Clone, Copy, Debug, PartialEq, Eq)]
+#[derive(Clone, Copy, Debug)]
 pub struct ProgressRow {
     pub con: Code,
     pub stations: u32,

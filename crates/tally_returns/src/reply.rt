@@ -5,7 +5,7 @@ use crate::returns::Return;
 use crate::view::ConView;
 
 /// What an accepted Lodge is answered.
-#[derive(Clone, Copy, Debug, PartialEq, Eq)]
+#[derive(Clone, Copy)]
 pub enum LodgeReply {
     /// The return was lodged, as this revision (1).
     Lodged { rev: u32 },

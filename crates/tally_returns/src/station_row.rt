@@ -4,7 +4,7 @@ use crate::returns::Return;
 use tally_setup::Code;
 
 /// A station, and its return where it has one.
-#[derive(Debug, Drop)]
+#[derive(Drop)]
 pub struct StationRow {
     pub station: Code,
     /// From 1 to 1,000,000.

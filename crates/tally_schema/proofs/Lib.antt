@@ -11,3 +11,11 @@ pub mod CreateLemmas
 pub mod ReadLemmas
 pub mod ColumnLemmas
 pub mod TextLemmas
+pub mod TableLemmas
+pub mod WriteLemmas
+pub mod StatementTextLemmas
+pub mod SelectLemmas
+pub mod WholeLemmas
+pub mod SetupLemmas
+pub mod StaysLemmas
+pub mod NumberedLemmas

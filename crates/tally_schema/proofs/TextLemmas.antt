@@ -1,5 +1,5 @@
 -- What each text makes, as sqlite reads it.
-use Rattle.std.proofs.Common.{◌≡◌, ℕ, ◌+◌, List, [], ◌∷◌, ◌++◌, Result, Ok, Err, OnOk, false, refl, sym, ap, subst, ◌∙◌}
+use Rattle.std.proofs.Common.{◌≡◌, ◌<◌, ℕ, zero, suc, ◌+◌, arith, List, [], ◌∷◌, ◌++◌, Result, Ok, Err, OnOk, false, refl, sym, ap, subst, ◌∙◌}
 use Rattle.std.specs.List.{AllByRecursion}
 use Rattle.sqlite_keyed.proofs.ListLemmas.{all-append}
 use Rattle.sqlite_schema.specs.declared.command.Command.TheVariants.{CreateTable}
@@ -10,14 +10,19 @@ use Rattle.sqlite.specs.Compile.{table_defined_by}
 use Rattle.sqlite.specs.Does.{lacks_sequence}
 use Rattle.sqlite.specs.Effect.{IsDatabase}
 use Rattle.sqlite.specs.Listing.{understood}
-use Rattle.sqlite.specs.State.{State}
+use Rattle.sqlite.specs.State.{State, ExecutesInside}
 use Rattle.sqlite.specs.declared.error.Error.{Error}
 use Rattle.sqlite.proofs.Callers.{IsPlain, command_of, statement_of, runs_as}
 use Rattle.sqlite_tied.specs.Compute.{everything}
 use Rattle.tally_schema.proofs.CreateLemmas.{made_by}
 use Rattle.tally_schema.specs.Tables.{schema_with, past_tree, setup_table, returns_table, counts_table, cons_table, lots_table, seats_table, gone_table, totals_table, past_table}
-use Rattle.tally_schema.specs.internal.Texts.{create_setup_text, create_returns_text, create_counts_text, create_cons_text, create_lots_text, create_seats_text, create_gone_text, create_totals_text, create_past_text}
-use Rattle.tally_schema.specs.Made.{HasRun, HasFirstTables, AddsTable, HasEmptyTables, RunsStatement, Makes, MakesPast}
+use Rattle.tally_schema.specs.internal.Texts.{create_setup_text, create_returns_text, create_counts_text, create_cons_text, create_lots_text, create_seats_text, create_gone_text, create_totals_text, create_past_text, create_text}
+use Rattle.tally_schema.specs.Made.{HasFirstTables, AddsTable, HasEmptyTables, Makes, MakesPast}
+use Rattle.tally_schema.specs.Office.{RunsWithValues}
+
+-- the text was run as a statement of a transaction, without parameters
+abbrev HasRun : List ℕ → State → State → Type 0
+HasRun sql old new = (count : ℕ) × ExecutesInside 0 sql [] old new (Ok count)
 
 -- The text is that of a CREATE TABLE, which makes this table after the first `n` ones.
 record IsTextOf (n : ℕ) (table : ℕ → Table) (sql : List ℕ) : Type 0 where
@@ -48,7 +53,7 @@ makes n table sql old new is has ran =
     let last : IsEmpty (table (next_tree (schema_with n))) = ap new.now.trees is.tree ∙ added.empty in
     record { tables = added.tables; empty = subst (AllByRecursion IsEmpty) (sym is.tables) (all-append IsEmpty (schema_with n).tables (table (next_tree (schema_with n)) ∷ []) before (last, tt)) }
 
-made_where_run : (n : ℕ) (table : ℕ → Table) (sql : List ℕ) (old new : State) (r : Result Unit Error) → IsTextOf n table sql → RunsStatement sql old new r → Makes n (n + 1) old new r
+made_where_run : (n : ℕ) (table : ℕ → Table) (sql : List ℕ) (old new : State) (r : Result Unit Error) → IsTextOf n table sql → RunsWithValues sql [] old new r → Makes n (n + 1) old new r
 made_where_run n table sql old new (Ok done) is ran clean has = makes n table sql old new is has (ran clean has.tables.inside)
 made_where_run n table sql old new (Err e) is ran clean has = tt
 
@@ -56,69 +61,57 @@ setup_is : IsTextOf 0 setup_table create_setup_text
 unfolding understood everything
 setup_is = record { command = refl; text = refl; defined = refl; made = refl; sequence = refl; plain = (refl, refl); tables = refl; tree = refl }
 
-pub makes_setup : (old new : State) (r : Result Unit Error) → RunsStatement create_setup_text old new r → Makes 0 1 old new r
-makes_setup old new r = made_where_run 0 setup_table create_setup_text old new r setup_is
-
 returns_is : IsTextOf 1 returns_table create_returns_text
 unfolding understood everything
 returns_is = record { command = refl; text = refl; defined = refl; made = refl; sequence = refl; plain = (refl, refl); tables = refl; tree = refl }
-
-pub makes_returns : (old new : State) (r : Result Unit Error) → RunsStatement create_returns_text old new r → Makes 1 2 old new r
-makes_returns old new r = made_where_run 1 returns_table create_returns_text old new r returns_is
 
 counts_is : IsTextOf 2 counts_table create_counts_text
 unfolding understood everything
 counts_is = record { command = refl; text = refl; defined = refl; made = refl; sequence = refl; plain = (refl, refl); tables = refl; tree = refl }
 
-pub makes_counts : (old new : State) (r : Result Unit Error) → RunsStatement create_counts_text old new r → Makes 2 3 old new r
-makes_counts old new r = made_where_run 2 counts_table create_counts_text old new r counts_is
-
 cons_is : IsTextOf 3 cons_table create_cons_text
 unfolding understood everything
 cons_is = record { command = refl; text = refl; defined = refl; made = refl; sequence = refl; plain = (refl, refl); tables = refl; tree = refl }
-
-pub makes_cons : (old new : State) (r : Result Unit Error) → RunsStatement create_cons_text old new r → Makes 3 4 old new r
-makes_cons old new r = made_where_run 3 cons_table create_cons_text old new r cons_is
 
 lots_is : IsTextOf 4 lots_table create_lots_text
 unfolding understood everything
 lots_is = record { command = refl; text = refl; defined = refl; made = refl; sequence = refl; plain = (refl, refl); tables = refl; tree = refl }
 
-pub makes_lots : (old new : State) (r : Result Unit Error) → RunsStatement create_lots_text old new r → Makes 4 5 old new r
-makes_lots old new r = made_where_run 4 lots_table create_lots_text old new r lots_is
-
 seats_is : IsTextOf 5 seats_table create_seats_text
 unfolding understood everything
 seats_is = record { command = refl; text = refl; defined = refl; made = refl; sequence = refl; plain = (refl, refl); tables = refl; tree = refl }
-
-pub makes_seats : (old new : State) (r : Result Unit Error) → RunsStatement create_seats_text old new r → Makes 5 6 old new r
-makes_seats old new r = made_where_run 5 seats_table create_seats_text old new r seats_is
 
 gone_is : IsTextOf 6 gone_table create_gone_text
 unfolding understood everything
 gone_is = record { command = refl; text = refl; defined = refl; made = refl; sequence = refl; plain = (refl, refl); tables = refl; tree = refl }
 
-pub makes_gone : (old new : State) (r : Result Unit Error) → RunsStatement create_gone_text old new r → Makes 6 7 old new r
-makes_gone old new r = made_where_run 6 gone_table create_gone_text old new r gone_is
-
 totals_is : IsTextOf 7 totals_table create_totals_text
 unfolding understood everything
 totals_is = record { command = refl; text = refl; defined = refl; made = refl; sequence = refl; plain = (refl, refl); tables = refl; tree = refl }
 
-pub makes_totals : (old new : State) (r : Result Unit Error) → RunsStatement create_totals_text old new r → Makes 7 8 old new r
-makes_totals old new r = made_where_run 7 totals_table create_totals_text old new r totals_is
+-- the table of a place, after those before it
+pub makes_next : (n : ℕ) → n < 8 → (old new : State) (r : Result Unit Error) → RunsWithValues (create_text n) [] old new r → Makes n (n + 1) old new r
+makes_next zero low old new r = made_where_run 0 setup_table create_setup_text old new r setup_is
+makes_next (suc zero) low old new r = made_where_run 1 returns_table create_returns_text old new r returns_is
+makes_next (suc (suc zero)) low old new r = made_where_run 2 counts_table create_counts_text old new r counts_is
+makes_next (suc (suc (suc zero))) low old new r = made_where_run 3 cons_table create_cons_text old new r cons_is
+makes_next (suc (suc (suc (suc zero)))) low old new r = made_where_run 4 lots_table create_lots_text old new r lots_is
+makes_next (suc (suc (suc (suc (suc zero))))) low old new r = made_where_run 5 seats_table create_seats_text old new r seats_is
+makes_next (suc (suc (suc (suc (suc (suc zero)))))) low old new r = made_where_run 6 gone_table create_gone_text old new r gone_is
+makes_next (suc (suc (suc (suc (suc (suc (suc zero))))))) low old new r = made_where_run 7 totals_table create_totals_text old new r totals_is
+makes_next (suc (suc (suc (suc (suc (suc (suc (suc n)))))))) low old new r = absurd (omega (arith, low))
 
 past_is : IsTextOf 8 past_table create_past_text
 unfolding understood everything
 past_is = record { command = refl; text = refl; defined = refl; made = refl; sequence = refl; plain = (refl, refl); tables = refl; tree = refl }
 
-pub makes_past : (old new : State) (r : Result Unit Error) → RunsStatement create_past_text old new r → Makes 8 9 old new r
+pub makes_past : (old new : State) (r : Result Unit Error) → RunsWithValues create_past_text [] old new r → Makes 8 9 old new r
 makes_past old new r = made_where_run 8 past_table create_past_text old new r past_is
 
 pub past_sound : (old new : State) (r : Result Unit Error) → OnOk r (AddsTable 8 past_tree old new) → OnOk r (IsDatabase new.now)
 past_sound old new (Ok done) added = added.sound
 past_sound old new (Err e) added = tt
 
-pub adds_past : (old new : State) (r : Result Unit Error) → RunsStatement create_past_text old new r → MakesPast old new r
+pub adds_past : (old new : State) (r : Result Unit Error) → RunsWithValues create_past_text [] old new r → MakesPast old new r
 adds_past old new (Ok done) ran clean has = adds 8 past_table create_past_text old new past_is has (ran clean has.inside)
 adds_past old new (Err e) ran clean has = tt

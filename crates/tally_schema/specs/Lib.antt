@@ -4,3 +4,4 @@ pub mod Values
 pub mod Tables
 pub mod Made
 pub mod Cells
+pub mod Office

@@ -1,6 +1,6 @@
 -- What making the tables leaves.
 use Rattle.std.specs.Prelude.{◌≡◌, ◌+◌, ◌||◌, ◌&&◌, ℕ, Bool, false, IsTrue, is_some, option_map}
-use Rattle.std.specs.Prelude.{unwrap_or, List, [], ◌∷◌, codes, Result, Ok, OnOk}
+use Rattle.std.specs.Prelude.{unwrap_or, List, [], ◌∷◌, codes, Result, OnOk}
 use Rattle.std.specs.List.{AllByRecursion, list_all, list_any}
 use Rattle.sqlite_schema.specs.declared.schema.Schema.{Schema}
 use Rattle.sqlite_schema.specs.declared.schema.Table.{Table}
@@ -8,7 +8,7 @@ use Rattle.sqlite_schema.specs.declared.schema.View.{View}
 use Rattle.sqlite_schema.specs.Names.{same_name, table_named, index_named, view_named}
 use Rattle.sqlite.specs.declared.error.Error.{Error}
 use Rattle.sqlite.specs.Effect.{IsDatabase}
-use Rattle.sqlite.specs.State.{State as Seen, HasCleanDisk, ExecutesInside}
+use Rattle.sqlite.specs.State.{State as Seen, HasCleanDisk}
 use Rattle.tally_schema.specs.Tables.{schema_with, past_tree}
 
 -- ---- making tables
@@ -32,15 +32,7 @@ pub record AddsTable (n : ℕ) (tree : ℕ) (old new : Seen) : Type 0 where
       (schema_with n).tables
   pub sound : IsDatabase new.now
 
--- the text was run as a statement of a transaction, without parameters
-abbrev pub HasRun : List ℕ → Seen → Seen → Type 0
-HasRun sql old new = (count : ℕ) × ExecutesInside 0 sql [] old new (Ok count)
-
 -- ---- what a call says, where the disk returned what was written
-
-abbrev pub RunsStatement : List ℕ → Seen → Seen → Result Unit Error → Type 0
-RunsStatement sql old new result =
-    HasCleanDisk new → IsTrue old.in_transaction → OnOk result (HasRun sql old new)
 
 -- from the first `n` tables without rows to the first `m` without rows
 abbrev pub Makes : ℕ → ℕ → Seen → Seen → Result Unit Error → Type 0

@@ -2,3 +2,6 @@
 -- program speaks of them.
 pub mod Texts
 pub mod Stays
+pub mod StatementTexts
+pub mod Numbered
+pub mod Inside

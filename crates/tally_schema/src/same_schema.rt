@@ -21,16 +21,31 @@ fn is_same_value(a: &Value, b: &Value) -> bool
     }
 }
 
+// The one is matched inside the other, since a match of the pair takes the prover longer.
 fn is_same_op(a: &Op, b: &Op) -> bool
     ensures { IsTrue result → a.now ≡ b.now }
 {
-    match (a, b) {
-        (Op::Literal(x), Op::Literal(y)) => is_same_value(x, y),
-        (Op::Column(s, x), Op::Column(t, y)) => *s == *t && *x == *y,
-        (Op::Unary(s, x), Op::Unary(t, y)) => *s == *t && *x == *y,
-        (Op::Binary(s, x, v), Op::Binary(t, y, w)) => *s == *t && *x == *y && *v == *w,
-        (Op::Case(s, x, v), Op::Case(t, y, w)) => *s == *t && *x == *y && *v == *w,
-        _ => false,
+    match a {
+        Op::Literal(x) => match b {
+            Op::Literal(y) => is_same_value(x, y),
+            _ => false,
+        },
+        Op::Column(s, x) => match b {
+            Op::Column(t, y) => *s == *t && *x == *y,
+            _ => false,
+        },
+        Op::Unary(s, x) => match b {
+            Op::Unary(t, y) => *s == *t && *x == *y,
+            _ => false,
+        },
+        Op::Binary(s, x, v) => match b {
+            Op::Binary(t, y, w) => *s == *t && *x == *y && *v == *w,
+            _ => false,
+        },
+        Op::Case(s, x, v) => match b {
+            Op::Case(t, y, w) => *s == *t && *x == *y && *v == *w,
+            _ => false,
+        },
     }
 }
 

@@ -17,8 +17,8 @@ use Rattle.tally_steps.specs.LawStatements.{CertificatesAreRight}
 use Rattle.tally_steps.specs.LawfulState.{IsLawfulState}
 use Rattle.tally_steps.specs.Step.{IsView}
 use Rattle.tally_steps.proofs.ViewLemmas.{constituency-code}
-use Rattle.tally_statements.specs.declared.table.KeyedTable.TheVariants.{Seats}
-use Rattle.tally_statements.specs.Office.{rows_in, tree_of}
+use Rattle.tally_schema.specs.declared.table.KeyedTable.TheVariants.{Seats}
+use Rattle.tally_schema.specs.Office.{rows_in, tree_of}
 use Rattle.tally_tables.specs.Cells.{item_row, numbers_with_places, seat_rows}
 use Rattle.tally_store.specs.Certified.{HasCertificates}
 use Rattle.tally_store.specs.Content.{content_of}

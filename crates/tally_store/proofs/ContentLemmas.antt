@@ -16,10 +16,10 @@ use Rattle.tally_returns.specs.View.{gone_candidate, gone_candidates, past_recor
 use Rattle.tally_steps.specs.LawfulState.{IsLawfulState, IsUnderPlaces}
 use Rattle.tally_steps.specs.LawStatements.{ViewsAreLawful}
 use Rattle.tally_schema.specs.Rows.{text_cmp}
-use Rattle.tally_statements.specs.declared.table.KeyedTable.TheVariants.{Returns as Heads, Counts, Cons, Lots, Seats, Gone, Totals, Past}
-use Rattle.tally_judge.specs.OfficeRows.{AreOfficeRows}
-use Rattle.tally_judge.proofs.StateLemmas.{IsHeld, all_held, under_held, view_entry, view_is, views_of}
-use Rattle.tally_judge.proofs.VerdictLemmas.{known_state, must_read, must_view}
+use Rattle.tally_schema.specs.declared.table.KeyedTable.TheVariants.{Returns as Heads, Counts, Cons, Lots, Seats, Gone, Totals, Past}
+use Rattle.tally_opening.specs.OfficeRows.{AreOfficeRows}
+use Rattle.tally_opening.proofs.StateLemmas.{IsHeld, all_held, under_held, view_entry, view_is, views_of}
+use Rattle.tally_opening.proofs.VerdictLemmas.{known_state, must_read, must_view}
 use Rattle.tally_store.specs.Content.{con_entry, con_seen, cons_read, content_of, gone_entry, office_rows, past_entry, state_read, state_with, with_returns}
 use Rattle.tally_opening.specs.internal.Opening.{ShowsOffice}
 use Rattle.tally_opening.specs.Office.{IsOffice}

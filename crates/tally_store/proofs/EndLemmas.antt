@@ -15,11 +15,11 @@ use Rattle.tally_steps.specs.Step.{IsNotAccepted}
 use Rattle.tally_keeper.specs.Shown.{IsOwnRefusal}
 use Rattle.tally_requests.specs.internal.Known.{AreKnown, ForgetsNone, Known}
 use Rattle.tally_requests.specs.internal.Requests.{IsCarriedOut}
-use Rattle.tally_statements.specs.Office.{IsInside}
+use Rattle.tally_schema.specs.Office.{IsInside}
 use Rattle.tally_tables.specs.TablesOfState.{AreTables}
 use Rattle.tally_opening.specs.Create.{IsAsBefore}
 use Rattle.tally_opening.specs.Office.{HasState, IsOffice}
-use Rattle.tally_opening.proofs.ReturnLemmas.{Began, rolled_back}
+use Rattle.tally_opening.proofs.EndingLemmas.{Began, rolled_back}
 use Rattle.tally_opening.proofs.UnwrittenLemmas.{LeavesCommit}
 use Rattle.tally_store.specs.Crash.{LeavesAfter, WritesNothing}
 use Rattle.tally_store.specs.Store.{IsOfLawfulState}

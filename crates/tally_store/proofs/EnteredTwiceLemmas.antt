@@ -20,7 +20,7 @@ use Rattle.tally_setup.specs.declared.constituency.Entry.TheVariants.{Double}
 use Rattle.tally_setup.specs.declared.constituency.Station.{Station}
 use Rattle.tally_returns.specs.Decide.{limits_of}
 use Rattle.tally_returns.specs.Return.{StationReturn}
-use Rattle.tally_returns.specs.State.{State, stations_of}
+use Rattle.tally_returns.specs.State.{State}
 use Rattle.tally_returns.specs.declared.returns.Status.{Status}
 use Rattle.tally_returns.specs.declared.returns.Status.TheVariants.{Received, Queried, Corrected, Closed}
 use Rattle.tally_returns.proofs.ClosedLemmas.{constituency_with-own, station_with-con}
@@ -28,9 +28,9 @@ use Rattle.tally_steps.specs.EnteredTwice.{ForClosedReturns}
 use Rattle.tally_steps.specs.LawfulState.{IsLawfulState}
 use Rattle.tally_keeper.specs.EnteredTwice.{IsEnteredTwiceIn}
 use Rattle.tally_keeper.specs.Keeper.{Event}
-use Rattle.tally_judge.proofs.EntriesLemmas.{each_found}
-use Rattle.tally_statements.specs.declared.table.KeyedTable.TheVariants.{Returns, Counts}
-use Rattle.tally_statements.specs.Office.{rows_in}
+use Rattle.tally_opening.proofs.EntriesLemmas.{each_found}
+use Rattle.tally_schema.specs.declared.table.KeyedTable.TheVariants.{Returns, Counts}
+use Rattle.tally_schema.specs.Office.{rows_in}
 use Rattle.tally_tables.specs.Cells.{constituency_of, count_rows, items_of, return_row, return_rows, status_number}
 use Rattle.tally_opening.specs.Office.{IsOffice}
 use Rattle.tally_opening.proofs.ShownLemmas.{items_keyed}

@@ -10,11 +10,10 @@ use Rattle.sqlite_store.specs.declared.store.FileStore.{FileStore}
 use Rattle.sqlite_store.specs.FileStore.{view}
 use Rattle.sqlite_trees.specs.Objects.{catalog_tree}
 use Rattle.sqlite_trees.specs.Props.{Trees-set}
-use Rattle.sqlite_trees.specs.Tree.{Trees}
 use Rattle.sqlite_trees.specs.View.{IsClean, IsRolledBack, View, doubt}
 use Rattle.sqlite.proofs.Theorems.{next_run}
 use Rattle.sqlite.specs.Effect.{Database, IsDatabase}
-use Rattle.sqlite.specs.Files.{IsOpened, file_state}
+use Rattle.sqlite.specs.Files.{file_state}
 use Rattle.sqlite.specs.Held.{Held}
 use Rattle.tally_keeper.specs.declared.fault.OpenFault.{OpenFault}
 use Rattle.tally_keeper.specs.declared.fault.OpenFault.TheVariants.{BadTables, Memory, NoTables, Setup, Store}

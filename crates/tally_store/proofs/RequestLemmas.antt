@@ -28,7 +28,7 @@ use Rattle.tally_steps.specs.LawStatements.{ViewsAreLawful}
 use Rattle.tally_steps.specs.LawfulState.{IsLawfulState}
 use Rattle.tally_steps.specs.Step.{IsAnswered, IsNotAccepted}
 use Rattle.tally_steps.proofs.LawLemmas.{answered-lawful}
-use Rattle.tally_judge.specs.Numbers.{HasNumbers}
+use Rattle.tally_opening.specs.Numbers.{HasNumbers}
 use Rattle.tally_keeper.specs.Events.{BringsCodes}
 use Rattle.tally_keeper.specs.Keeper.{Event, Happens, Imports, IsImportFault, IsImportOf, failed_import, request, whole_import}
 use Rattle.tally_keeper.specs.Source.{Delivery}
@@ -39,9 +39,9 @@ use Rattle.tally_keeper.proofs.TreeLemmas.{get-tree}
 use Rattle.tally_requests.specs.internal.Inside.{IsLawfulInside, StaysInState}
 use Rattle.tally_requests.specs.internal.Known.{AreKnown, Known, known_of}
 use Rattle.tally_requests.specs.internal.Requests.{IsCarriedOut, IsImported, IsImportedKnown, IsInState}
-use Rattle.tally_statements.specs.internal.Inside.{StaysInside}
-use Rattle.tally_statements.specs.declared.table.KeyedTable.{KeyedTable}
-use Rattle.tally_statements.specs.Office.{IsInside, tree_of}
+use Rattle.tally_schema.specs.internal.Inside.{StaysInside}
+use Rattle.tally_schema.specs.declared.table.KeyedTable.{KeyedTable}
+use Rattle.tally_schema.specs.Office.{IsInside, tree_of}
 use Rattle.tally_tables.specs.TablesOfState.{AreTables}
 use Rattle.tally_tables.specs.Views.{statuses_of}
 use Rattle.tally_tables.specs.declared.views.Statuses.{Statuses}

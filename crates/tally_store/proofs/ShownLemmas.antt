@@ -21,7 +21,7 @@ use Rattle.tally_requests.specs.internal.Known.{AreKnown, Known}
 use Rattle.tally_requests.specs.internal.Requests.{IsCarriedOut}
 use Rattle.tally_requests.specs.internal.Shown.{IsShownIn}
 use Rattle.tally_requests.proofs.KnownLemmas.{con-returns}
-use Rattle.tally_statements.specs.Office.{IsInside}
+use Rattle.tally_schema.specs.Office.{IsInside}
 use Rattle.tally_tables.specs.TablesOfState.{AreTables}
 use Rattle.tally_opening.specs.Office.{HasState, IsOffice}
 use Rattle.tally_store.specs.Content.{content_of}

@@ -18,7 +18,7 @@ use Rattle.tally_requests.specs.internal.Known.{AreKnown, Known}
 use Rattle.tally_requests.specs.internal.Requests.{IsInState}
 use Rattle.tally_requests.specs.internal.Stations.{FindsStations}
 use Rattle.tally_requests.proofs.LodgedLemmas.{still}
-use Rattle.tally_statements.specs.Office.{IsInside}
+use Rattle.tally_schema.specs.Office.{IsInside}
 use Rattle.tally_opening.specs.Create.{IsAsBefore}
 use Rattle.tally_opening.specs.Office.{HasState, IsOffice}
 use Rattle.tally_store.specs.Content.{content_of}

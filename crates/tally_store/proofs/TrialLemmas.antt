@@ -15,13 +15,13 @@ use Rattle.tally_keeper.specs.declared.import.NamedRow.{NamedRow}
 use Rattle.tally_keeper.specs.declared.source.ImportFault.{ImportFault}
 use Rattle.tally_requests.specs.internal.Inside.{IsLawfulInside}
 use Rattle.tally_requests.specs.internal.Known.{Known}
-use Rattle.tally_statements.specs.Office.{IsInside}
+use Rattle.tally_schema.specs.Office.{IsInside}
 use Rattle.tally_tables.specs.TablesOfState.{AreTables}
 use Rattle.tally_opening.specs.Crash.{IsUnwritten}
 use Rattle.tally_opening.specs.Create.{IsAsBefore}
 use Rattle.tally_opening.specs.Office.{HasState, IsOffice}
 use Rattle.tally_opening.specs.internal.Ending.{EndsUnchanged, IsSettled}
-use Rattle.tally_opening.proofs.ReturnLemmas.{Began, rolled_back}
+use Rattle.tally_opening.proofs.EndingLemmas.{Began, rolled_back}
 use Rattle.tally_opening.proofs.UnwrittenLemmas.{LeavesCommit}
 use Rattle.tally_store.specs.Content.{content_of}
 use Rattle.tally_store.specs.Store.{IsOfLawfulState, IsStored, KeepsText}

@@ -9,8 +9,8 @@ use Rattle.tally_returns.specs.View.{View}
 use Rattle.tally_steps.specs.LawfulState.{IsLawfulState}
 use Rattle.tally_steps.specs.Outcome.{IsCertificate}
 use Rattle.tally_steps.specs.Step.{IsView}
-use Rattle.tally_statements.specs.declared.table.KeyedTable.TheVariants.{Seats}
-use Rattle.tally_statements.specs.Office.{rows_in}
+use Rattle.tally_schema.specs.declared.table.KeyedTable.TheVariants.{Seats}
+use Rattle.tally_schema.specs.Office.{rows_in}
 use Rattle.tally_tables.specs.Cells.{item_row, numbers_with_places}
 use Rattle.tally_opening.specs.Office.{IsOffice}
 use Rattle.tally_store.specs.Content.{content_of}

@@ -14,8 +14,8 @@ use Rattle.tally_returns.specs.State.{opening}
 use Rattle.tally_returns.specs.declared.returns.Status.TheVariants.{Closed}
 use Rattle.tally_keeper.specs.EnteredTwice.{IsEnteredTwiceIn}
 use Rattle.tally_keeper.specs.Keeper.{Event, HappensInTurn}
-use Rattle.tally_statements.specs.declared.table.KeyedTable.TheVariants.{Returns, Counts}
-use Rattle.tally_statements.specs.Office.{rows_in}
+use Rattle.tally_schema.specs.declared.table.KeyedTable.TheVariants.{Returns, Counts}
+use Rattle.tally_schema.specs.Office.{rows_in}
 use Rattle.tally_tables.specs.Cells.{count_rows, return_row, status_number}
 use Rattle.tally_store.specs.Keeping.{content_in}
 use Rattle.tally_store.specs.Store.{Stored}

@@ -41,8 +41,8 @@ use tally_keeper::{
 use tally_requests::{
     answer_in, import_fault_of, see_open, show_con_in, show_returns_in, take_rows,
 };
+use tally_schema::is_memory;
 use tally_setup::{Code, Setup};
-use tally_statements::is_memory;
 use tally_tables::Statuses;
 
 /// Answers a request by the database and carries it out there. Where the request is not accepted,

@@ -1,7 +1,7 @@
 -- A loop that reads certificates that were reopened.
 use Rattle.std.proofs.Common.{◌≡◌, ◌<◌, ◌≤◌, ◌+◌, ◌-◌, ℕ, zero, suc, true, false, cond, Option, Some, None, List, [], ◌∷◌, ◌++◌, length, take, drop, append_assoc, append-nil, true≢false, refl, sym, ap, ◌∙◌, arith}
 use Rattle.std.specs.Prelude.{option_and_then, option_map, ◌==◌}
-use Rattle.std.proofs.lemmas.Bool.{eqb-true, le-leb, lt-leb}
+use Rattle.std.proofs.lemmas.Bool.{eqb-true, le-leb}
 use Rattle.sqlite_value.specs.Order.{Row}
 use Rattle.tally_returns.specs.PastSeats.{PastSeats}
 use Rattle.tally_tables.specs.Reading.{record_of, records_of}
@@ -9,12 +9,6 @@ use Rattle.tally_tables.specs.Reading.{record_of, records_of}
 -- what the certificates so far and the other rows come to
 abbrev pub Reading : List ℕ → ℕ → List PastSeats → ℕ → List Row → Option (List PastSeats)
 Reading con lists so_far most rows = option_map (λ rs. so_far ++ rs) (records_of con lists most rows)
-
-pub too_few : (con : List ℕ) (lists : ℕ) (so_far : List PastSeats) (most : ℕ) (rows : List Row) → 0 < length rows → length rows < lists → Reading con lists so_far most rows ≡ None
-too_few con lists so_far most [] some few = absurd (omega (arith, some))
-too_few con lists so_far zero (row ∷ rows) some few = refl
-too_few con lists so_far (suc most) (row ∷ rows) some few =
-    ap (λ b. option_map (λ rs. so_far ++ rs) (cond b (option_and_then (λ r. option_map (λ rs. r ∷ rs) (records_of con lists most (drop lists (row ∷ rows)))) (record_of con (take lists (row ∷ rows)))) None)) (lt-leb lists (length (row ∷ rows)) few)
 
 pub too_many : (con : List ℕ) (lists : ℕ) (so_far : List PastSeats) (most : ℕ) (rows : List Row) → most ≡ zero → (length rows == 0) ≡ false → Reading con lists so_far most rows ≡ None
 too_many con lists so_far most [] none some = absurd (true≢false some)

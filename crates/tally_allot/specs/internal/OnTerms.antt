@@ -1,13 +1,11 @@
--- The words of the law, of faults and of verdicts, said of the terms of a contest. No promise to a
--- caller speaks of them.
-use Rattle.std.specs.Prelude.{ℕ, ◌≡◌, List, []}
+-- The words of the law and of faults, said of the terms of a contest. No promise to a caller speaks
+-- of them.
+use Rattle.std.specs.Prelude.{ℕ, List}
 use Rattle.tally_law.specs.Allotment.{IsAllotment}
-use Rattle.tally_law.specs.LotNeed.{IsAllotmentUnderLot, IsLotTaken, IsLotWrong, IsNeed}
+use Rattle.tally_law.specs.LotNeed.{IsAllotmentUnderLot, IsLotTaken}
 use Rattle.tally_contest.specs.internal.Terms.{Terms}
 use Rattle.tally_allot.specs.AllotFault.{IsFaultOf}
 use Rattle.tally_allot.specs.declared.fault.AllotFault.{AllotFault}
-use Rattle.tally_allot.specs.declared.verdict.LotVerdict.{LotVerdict}
-use Rattle.tally_allot.specs.declared.verdict.LotVerdict.TheVariants.{Right, Missing, Wrong}
 
 -- The vector is the allotment on these terms.
 abbrev pub IsAllotmentOn : Terms → List ℕ → Type 0
@@ -24,10 +22,3 @@ IsLotTakenOn terms = IsLotTaken terms.rule terms.poll terms.seats terms.lot
 -- What each fault says on these terms.
 abbrev pub IsFaultOn : Terms → AllotFault → Type 0
 IsFaultOn terms fault = IsFaultOf terms.rule terms.poll terms.seats terms.lot fault
-
--- What a verdict on the lot of the terms says.
-abbrev pub IsVerdictOn : Terms → LotVerdict → Type 0
-IsVerdictOn terms Right = IsLotTakenOn terms
-IsVerdictOn terms (Missing need) =
-    IsNeed terms.rule terms.poll terms.seats need.group need.seats × (terms.lot ≡ [])
-IsVerdictOn terms Wrong = IsLotWrong terms.rule terms.poll terms.seats terms.lot

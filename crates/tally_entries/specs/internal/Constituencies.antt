@@ -22,10 +22,10 @@ use Rattle.tally_returns.specs.declared.progress.ProgressRow.{ProgressRow}
 use Rattle.tally_steps.specs.LawfulState.{IsLawfulState}
 use Rattle.tally_steps.specs.Step.{IsView}
 use Rattle.tally_schema.specs.Tables.{setup_tree}
-use Rattle.tally_statements.specs.declared.table.KeyedTable.{KeyedTable}
-use Rattle.tally_statements.specs.declared.table.KeyedTable.TheVariants.{Returns as Heads, Cons}
-use Rattle.tally_statements.specs.declared.table.KeyedTable.TheVariants.{Seats, Totals}
-use Rattle.tally_statements.specs.Office.{tree_of, rows_in, IsInside}
+use Rattle.tally_schema.specs.declared.table.KeyedTable.{KeyedTable}
+use Rattle.tally_schema.specs.declared.table.KeyedTable.TheVariants.{Returns as Heads, Cons}
+use Rattle.tally_schema.specs.declared.table.KeyedTable.TheVariants.{Seats, Totals}
+use Rattle.tally_schema.specs.Office.{tree_of, rows_in, IsInside}
 use Rattle.tally_tables.specs.Cells.{item_row, items_of, con_rows, return_rows, seat_rows}
 use Rattle.tally_tables.specs.Cells.{total_rows, totals_of}
 use Rattle.tally_tables.specs.TablesOfState.{AreTables}

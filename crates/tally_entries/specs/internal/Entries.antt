@@ -13,10 +13,10 @@ use Rattle.tally_frac.specs.Limits.{most_lists}
 use Rattle.tally_setup.specs.Constituency.{Constituency}
 use Rattle.tally_returns.specs.Return.{StationReturn, Returns}
 use Rattle.tally_schema.specs.Tables.{setup_tree}
-use Rattle.tally_statements.specs.declared.table.KeyedTable.{KeyedTable}
-use Rattle.tally_statements.specs.declared.table.KeyedTable.TheVariants.{Returns as Heads, Counts}
-use Rattle.tally_statements.specs.internal.Inside.{IsOpenInside}
-use Rattle.tally_statements.specs.Office.{tree_of, rows_in, IsInside, HasRows}
+use Rattle.tally_schema.specs.declared.table.KeyedTable.{KeyedTable}
+use Rattle.tally_schema.specs.declared.table.KeyedTable.TheVariants.{Returns as Heads, Counts}
+use Rattle.tally_schema.specs.internal.Inside.{IsOpenInside}
+use Rattle.tally_schema.specs.Office.{tree_of, rows_in, IsInside, HasRows}
 use Rattle.tally_tables.specs.Cells.{constituency_of, item_row, numbers_with_places, return_rows}
 use Rattle.tally_tables.specs.Cells.{count_rows}
 use Rattle.tally_returns.specs.Lawful.{IsLawfulAt}

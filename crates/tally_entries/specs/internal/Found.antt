@@ -14,14 +14,13 @@ use Rattle.tally_setup.specs.declared.constituency.Station.{Station}
 use Rattle.tally_returns.specs.Return.{StationReturn, Returns as StationReturns}
 use Rattle.tally_returns.specs.State.{ConState}
 use Rattle.tally_returns.specs.View.{View}
-use Rattle.tally_returns.specs.declared.progress.ProgressRow.{ProgressRow}
 use Rattle.tally_returns.specs.declared.returns.Status.{Status}
 use Rattle.tally_returns.specs.declared.returns.Status.TheVariants.{Received, Queried, Corrected}
 use Rattle.tally_returns.specs.declared.returns.Status.TheVariants.{Closed}
-use Rattle.tally_statements.specs.declared.table.KeyedTable.{KeyedTable}
-use Rattle.tally_statements.specs.declared.table.KeyedTable.TheVariants.{Returns, Cons, Lots, Seats}
-use Rattle.tally_statements.specs.declared.table.KeyedTable.TheVariants.{Gone, Totals, Past}
-use Rattle.tally_statements.specs.Office.{IsFound}
+use Rattle.tally_schema.specs.declared.table.KeyedTable.{KeyedTable}
+use Rattle.tally_schema.specs.declared.table.KeyedTable.TheVariants.{Returns, Cons, Lots, Seats}
+use Rattle.tally_schema.specs.declared.table.KeyedTable.TheVariants.{Gone, Totals, Past}
+use Rattle.tally_schema.specs.Office.{IsFound}
 use Rattle.tally_tables.specs.Cells.{con_rows, return_rows}
 use Rattle.tally_tables.specs.Reading.{standing_of, status_of}
 use Rattle.tally_tables.specs.Views.{Tables, view_from_tables}
@@ -52,20 +51,6 @@ FindsStage code s found =
     (cons : FinMap code_cmp ConState) (standing : ConState) → get cons code ≡ Some standing →
     AreRowsOf con_rows cons (stored_in Cons s)
     → (found.0 ≡ standing.edition) × (found.1 ≡ standing.certified)
-
--- how far a constituency has come, by its edition, by whether it is certified, and by how many
--- returns are in each status
-abbrev pub row_with : List ℕ → ℕ × Bool → Statuses → ProgressRow
-row_with con stage statuses = record {
-  con = con;
-  stations = statuses.stations;
-  received = statuses.received;
-  queried = statuses.queried;
-  corrected = statuses.corrected;
-  closed = statuses.closed;
-  edition = stage.0;
-  certified = stage.1;
-}
 
 -- the status of a return by its one row, or none where there is no row
 abbrev pub status_in : List Row → Option (Option Status)

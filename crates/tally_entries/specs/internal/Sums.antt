@@ -6,8 +6,8 @@ use Rattle.sqlite.specs.declared.error.Error.{Error}
 use Rattle.sqlite.specs.State.{State as Seen, HasCleanDisk}
 use Rattle.tally_schema.specs.Rows.{has_key}
 use Rattle.tally_returns.specs.Counts.{VoteCounts}
-use Rattle.tally_statements.specs.declared.table.KeyedTable.{KeyedTable}
-use Rattle.tally_statements.specs.Office.{rows_in, HasRows, IsInside, is_item, item_cells}
+use Rattle.tally_schema.specs.declared.table.KeyedTable.{KeyedTable}
+use Rattle.tally_schema.specs.Office.{rows_in, HasRows, IsInside, is_item, item_cells}
 use Rattle.tally_tables.specs.Cells.{item_row, items_of}
 use Rattle.tally_entries.specs.internal.Written.{HasItems}
 

@@ -7,9 +7,9 @@ use Rattle.sqlite.specs.State.{State as Seen, HasCleanDisk}
 use Rattle.tally_schema.specs.Rows.{has_key}
 use Rattle.tally_returns.specs.Counts.{VoteCounts}
 use Rattle.tally_returns.specs.Return.{StationReturn}
-use Rattle.tally_statements.specs.declared.table.KeyedTable.{KeyedTable}
-use Rattle.tally_statements.specs.declared.table.KeyedTable.TheVariants.{Returns as Heads, Counts}
-use Rattle.tally_statements.specs.Office.{rows_in, IsInside, HasRows, Replaces}
+use Rattle.tally_schema.specs.declared.table.KeyedTable.{KeyedTable}
+use Rattle.tally_schema.specs.declared.table.KeyedTable.TheVariants.{Returns as Heads, Counts}
+use Rattle.tally_schema.specs.Office.{rows_in, IsInside, HasRows, Replaces}
 use Rattle.tally_tables.specs.Cells.{item_row, items_of, return_row, gone_row}
 use Rattle.tally_returns.specs.GoneCandidate.{GoneCandidate}
 

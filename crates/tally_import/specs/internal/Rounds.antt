@@ -15,10 +15,10 @@ use Rattle.tally_import.specs.declared.check.CheckFault.TheVariants.{Memory, Wri
 use Rattle.tally_import.specs.declared.import.Import.{Import}
 use Rattle.tally_records.specs.declared.separator.Sep.{Sep}
 
--- an import whose text came to its end, or what stopped it
-abbrev pub ended_import : Option Stop → Import → Result Import CheckFault
-ended_import None import = Ok import
-ended_import (Some stop) import = Err (check_fault stop)
+-- the fault of a text that was stopped, and none of one that came to its end
+abbrev pub ended_text : Option Stop → Result (Unit {0}) CheckFault
+ended_text None = Ok tt
+ended_text (Some stop) = Err (check_fault stop)
 
 -- After the records given so far these are the complete ones of what comes of a text.
 abbrev pub AreRecordsAfter : Option (List ℕ) → Option (List ℕ) → Records → List (List (List ℕ)) →
@@ -27,14 +27,14 @@ AreRecordsAfter old_left left r rows stop =
     (text : Option (List ℕ)) (before : List (List (List ℕ))) → HasGiven text old_left before r →
     AreAll (sep_of r) text left (before ++ rows) stop
 
--- The import, under a header of so many lists, of rows that are all, or the fault of too many, or
--- what stopped them. Out of memory may come at any place.
-abbrev pub ImportsRecords : ℕ → (List (List (List ℕ)) → Option Stop → Type 0) →
-    Result Import CheckFault → Type 0
-ImportsRecords lists AreRows (Ok import) = (rows : List (List (List ℕ))) × AreRows rows None
+-- The import, under a header of so many lists, is of rows that are all; or there is the fault of
+-- too many, or what stopped them. Out of memory may come at any place.
+abbrev pub ImportsRecords : ℕ → (List (List (List ℕ)) → Option Stop → Type 0) → Import →
+    Result (Unit {0}) CheckFault → Type 0
+ImportsRecords lists AreRows import (Ok _) = (rows : List (List (List ℕ))) × AreRows rows None
     × HasTaken (record { lists = lists; rows = rows_of_records lists rows }) import ×
     (length rows ≤ row_limit)
-ImportsRecords lists AreRows (Err fault) =
+ImportsRecords lists AreRows import (Err fault) =
     (fault ≡ Memory) ⊎ ((rows : List (List (List ℕ))) × (stop : Option Stop) × AreRows rows stop
     × (((fault ≡ TooLong) × (row_limit < length rows)) ⊎
     ((option_map check_fault stop ≡ Some fault) × (length rows ≤ row_limit))))

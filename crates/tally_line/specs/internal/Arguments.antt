@@ -1,7 +1,8 @@
 -- What is known of the arguments of a command that clap takes, and what reading them comes to.
-use Rattle.std.specs.Prelude.{◌≡◌, ◌&&◌, Bool, true, false, List, is_some}
-use Rattle.std.specs.Prelude.{codes, if◌then◌else◌}
+use Rattle.std.specs.Prelude.{◌≡◌, ◌&&◌, Bool, true, false, List, Option, Some, String, is_some}
+use Rattle.std.specs.Prelude.{codes, if◌then◌else◌, option_map, string_bytes}
 use Rattle.std.specs.Str.{bytes_eq}
+use Rattle.std.specs.declared.alloc.Global.{Global}
 use Rattle.clap.specs.Words.{Row, Text, first_of, found_of, kind_of, rows_of}
 use Rattle.clap.specs.declared.parser.matches.ArgMatches.{ArgMatches}
 use Rattle.clap.specs.declared.error.ErrorKind.TheVariants.{InvalidValue}
@@ -17,7 +18,15 @@ given_rows arguments = rows_of (found_of arguments)
 abbrev pub has : Text → List Row → Bool
 has id rows = is_some (first_of id rows)
 
--- so has that of the port, a port
+-- this is the text of the argument
+abbrev pub IsGivenText : Text → List Row → String Global → Type 0
+IsGivenText id rows text = first_of id rows ≡ Some (string_bytes text)
+
+-- so it is where the argument has one, and else there is none
+abbrev pub IsTextIfGiven : Text → List Row → Option (String Global) → Type 0
+IsTextIfGiven id rows text = option_map string_bytes text ≡ first_of id rows
+
+-- the argument of the port has a port
 abbrev pub has_port : List Row → Bool
 has_port rows = is_some (number_given (codes "port") 1 most_port rows)
 

@@ -1,10 +1,10 @@
 -- What a command and an argument come to, each for its own command alone.
-use Rattle.std.specs.Prelude.{◌≡◌, List, [], ◌∷◌, false, fold}
-use Rattle.clap.specs.Words.{App, Rule, app_of, rule_of, with_rule, with_subcommand}
+use Rattle.std.specs.Prelude.{◌≡◌, ◌++◌, List, [], ◌∷◌, Result, false, fold}
+use Rattle.std.specs.Result.{IsOkAnd}
+use Rattle.clap.specs.Words.{App, Rule, app_of, rule_of, with_rule}
 use Rattle.clap.specs.declared.builder.arg.Arg.{Arg}
 use Rattle.clap.specs.declared.builder.command.Command.{Command}
 use Rattle.clap.specs.declared.builder.command.Command.TheViews.{out-Command}
-use Rattle.tally_line.specs.Line.{import_app, serve_app, show_app, with_commands}
 
 -- the command is this, and no argument of it is one of its subcommands too
 abbrev pub Offers : App → Command → Type 0
@@ -26,7 +26,6 @@ abbrev pub OffersAll : App → List Arg → Command → Type 0
 OffersAll app args command =
     (rules : List Rule) → HaveRules rules args → Offers (fold with_rule app rules) command
 
--- the program with `import`, `show` and `serve`
-abbrev pub with_import_show_and_serve : App → App
-with_import_show_and_serve app =
-    with_subcommand (with_commands app import_app show_app) serve_app.top
+-- the commands have this one more, which was made
+abbrev pub AddsMade : {E : Type 0} → List Command → Result Command E → List Command → Type 0
+AddsMade old made new = IsOkAnd made (λ command. new ≡ old ++ command ∷ [])

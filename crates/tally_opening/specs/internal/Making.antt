@@ -16,9 +16,9 @@ use Rattle.tally_returns.specs.State.{opening}
 use Rattle.tally_returns.specs.View.{votes_of_lists}
 use Rattle.tally_schema.specs.Made.{HasEmptyTables}
 use Rattle.tally_schema.specs.Tables.{setup_tree}
-use Rattle.tally_statements.specs.declared.table.KeyedTable.{KeyedTable}
-use Rattle.tally_statements.specs.declared.table.KeyedTable.TheVariants.{Cons, Totals}
-use Rattle.tally_statements.specs.Office.{IsInside, HasRows, rows_in, tree_of}
+use Rattle.tally_schema.specs.declared.table.KeyedTable.{KeyedTable}
+use Rattle.tally_schema.specs.declared.table.KeyedTable.TheVariants.{Cons, Totals}
+use Rattle.tally_schema.specs.Office.{IsInside, HasRows, rows_in, tree_of}
 use Rattle.tally_tables.specs.Cells.{item_row, items_of, numbers_with_places}
 use Rattle.tally_opening.specs.Create.{IsCreateFault, MakesOffice}
 use Rattle.tally_opening.specs.Office.{IsWholeOffice}

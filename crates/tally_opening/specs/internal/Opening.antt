@@ -14,9 +14,9 @@ use Rattle.sqlite_trees.specs.Tree.{Trees}
 use Rattle.tally_setup.specs.Constituency.{Constituency}
 use Rattle.tally_returns.specs.State.{State}
 use Rattle.tally_steps.specs.LawfulState.{IsLawfulState}
-use Rattle.tally_statements.specs.declared.table.KeyedTable.TheVariants.{Returns, Counts, Cons}
-use Rattle.tally_statements.specs.declared.table.KeyedTable.TheVariants.{Lots, Seats, Gone, Totals}
-use Rattle.tally_statements.specs.declared.table.KeyedTable.TheVariants.{Past}
+use Rattle.tally_schema.specs.declared.table.KeyedTable.TheVariants.{Returns, Counts, Cons}
+use Rattle.tally_schema.specs.declared.table.KeyedTable.TheVariants.{Lots, Seats, Gone, Totals}
+use Rattle.tally_schema.specs.declared.table.KeyedTable.TheVariants.{Past}
 use Rattle.sqlite_value.specs.Order.{Row, column}
 use Rattle.tally_schema.specs.Values.{number_of, text_of}
 use Rattle.tally_rules.specs.Fault.{IsFaultIn}
@@ -29,15 +29,15 @@ use Rattle.tally_schema.specs.Rows.{HaveDistinctRowids}
 use Rattle.tally_schema.specs.Cells.{setup_row}
 use Rattle.tally_schema.specs.Made.{HasFirstTables, has_former_tables, has_table}
 use Rattle.tally_schema.specs.Tables.{former_schema, office_schema, setup_tree}
-use Rattle.tally_statements.specs.declared.table.KeyedTable.{KeyedTable}
-use Rattle.tally_statements.specs.Office.{HasTables, IsInside, ShowsTable, tree_of}
+use Rattle.tally_schema.specs.declared.table.KeyedTable.{KeyedTable}
+use Rattle.tally_schema.specs.Office.{HasTables, IsInside, ShowsTable, tree_of}
 use Rattle.tally_tables.specs.TablesOfState.{AreTables, version}
 use Rattle.tally_tables.specs.declared.views.Statuses.{Statuses}
 use Rattle.tally_opening.specs.Open.{AreFormerTables, HasSetup, IsTakenOver, former_version}
 use Rattle.tally_opening.specs.Open.{tables_taken_over}
 use Rattle.tally_opening.specs.declared.judging.FoundRows.{FoundRows}
-use Rattle.tally_judge.specs.Numbers.{HasNumbers, numbers_of}
-use Rattle.tally_judge.specs.OfficeRows.{RowsInOrder}
+use Rattle.tally_opening.specs.Numbers.{HasNumbers, numbers_of}
+use Rattle.tally_opening.specs.OfficeRows.{RowsInOrder}
 
 -- ---- what a call in a transaction says, where the disk returned what was written
 

@@ -9,7 +9,7 @@ use Rattle.tally_returns.specs.declared.ask.Ask.{Ask}
 use Rattle.tally_returns.specs.declared.refusal.Refusal.{Refusal}
 use Rattle.tally_returns.specs.declared.reply.Reply.{Reply}
 use Rattle.tally_steps.specs.Kinds.{IsReplyTo}
-use Rattle.tally_statements.specs.internal.Inside.{InDatabase}
+use Rattle.tally_schema.specs.internal.Inside.{InDatabase}
 use Rattle.tally_requests.specs.internal.Requests.{WritesOnlyActs}
 
 -- The reply is of the request's kind, whatever the tables are. The request is carried out so. One

@@ -1,5 +1,5 @@
 -- How a change of a constituency is carried out, and what it writes.
-use Rattle.std.specs.Prelude.{◌≡◌, ◌≢◌, ◌∷◌, ℕ, Bool, false, List, [], Some, Result, IfOk, OnOk, Ok}
+use Rattle.std.specs.Prelude.{◌≡◌, ◌≢◌, ◌∷◌, ℕ, Bool, false, List, [], Some, Result, IfOk, Ok}
 use Rattle.std.specs.FinMap.{FinMap, get}
 use Rattle.std.specs.List.{AllByRecursion}
 use Rattle.sqlite.specs.declared.error.Error.{Error}
@@ -15,9 +15,9 @@ use Rattle.tally_steps.specs.LawfulState.{IsLawfulState}
 use Rattle.tally_steps.specs.Step.{ConChange, IsView, after_change, answer_seen, con_answer}
 use Rattle.tally_steps.specs.Step.{con_change}
 use Rattle.tally_schema.specs.Tables.{setup_tree}
-use Rattle.tally_statements.specs.declared.table.KeyedTable.{KeyedTable}
-use Rattle.tally_statements.specs.declared.table.KeyedTable.TheVariants.{Cons, Lots, Seats, Past}
-use Rattle.tally_statements.specs.Office.{IsInside, tree_of}
+use Rattle.tally_schema.specs.declared.table.KeyedTable.{KeyedTable}
+use Rattle.tally_schema.specs.declared.table.KeyedTable.TheVariants.{Cons, Lots, Seats, Past}
+use Rattle.tally_schema.specs.Office.{IsInside, tree_of}
 use Rattle.tally_tables.specs.Cells.{con_rows, lot_rows, past_rows}
 use Rattle.tally_tables.specs.TablesOfState.{AreTables}
 use Rattle.tally_entries.specs.internal.Entries.{stored_in}
@@ -63,12 +63,6 @@ pub record HoldsCon (code : List ℕ) (s : Seen) : Type 0 where
   pub before : ConState
   pub is : get cons code ≡ Some before
   pub rows : AreRowsOf con_rows cons (stored_in Cons s)
-
--- What holds after a call that writes this of a constituency that was there, where the disk
--- returned what was written.
-abbrev pub WritesSo : List ℕ → (Seen → Seen → Type 0) → Seen → Seen → Result Unit Error → Type 0
-WritesSo code Written old new result =
-    HasCleanDisk new → IsInside old → HoldsCon code old → OnOk result (Written old new)
 
 -- A change of a constituency was carried out as decided in this state. The reply is that of the
 -- step, and the tables are those of the state after it.

@@ -18,7 +18,7 @@ use Rattle.tally_returns.specs.declared.reply.Reply.{Reply}
 use Rattle.tally_returns.specs.declared.returns.Status.TheVariants.{Closed, Corrected, Queried}
 use Rattle.tally_steps.specs.LawfulState.{IsLawfulState}
 use Rattle.tally_steps.specs.Step.{with_return, without_lot}
-use Rattle.tally_statements.specs.Office.{IsInside}
+use Rattle.tally_schema.specs.Office.{IsInside}
 use Rattle.tally_tables.specs.TablesOfState.{AreTables}
 use Rattle.tally_requests.specs.internal.Requests.{IsCarriedOut}
 

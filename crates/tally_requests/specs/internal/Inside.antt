@@ -6,9 +6,9 @@ use Rattle.sqlite.specs.State.{State as Seen}
 use Rattle.tally_setup.specs.Constituency.{Constituency}
 use Rattle.tally_returns.specs.State.{State}
 use Rattle.tally_steps.specs.LawfulState.{IsLawfulState}
-use Rattle.tally_statements.specs.Office.{IsInside}
+use Rattle.tally_schema.specs.Office.{IsInside}
 use Rattle.tally_tables.specs.TablesOfState.{AreTables}
-use Rattle.tally_statements.specs.internal.Inside.{StaysFrom}
+use Rattle.tally_schema.specs.internal.Inside.{StaysFrom}
 
 -- The office's tables are open in a transaction, and are those of a lawful state.
 pub record IsLawfulInside (setup : List Constituency) (seen : Seen) : Type 0 where

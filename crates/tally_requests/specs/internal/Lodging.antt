@@ -14,8 +14,8 @@ use Rattle.tally_returns.specs.declared.reply.LodgeReply.TheVariants.{Lodged}
 use Rattle.tally_steps.specs.LawfulState.{IsLawfulState}
 use Rattle.tally_steps.specs.Runs.{is_act}
 use Rattle.tally_keeper.specs.Events.{as_answer}
-use Rattle.tally_statements.specs.internal.Inside.{IsOpenInside}
-use Rattle.tally_statements.specs.Office.{IsInside}
+use Rattle.tally_schema.specs.internal.Inside.{IsOpenInside}
+use Rattle.tally_schema.specs.Office.{IsInside}
 use Rattle.tally_tables.specs.TablesOfState.{AreTables}
 use Rattle.tally_keeper.specs.Import.{RowAnswer, after_row, is_lodged, row_answer}
 use Rattle.tally_keeper.specs.declared.import.Row.{Row}

@@ -14,8 +14,8 @@ use Rattle.tally_returns.specs.State.{State, con_state}
 use Rattle.tally_returns.specs.View.{counts_if_closed}
 use Rattle.tally_steps.specs.LawfulState.{IsLawfulState}
 use Rattle.tally_steps.specs.Step.{with_return, without_lot}
-use Rattle.tally_statements.specs.Office.{IsInside}
-use Rattle.tally_statements.specs.declared.table.KeyedTable.TheVariants.{Totals}
+use Rattle.tally_schema.specs.Office.{IsInside}
+use Rattle.tally_schema.specs.declared.table.KeyedTable.TheVariants.{Totals}
 use Rattle.tally_tables.specs.Cells.{total_rows}
 use Rattle.tally_tables.specs.TablesOfState.{AreTables}
 use Rattle.tally_entries.specs.internal.Entries.{stored_in}

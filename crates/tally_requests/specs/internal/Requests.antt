@@ -21,8 +21,8 @@ use Rattle.tally_keeper.specs.Source.{Delivery, GaveAll}
 use Rattle.tally_keeper.specs.declared.import.ImportCount.{ImportCount}
 use Rattle.tally_keeper.specs.declared.import.NamedRow.{NamedRow}
 use Rattle.tally_keeper.specs.declared.source.ImportFault.{ImportFault}
-use Rattle.tally_statements.specs.internal.Inside.{InDatabase, IsOpenInside}
-use Rattle.tally_statements.specs.Office.{IsInside}
+use Rattle.tally_schema.specs.internal.Inside.{InDatabase, IsOpenInside}
+use Rattle.tally_schema.specs.Office.{IsInside}
 use Rattle.tally_tables.specs.TablesOfState.{AreTables}
 use Rattle.tally_tables.specs.declared.views.Statuses.{Statuses}
 use Rattle.tally_requests.specs.internal.Known.{AreKnown, ForgetsNone, Known, known_of}

@@ -3,21 +3,17 @@ use Rattle.std.specs.Prelude.{◌≡◌, ℕ, Bool, true, false, List, Result, I
 use Rattle.sqlite.specs.declared.error.Error.{Error}
 use Rattle.sqlite.specs.State.{State as Seen, HasCleanDisk}
 use Rattle.tally_setup.specs.Constituency.{Constituency}
-use Rattle.tally_returns.specs.Progress.{progress}
 use Rattle.tally_returns.specs.State.{State}
 use Rattle.tally_returns.specs.View.{View}
 use Rattle.tally_returns.specs.declared.ask.Ask.{Ask}
 use Rattle.tally_returns.specs.declared.ask.Ask.TheVariants.{ShowCon}
-use Rattle.tally_returns.specs.declared.progress.ProgressRow.{ProgressRow}
 use Rattle.tally_returns.specs.declared.refusal.Refusal.{Refusal}
 use Rattle.tally_returns.specs.declared.reply.Reply.{Reply}
 use Rattle.tally_steps.specs.LawfulState.{IsLawfulState}
-use Rattle.tally_statements.specs.Office.{IsInside}
+use Rattle.tally_schema.specs.Office.{IsInside}
 use Rattle.tally_tables.specs.TablesOfState.{AreTables}
 use Rattle.tally_entries.specs.internal.Constituencies.{IsViewWith}
-use Rattle.tally_requests.specs.internal.Known.{AreKnown, Known}
 use Rattle.tally_requests.specs.internal.Requests.{IsCarriedOut}
-pub use Rattle.tally_requests.specs.internal.Shown.{FindsKnown}
 
 -- whether a request shows a constituency, with its certificates on record; a command needs none of
 -- them
@@ -39,10 +35,3 @@ CarriesOutSeen setup con view ask old new result =
 pub record IsStill (old new : Seen) : Type 0 where
   pub inside : IsInside new
   pub same : new.now ≡ old.now
-
--- The rows found say how far the constituencies have come. They are right for every lawful state
--- whose tables are there, where all that is known is true of it.
-abbrev pub FindsProgress : List Constituency → Known → Seen → List ProgressRow → Type 0
-FindsProgress setup known seen rows =
-    (text : List ℕ) (s : State) → IsLawfulState setup s → AreKnown setup s.returns known →
-    AreTables setup text s seen.now.trees → rows ≡ progress setup s

@@ -1,5 +1,5 @@
 -- The texts that make the tables of the office.
-use Rattle.std.specs.Prelude.{codes, List, ℕ}
+use Rattle.std.specs.Prelude.{codes, List, ℕ, ◌==◌, if◌then◌else◌}
 
 abbrev pub create_setup_text : List ℕ
 create_setup_text = codes "CREATE TABLE setup (id INTEGER NOT NULL PRIMARY KEY, version INTEGER NOT NULL, text TEXT NOT NULL) STRICT"
@@ -27,3 +27,16 @@ create_totals_text = codes "CREATE TABLE totals (con TEXT NOT NULL, item INTEGER
 
 abbrev pub create_past_text : List ℕ
 create_past_text = codes "CREATE TABLE past (con TEXT NOT NULL, edition INTEGER NOT NULL, list INTEGER NOT NULL, n INTEGER NOT NULL, PRIMARY KEY (con, edition, list)) STRICT"
+
+-- by the places of the tables, in the order in which they are made
+abbrev pub create_text : ℕ → List ℕ
+create_text place =
+    if place == 0 then create_setup_text
+    else if place == 1 then create_returns_text
+    else if place == 2 then create_counts_text
+    else if place == 3 then create_cons_text
+    else if place == 4 then create_lots_text
+    else if place == 5 then create_seats_text
+    else if place == 6 then create_gone_text
+    else if place == 7 then create_totals_text
+    else create_past_text

@@ -1,12 +1,26 @@
-use Rattle.std.proofs.Common.{◌≡◌, List, length, map, sym, ap, ◌∙◌, subst, arith}
-use Rattle.std.proofs.lemmas.List.{take_all}
+use Rattle.std.proofs.Common.{◌≡◌, ◌<◌, ◌++◌, ◌∷◌, [], List, length, get_or, map, take, sym, ap, ◌∙◌, subst, arith}
+use Rattle.std.proofs.lemmas.List.{map-append, take_all, take_more}
 use Rattle.tally_allot.specs.declared.award.Award.{Award}
 use Rattle.tally_allot.specs.Awards.{AreAwardsOf, award_of}
+use Rattle.tally_contest.specs.declared.won.WonSeat.{WonSeat}
 use Rattle.tally_contest.specs.internal.KeptPoll.{kept_poll}
 use Rattle.tally_contest.specs.internal.Terms.{AreDivisors}
 use Rattle.tally_contest.proofs.PollLemmas.{sound_under}
 use Rattle.tally_allot.proofs.AwardLemmas.{awards_of_won}
 use Rattle.tally_allot.proofs.award_table.awards_of.Goals as goal
+
+pub loop-row-preserved : goal.loop-row-preserved
+loop-row-preserved g c =
+    let f = award_of (g.D.Divisors.divisor c.args.divisors.now) (g.D.Divisors.unit_of c.args.divisors.now) (kept_poll c.args.poll.now) in
+    let pairs = c.args.awarded.now.pairs.items in
+    let i = c.loop-row.row-index in
+    let none : WonSeat = record { list = 0; seat = 0 } in
+    let rows : c.deref-row-items.result.now ≡ pairs = c.deref-row-items.ensures.value in
+    let low : i < length pairs = omega (arith, c.loop-row-test.true, ap length rows) in
+    c.in_ok-push.ensures.items ∙ ap (λ a. c.loop-row.awards.items ++ a ∷ []) c.award_of.ensures
+    ∙ ap (λ xs. xs ++ f (get_or c.deref-row-items.result.now i none) ∷ []) c.loop-row.invariant
+    ∙ ap (λ xs. map f (take i pairs) ++ f (get_or xs i none) ∷ []) rows
+    ∙ sym (map-append f (take i pairs) (get_or pairs i none ∷ [])) ∙ ap (map f) (sym (take_more pairs i none low))
 
 pub returns : goal.returns
 returns g c =

@@ -26,20 +26,20 @@ award_from_heap-requires-clause-keys g c =
     let sound = c.requires.sound in
     have_keys (divisor_terms g.D.Divisors.divisor g.D.Divisors.unit_of t) sound.rule.0 (g.met.D.Divisors.at_most t.divisors) sound.poll t.poll.few_votes t.poll.few_lists (few_in_lot (kept_poll t.poll) sound.poll t.lot.now (c.if-not-may_be_taken.ensures.0 refl))
 
-pub returns-in-Right-clause-allotment : goal.returns-in-Right-clause-allotment
-returns-in-Right-clause-allotment g c =
+pub returns-clause-allotment : goal.returns-clause-allotment
+returns-clause-allotment g c =
     let t = c.args.contest.now in
     let terms = divisor_terms g.D.Divisors.divisor g.D.Divisors.unit_of t in
     let proper = proper_if_may (kept_poll t.poll) t.lot.now (c.if-not-may_be_taken.ensures.0 refl) in
     from_placed terms (races terms c.requires.sound) proper c.in_ok-awarded.awarded.seats.items c.in_ok-awarded.ensures.fair
 
-pub returns-in-Right-clause-rows : goal.returns-in-Right-clause-rows
-returns-in-Right-clause-rows g c =
+pub returns-clause-rows : goal.returns-clause-rows
+returns-clause-rows g c =
     let t = c.args.contest.now in
     rows_of_won (g.D.Divisors.divisor t.divisors) t.lot_rule (kept_poll t.poll) c.requires.sound.poll t.lot.now t.seats c.requires.sound.few_seats c.in_ok-awarded.awarded.seats.items c.in_ok-awarded.awarded.pairs.items c.in_ok-awarded.ensures.won
 
-pub returns-in-Right-clause-proper : goal.returns-in-Right-clause-proper
-returns-in-Right-clause-proper g c =
+pub returns-clause-proper : goal.returns-clause-proper
+returns-clause-proper g c =
     let t = c.args.contest.now in
     proper_if_may (kept_poll t.poll) t.lot.now (c.if-not-may_be_taken.ensures.0 refl)
 
@@ -49,21 +49,18 @@ returns-then-not-has_eligible-clause-fault g c = λ e. false≢true (c.if-not-ha
 pub award_from_heap-requires-clause-eligible : goal.award_from_heap-requires-clause-eligible
 award_from_heap-requires-clause-eligible g c = c.if-not-has_eligible.ensures.0 refl
 
-pub verdict_on_lot-requires-clause-fair : goal.verdict_on_lot-requires-clause-fair
-verdict_on_lot-requires-clause-fair g c =
+pub check_lot-requires-clause-eligible : goal.check_lot-requires-clause-eligible
+check_lot-requires-clause-eligible g c = c.if-not-has_eligible.ensures.0 refl
+
+pub check_lot-requires-clause-fair : goal.check_lot-requires-clause-fair
+check_lot-requires-clause-fair g c =
     subst (λ (a : List ℕ). AreFairSeats (divisor_terms g.D.Divisors.divisor g.D.Divisors.unit_of c.args.contest.now) a) (sym c.deref.ensures.value) c.in_ok-awarded.ensures.fair
 
-pub returns-in-Right-clause-won : goal.returns-in-Right-clause-won
-returns-in-Right-clause-won g c = c.in_ok-awarded.ensures.won
+pub returns-clause-won : goal.returns-clause-won
+returns-clause-won g c = c.in_ok-awarded.ensures.won
 
-pub returns-in-Right-clause-lot_taken : goal.returns-in-Right-clause-lot_taken
-returns-in-Right-clause-lot_taken g c = c.in-Right.ensures
+pub returns-clause-lot_taken : goal.returns-clause-lot_taken
+returns-clause-lot_taken g c = c.in_ok-check_lot.ensures.taken
 
-pub returns-in-Right-clause-eligible : goal.returns-in-Right-clause-eligible
-returns-in-Right-clause-eligible g c = c.if-not-has_eligible.ensures.0 refl
-
-pub returns-in-Missing-clause-fault : goal.returns-in-Missing-clause-fault
-returns-in-Missing-clause-fault g c = (c.if-not-has_eligible.ensures.0 refl, c.in-Missing.ensures.0, c.in-Missing.ensures.1)
-
-pub returns-in-Wrong-clause-fault : goal.returns-in-Wrong-clause-fault
-returns-in-Wrong-clause-fault g c = (c.if-not-has_eligible.ensures.0 refl, c.in-Wrong.ensures)
+pub returns-clause-eligible : goal.returns-clause-eligible
+returns-clause-eligible g c = c.if-not-has_eligible.ensures.0 refl

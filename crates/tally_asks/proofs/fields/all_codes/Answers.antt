@@ -1,7 +1,7 @@
 use Rattle.std.proofs.Common.{◌≡◌, Some, sym, ap, ◌∙◌}
 use Rattle.serde_json.specs.View.{view}
 use Rattle.tally_asks.specs.Bodies.{as_code}
-use Rattle.tally_asks.proofs.ItemLemmas.{value_none, value_next}
+use Rattle.tally_asks.proofs.ItemLemmas.{value_all, value_none, value_next}
 use Rattle.tally_asks.proofs.fields.all_codes.Goals as goal
 
 pub returns-in_default : goal.returns-in_default
@@ -16,3 +16,6 @@ loop-value-preserved c =
     let d = c.value-item.result in
     let is : as_code (view _) ≡ Some c.in-Some.code = ap (λ v. as_code (view v)) (sym c.value-item.is) ∙ sym c.in-Some.ensures in
     value_next as_code c.args.values.now i d c.loop-value.all.items c.in-Some.code c.loop-value-test.true c.loop-value.invariant is ∙ ap Some (sym c.in_ok-push.ensures.items)
+
+pub returns : goal.returns
+returns c = value_all as_code c.args.values.now c.loop-value.value-index c.loop-value.all.items c.loop-value-test.false c.loop-value.invariant

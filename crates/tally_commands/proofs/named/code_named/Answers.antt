@@ -1,4 +1,4 @@
-use Rattle.std.proofs.Common.{◌∙◌, ℕ, Some, option_map, ap, sym}
+use Rattle.std.proofs.Common.{◌∙◌, Some, option_map, ap, sym}
 use Rattle.tally_setup.specs.Constituency.{Constituency}
 use Rattle.tally_commands.proofs.NamedLemmas.{con-code}
 use Rattle.tally_commands.proofs.named.code_named.Goals as goal

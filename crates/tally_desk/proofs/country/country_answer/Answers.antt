@@ -6,4 +6,4 @@ use Rattle.tally_desk.proofs.country.country_answer.Goals as goal
 
 pub returns-in-Ok : goal.returns-in-Ok
 returns-in-Ok c =
-    subst (λ (b : List ℕ). IfSome c.text_answer.result (λ out. out.items ≡ answer_text Done Text b)) (c.as_bytes.ensures.value ∙ c.in-Ok.ensures.text) c.text_answer.ensures
+    subst (λ (b : List ℕ). IfSome c.done_answer.result (λ out. out.items ≡ answer_text Done Text b)) (c.as_bytes.ensures.value ∙ c.in-Ok.ensures.text) c.done_answer.ensures

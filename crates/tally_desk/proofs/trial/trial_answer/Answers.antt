@@ -4,6 +4,6 @@ use Rattle.tally_answer.specs.declared.status.AnswerStatus.TheVariants.{Done}
 use Rattle.tally_answer.specs.declared.status.BodyType.TheVariants.{Text}
 use Rattle.tally_desk.proofs.trial.trial_answer.Goals as goal
 
-pub returns-in-Ok : goal.returns-in-Ok
-returns-in-Ok c =
-    subst (λ (b : List ℕ). IfSome c.text_answer.result (λ out. out.items ≡ answer_text Done Text b)) (c.as_bytes.ensures.value ∙ c.in-Ok.ensures) c.text_answer.ensures
+pub returns-in-Ok-trial_lines-clause-text : goal.returns-in-Ok-trial_lines-clause-text
+returns-in-Ok-trial_lines-clause-text c =
+    rw c.in-Ok.is (subst (λ (b : List ℕ). IfSome c.done_answer.result (λ out. out.items ≡ answer_text Done Text b)) (c.as_bytes.ensures.value ∙ c.in-Ok-trial_lines.ensures) c.done_answer.ensures)

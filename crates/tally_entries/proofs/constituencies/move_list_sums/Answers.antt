@@ -1,10 +1,9 @@
 use Rattle.std.proofs.Common.{get_or, refl, arith}
 use Rattle.std.specs.Prelude.{⊤}
 use Rattle.sqlite.specs.Held.{state}
-use Rattle.tally_statements.specs.declared.table.KeyedTable.TheVariants.{Totals}
+use Rattle.tally_schema.specs.declared.table.KeyedTable.TheVariants.{Totals}
 use Rattle.tally_entries.proofs.CountLemmas.{votes_none, votes_more, votes_all}
-use Rattle.tally_entries.proofs.LookLemmas.{clean_before}
-use Rattle.tally_statements.proofs.StaysLemmas.{stays-both, stays-same}
+use Rattle.tally_schema.proofs.StaysLemmas.{clean_first, stays-both, stays-same}
 use Rattle.tally_entries.proofs.constituencies.move_list_sums.Goals as goal
 
 pub loop-place-init : goal.loop-place-init
@@ -26,7 +25,7 @@ loop-place-preserved g c =
       next = omega (arith, was.next);
       stays = stays-both g.S.Store c.args.tx.now c.loop-place.tx c.move_sum.new.tx was.stays ensured.stays;
       rows = λ clean inside v rest lists differ none held.
-          let before = was.rows (clean_before (λ _. ⊤) g.S.Store c.loop-place.tx c.move_sum.new.tx ensured.stays clean) inside v rest lists differ none held in
+          let before = was.rows (clean_first ensured.stays.survives clean) inside v rest lists differ none held in
           votes_more Totals c.args.con.now v c.args.votes.now place c.loop-place.item _ 0 rest old mid new (omega arith) (omega (arith, c.requires.few)) lists was.next refl none before
           (λ more. c.in_ok-move_sum.ensures.moved clean before.inside (get_or v.votes place 0) more (differ place));
     }

@@ -3,9 +3,9 @@ use Rattle.std.proofs.lemmas.Int.{to_z-of_z}
 use Rattle.std.specs.Prelude.{◌∷◌, ⊤}
 use Rattle.std.specs.List.Sorted.{IsPermutation}
 use Rattle.sqlite.specs.Held.{state}
-use Rattle.tally_statements.specs.Office.{item_cells, rows_in}
-use Rattle.tally_statements.specs.declared.table.KeyedTable.TheVariants.{Totals}
-use Rattle.tally_statements.proofs.StaysLemmas.{stays-same}
+use Rattle.tally_schema.specs.Office.{item_cells, rows_in}
+use Rattle.tally_schema.specs.declared.table.KeyedTable.TheVariants.{Totals}
+use Rattle.tally_schema.proofs.StaysLemmas.{stays-same}
 use Rattle.tally_entries.proofs.constituencies.move_sum.Goals as goal
 
 pub returns-then-by-eq0-clause-stays : goal.returns-then-by-eq0-clause-stays

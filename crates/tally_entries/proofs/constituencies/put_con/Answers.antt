@@ -3,7 +3,7 @@ use Rattle.std.proofs.lemmas.Result.{IfOk-weaker}
 use Rattle.sqlite_value.specs.declared.value.Value.TheVariants.{Int, Text}
 use Rattle.sqlite.specs.Held.{state}
 use Rattle.tally_schema.specs.Cells.{flag}
-use Rattle.tally_statements.specs.declared.table.KeyedTable.TheVariants.{Cons}
+use Rattle.tally_schema.specs.declared.table.KeyedTable.TheVariants.{Cons}
 use Rattle.tally_entries.specs.internal.Entries.{stored_in}
 use Rattle.tally_entries.proofs.ConLemmas.{only_con, con_changed}
 use Rattle.tally_entries.proofs.constituencies.put_con.Goals as goal

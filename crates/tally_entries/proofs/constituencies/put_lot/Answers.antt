@@ -1,17 +1,15 @@
 use Rattle.std.proofs.Common.{map}
 use Rattle.std.proofs.lemmas.Result.{IfOk-weaker}
-use Rattle.std.specs.Prelude.{⊤}
 use Rattle.sqlite.specs.State.{HasCleanDisk}
 use Rattle.sqlite.specs.Held.{state}
 use Rattle.tally_schema.specs.Rows.{others}
-use Rattle.tally_statements.specs.declared.table.KeyedTable.TheVariants.{Lots}
-use Rattle.tally_statements.specs.Office.{rows_in}
+use Rattle.tally_schema.specs.declared.table.KeyedTable.TheVariants.{Lots}
+use Rattle.tally_schema.specs.Office.{rows_in}
 use Rattle.tally_tables.specs.Cells.{item_row, numbers_with_places}
 use Rattle.tally_entries.proofs.ConLemmas.{lot_written}
-use Rattle.tally_entries.proofs.LookLemmas.{clean_before}
 use Rattle.tally_entries.proofs.LotLemmas.{added_beside}
 use Rattle.tally_entries.proofs.RowLemmas.{numbers_are}
-use Rattle.tally_statements.proofs.StaysLemmas.{stays-both}
+use Rattle.tally_schema.proofs.StaysLemmas.{clean_first, stays-both}
 use Rattle.tally_entries.proofs.constituencies.put_lot.Goals as goal
 
 pub returns-clause-stays : goal.returns-clause-stays
@@ -23,7 +21,7 @@ returns-clause-put g c clean inside =
     let mid = state g.S.Store c.delete_lot.new.tx.conn.now in
     let new = state g.S.Store c.insert_lots.new.tx.conn.now in
     let con = c.args.con.now in
-    let early : HasCleanDisk mid = clean_before (λ _. ⊤) g.S.Store c.delete_lot.new.tx c.insert_lots.new.tx c.insert_lots.ensures.stays clean in
+    let early : HasCleanDisk mid = clean_first c.insert_lots.ensures.stays.survives clean in
     let gone = c.in_ok-delete_lot.ensures.deleted early inside in
     IfOk-weaker c.insert_lots.result _ _ (λ _ more. added_beside Lots (map (item_row con) (numbers_with_places 1 c.args.lot.now)) (others con (rows_in Lots old)) old mid new gone more) (rw (numbers_are con 1 c.args.lot.now) at (c.insert_lots.ensures.inserted clean gone.inside))
 

@@ -2,7 +2,7 @@ use Rattle.std.proofs.Common.{subst}
 use Rattle.std.proofs.lemmas.Result.{IfOk-weaker}
 use Rattle.sqlite.specs.Held.{state}
 use Rattle.tally_returns.specs.PastSeats.{PastSeats}
-use Rattle.tally_statements.specs.declared.table.KeyedTable.TheVariants.{Past}
+use Rattle.tally_schema.specs.declared.table.KeyedTable.TheVariants.{Past}
 use Rattle.tally_tables.specs.Cells.{past_rows}
 use Rattle.tally_entries.specs.internal.Constituencies.{ChangesOnly, MovesRows, HasRecord}
 use Rattle.tally_entries.proofs.ConLemmas.{record_is, record_written}

@@ -1,19 +1,17 @@
 use Rattle.std.proofs.Common.{◌≡◌, length, subst, arith, ap, sym}
 use Rattle.std.proofs.lemmas.Result.{IfOk-weaker}
-use Rattle.std.specs.Prelude.{⊤}
 use Rattle.sqlite.specs.State.{HasCleanDisk}
 use Rattle.sqlite.specs.Held.{state}
 use Rattle.tally_schema.specs.Rows.{has_key, others}
 use Rattle.tally_returns.specs.Counts.{VoteCounts}
-use Rattle.tally_statements.specs.declared.table.KeyedTable.TheVariants.{Totals}
-use Rattle.tally_statements.specs.Office.{rows_in}
+use Rattle.tally_schema.specs.declared.table.KeyedTable.TheVariants.{Totals}
+use Rattle.tally_schema.specs.Office.{rows_in}
 use Rattle.tally_entries.specs.internal.Constituencies.{DifferBy}
 use Rattle.tally_entries.specs.internal.Entries.{stored_in}
 use Rattle.tally_entries.specs.internal.Written.{HasItems}
-use Rattle.tally_statements.proofs.StaysLemmas.{stays-both}
+use Rattle.tally_schema.proofs.StaysLemmas.{clean_first, stays-both}
 use Rattle.tally_entries.proofs.ConLemmas.{sums_before, sums_changed}
 use Rattle.tally_entries.proofs.CountLemmas.{blank_set, counts_then, none_left, spoiled_after}
-use Rattle.tally_entries.proofs.LookLemmas.{clean_before}
 use Rattle.tally_entries.proofs.constituencies.put_sums.Goals as goal
 
 pub move_list_sums-requires : goal.move_list_sums-requires
@@ -43,8 +41,8 @@ returns-clause-written g c clean inside cons before standing some differ is same
     let rest = others con (rows_in Totals old) in
     let none = none_left (has_key con) (rows_in Totals old) in
     let there = sums_before cons con before (stored_in Totals old) some held in
-    let clean_b : HasCleanDisk b = clean_before (λ _. ⊤) g.S.Store c.move_list_sums.new.tx c.move_sum-2.new.tx c.move_sum-2.ensures.stays clean in
-    let clean_a : HasCleanDisk a = clean_before (λ _. ⊤) g.S.Store c.move_sum.new.tx c.move_list_sums.new.tx c.move_list_sums.ensures.stays clean_b in
+    let clean_b : HasCleanDisk b = clean_first c.move_sum-2.ensures.stays.survives clean in
+    let clean_a : HasCleanDisk a = clean_first c.move_list_sums.ensures.stays.survives clean_b in
     let by : VoteCounts = record { votes = c.by.inside.votes.items; blank = c.by.inside.blank; spoiled = c.by.inside.spoiled } in
     let shown : VoteCounts = record { votes = c.sums.inside.votes.items; blank = c.sums.inside.blank; spoiled = c.sums.inside.spoiled } in
     let so : DifferBy by v shown = subst (λ k. DifferBy k v shown) (sym c.by.view_is) (subst (λ k. DifferBy c.args.by.now v k) (sym c.sums.view_is) differ) in

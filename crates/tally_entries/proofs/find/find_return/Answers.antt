@@ -3,10 +3,11 @@ use Rattle.std.specs.Prelude.{vec_len}
 use Rattle.std.proofs.lemmas.Bool.{eqb-true}
 use Rattle.sqlite.specs.State.{HasCleanDisk, IsUnchanged}
 use Rattle.sqlite.specs.Held.{state}
-use Rattle.tally_statements.specs.declared.table.KeyedTable.TheVariants.{Returns, Counts}
-use Rattle.tally_statements.specs.Office.{IsFound, IsInside}
+use Rattle.tally_schema.specs.declared.table.KeyedTable.TheVariants.{Returns, Counts}
+use Rattle.tally_schema.specs.Office.{IsFound}
 use Rattle.tally_entries.proofs.FindLemmas.{finds_none, finds_return, inside_still, found_before}
-use Rattle.tally_entries.proofs.LookLemmas.{clean_before, look_as, look_fails, look_then}
+use Rattle.tally_schema.proofs.StaysLemmas.{clean_first}
+use Rattle.tally_entries.proofs.LookLemmas.{look_as, look_fails, look_then}
 use Rattle.tally_entries.proofs.find.find_return.Goals as goal
 
 pub returns-in_err-heads-clause-reads : goal.returns-in_err-heads-clause-reads
@@ -35,7 +36,7 @@ pub returns-clause-found : goal.returns-clause-found
 returns-clause-found g c clean inside =
     let old = state g.S.Store c.args.tx.now.conn.now in
     let mid = state g.S.Store c.rows_of_key.new.tx.conn.now in
-    let early : HasCleanDisk mid = clean_before IsInside g.S.Store c.rows_of_key.new.tx c.rows_of_key-2.new.tx c.rows_of_key-2.ensures.reads.stays clean in
+    let early : HasCleanDisk mid = clean_first c.rows_of_key-2.ensures.reads.stays.survives clean in
     let same : IsUnchanged old mid = c.in_ok-heads.ensures.reads.same early inside in
     let heads : IsFound Returns c.args.station old c.in_ok-heads.heads.items = subst (λ k. IsFound Returns k old c.in_ok-heads.heads.items) c.as_str.ensures.text (c.in_ok-heads.ensures.found early inside) in
     let counts : IsFound Counts c.args.station mid c.in_ok-counts.counts.items = subst (λ k. IsFound Counts k mid c.in_ok-counts.counts.items) c.as_str-2.ensures.text (c.in_ok-counts.ensures.found clean (inside_still old mid same inside)) in

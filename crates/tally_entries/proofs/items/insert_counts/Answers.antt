@@ -1,14 +1,12 @@
 use Rattle.std.proofs.Common.{◌≡◌, map, length, ap, subst, arith}
 use Rattle.std.proofs.lemmas.Result.{IfOk-weaker}
-use Rattle.std.specs.Prelude.{⊤}
 use Rattle.sqlite.specs.State.{HasCleanDisk}
 use Rattle.sqlite.specs.Held.{state}
-use Rattle.tally_statements.specs.declared.table.KeyedTable.TheVariants.{Counts}
+use Rattle.tally_schema.specs.declared.table.KeyedTable.TheVariants.{Counts}
 use Rattle.tally_returns.specs.Counts.{VoteCounts}
 use Rattle.tally_tables.specs.Cells.{item_row, items_of}
-use Rattle.tally_statements.proofs.StaysLemmas.{stays-both}
+use Rattle.tally_schema.proofs.StaysLemmas.{clean_first, stays-both}
 use Rattle.tally_entries.specs.internal.Written.{Adds}
-use Rattle.tally_entries.proofs.LookLemmas.{clean_before}
 use Rattle.tally_entries.proofs.RowLemmas.{adds_counts, numbers_are}
 use Rattle.tally_entries.proofs.items.insert_counts.Goals as goal
 
@@ -31,8 +29,8 @@ returns-clause-added g c clean inside =
     let a = state g.S.Store c.insert_numbers.new.tx.conn.now in
     let b = state g.S.Store c.insert_numbers-2.new.tx.conn.now in
     let new = state g.S.Store c.insert_numbers-3.new.tx.conn.now in
-    let clean_b : HasCleanDisk b = clean_before (λ _. ⊤) g.S.Store c.insert_numbers-2.new.tx c.insert_numbers-3.new.tx c.insert_numbers-3.ensures.stays clean in
-    let clean_a : HasCleanDisk a = clean_before (λ _. ⊤) g.S.Store c.insert_numbers.new.tx c.insert_numbers-2.new.tx c.insert_numbers-2.ensures.stays clean_b in
+    let clean_b : HasCleanDisk b = clean_first c.insert_numbers-3.ensures.stays.survives clean in
+    let clean_a : HasCleanDisk a = clean_first c.insert_numbers-2.ensures.stays.survives clean_b in
     let blank = c.in_ok-insert_numbers.ensures.inserted clean_a inside in
     let votes = c.in_ok-insert_numbers-2.ensures.inserted clean_b blank.inside in
     let shown : VoteCounts = record { votes = c.counts.inside.votes.items; blank = c.counts.inside.blank; spoiled = c.counts.inside.spoiled } in

@@ -1,14 +1,12 @@
 use Rattle.std.proofs.Common.{◌≡◌, length, subst, arith, ap, sym, ◌∙◌}
 use Rattle.std.proofs.lemmas.Result.{IfOk-weaker}
-use Rattle.std.specs.Prelude.{⊤}
 use Rattle.sqlite.specs.State.{HasCleanDisk}
 use Rattle.sqlite.specs.Held.{state}
 use Rattle.tally_returns.specs.Counts.{VoteCounts}
-use Rattle.tally_statements.specs.declared.table.KeyedTable.TheVariants.{Counts}
+use Rattle.tally_schema.specs.declared.table.KeyedTable.TheVariants.{Counts}
 use Rattle.tally_entries.specs.internal.Written.{HasCounts}
-use Rattle.tally_statements.proofs.StaysLemmas.{stays-both}
+use Rattle.tally_schema.proofs.StaysLemmas.{clean_first, stays-both}
 use Rattle.tally_entries.proofs.CountLemmas.{blank_set, spoiled_after, counts_then}
-use Rattle.tally_entries.proofs.LookLemmas.{clean_before}
 use Rattle.tally_entries.proofs.items.update_counts.Goals as goal
 
 pub returns-in_err-update_votes-clause-stays : goal.returns-in_err-update_votes-clause-stays
@@ -26,8 +24,8 @@ returns-clause-set g c clean inside v rest same none held =
     let b = state g.S.Store c.update_votes.new.tx.conn.now in
     let new = state g.S.Store c.update_count-2.new.tx.conn.now in
     let station = c.args.station.now in
-    let clean_b : HasCleanDisk b = clean_before (λ _. ⊤) g.S.Store c.update_votes.new.tx c.update_count-2.new.tx c.update_count-2.ensures.stays clean in
-    let clean_a : HasCleanDisk a = clean_before (λ _. ⊤) g.S.Store c.update_count.new.tx c.update_votes.new.tx c.update_votes.ensures.stays clean_b in
+    let clean_b : HasCleanDisk b = clean_first c.update_count-2.ensures.stays.survives clean in
+    let clean_a : HasCleanDisk a = clean_first c.update_votes.ensures.stays.survives clean_b in
     let shown : VoteCounts = record { votes = c.counts.inside.votes.items; blank = c.counts.inside.blank; spoiled = c.counts.inside.spoiled } in
     let as_many : length v.votes ≡ length shown.votes = same ∙ ap (λ (w : VoteCounts). length w.votes) (sym c.counts.view_is) in
     let blank : HasCounts station (record v { blank = shown.blank }) rest old a = blank_set Counts station v shown.blank rest old a inside none held (c.in_ok-update_count.ensures.updated clean_a inside v.blank) in

@@ -1,10 +1,9 @@
 use Rattle.std.proofs.Common.{get_or, refl, arith}
 use Rattle.std.specs.Prelude.{⊤}
 use Rattle.sqlite.specs.Held.{state}
-use Rattle.tally_statements.specs.declared.table.KeyedTable.TheVariants.{Counts}
+use Rattle.tally_schema.specs.declared.table.KeyedTable.TheVariants.{Counts}
 use Rattle.tally_entries.proofs.CountLemmas.{votes_none, votes_more, votes_all}
-use Rattle.tally_entries.proofs.LookLemmas.{clean_before}
-use Rattle.tally_statements.proofs.StaysLemmas.{stays-both, stays-same}
+use Rattle.tally_schema.proofs.StaysLemmas.{clean_first, stays-both, stays-same}
 use Rattle.tally_entries.proofs.items.update_votes.Goals as goal
 
 pub loop-n-init : goal.loop-n-init
@@ -25,7 +24,7 @@ loop-n-preserved g c =
       place = omega (arith, was.place);
       stays = stays-both g.S.Store c.args.tx.now c.loop-n.tx c.update_count.new.tx was.stays ensured.stays;
       rows = λ clean inside v rest same none held.
-          let before = was.rows (clean_before (λ _. ⊤) g.S.Store c.loop-n.tx c.update_count.new.tx ensured.stays clean) inside v rest same none held in
+          let before = was.rows (clean_first ensured.stays.survives clean) inside v rest same none held in
           votes_more Counts c.args.station.now v c.args.votes.now c.loop-n.n-index c.loop-n.item _ 0 rest old mid new (omega arith) (omega (arith, c.requires)) same was.place refl none before (c.in_ok-update_count.ensures.updated clean before.inside (get_or v.votes c.loop-n.n-index 0));
     }
 

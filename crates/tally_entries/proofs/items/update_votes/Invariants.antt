@@ -4,11 +4,11 @@ use Rattle.sqlite.specs.State.{HasCleanDisk}
 use Rattle.sqlite.specs.Held.{state}
 use Rattle.tally_schema.specs.Rows.{has_key}
 use Rattle.tally_returns.specs.Counts.{VoteCounts}
-use Rattle.tally_statements.specs.declared.table.KeyedTable.TheVariants.{Counts}
-use Rattle.tally_statements.specs.Office.{IsInside, rows_in}
+use Rattle.tally_schema.specs.declared.table.KeyedTable.TheVariants.{Counts}
+use Rattle.tally_schema.specs.Office.{IsInside, rows_in}
 use Rattle.tally_tables.specs.Cells.{item_row, items_of}
 use Rattle.tally_entries.specs.internal.Written.{HasCounts}
-use Rattle.tally_statements.specs.internal.Inside.{Stays}
+use Rattle.tally_schema.specs.internal.Inside.{Stays}
 use Rattle.tally_entries.proofs.items.update_votes.Given as goal
 
 abbrev pub invariant-loop-n : goal.invariant-loop-n

@@ -1,15 +1,13 @@
 use Rattle.std.proofs.Common.{◌≡◌, map, ap, subst}
 use Rattle.std.proofs.lemmas.Result.{IfOk-weaker}
-use Rattle.std.specs.Prelude.{⊤}
 use Rattle.sqlite.specs.State.{HasCleanDisk}
 use Rattle.sqlite.specs.Held.{state}
 use Rattle.tally_returns.specs.Return.{StationReturn}
-use Rattle.tally_statements.specs.declared.table.KeyedTable.TheVariants.{Counts}
+use Rattle.tally_schema.specs.declared.table.KeyedTable.TheVariants.{Counts}
 use Rattle.tally_tables.specs.Cells.{item_row, items_of}
 use Rattle.tally_entries.specs.internal.Written.{Adds}
 use Rattle.tally_entries.proofs.ReturnLemmas.{return_added}
-use Rattle.tally_entries.proofs.LookLemmas.{clean_before}
-use Rattle.tally_statements.proofs.StaysLemmas.{stays-both}
+use Rattle.tally_schema.proofs.StaysLemmas.{clean_first, stays-both}
 use Rattle.tally_entries.proofs.returns.add_return.Goals as goal
 
 pub returns-clause-stays : goal.returns-clause-stays
@@ -20,7 +18,7 @@ returns-clause-added g c clean inside setup returns is none held =
     let old = state g.S.Store c.args.tx.now.conn.now in
     let mid = state g.S.Store c.insert_head.new.tx.conn.now in
     let new = state g.S.Store c.insert_counts.new.tx.conn.now in
-    let early : HasCleanDisk mid = clean_before (λ _. ⊤) g.S.Store c.insert_head.new.tx c.insert_counts.new.tx c.insert_counts.ensures.stays clean in
+    let early : HasCleanDisk mid = clean_first c.insert_counts.ensures.stays.survives clean in
     let head = c.in_ok-insert_head.ensures.inserted early inside in
     let same : c.standing.inside.counts ≡ c.args.standing.now.counts = ap (λ (r : StationReturn). r.counts) c.standing.view_is in
     IfOk-weaker c.insert_counts.result _ _

@@ -1,7 +1,7 @@
 use Rattle.std.proofs.lemmas.Result.{IfOk-weaker}
 use Rattle.sqlite.specs.Held.{state}
 use Rattle.tally_tables.specs.Cells.{constituency_of}
-use Rattle.tally_statements.specs.declared.table.KeyedTable.TheVariants.{Returns}
+use Rattle.tally_schema.specs.declared.table.KeyedTable.TheVariants.{Returns}
 use Rattle.tally_entries.specs.internal.Entries.{stored_in}
 use Rattle.tally_entries.proofs.ReturnLemmas.{only_head, return_changed}
 use Rattle.tally_entries.proofs.returns.change_return.Goals as goal

@@ -1,4 +1,4 @@
-use Rattle.std.proofs.Common.{◌∙◌, ℕ, Bool, ap, refl, subst}
+use Rattle.std.proofs.Common.{◌∙◌, ℕ, Bool, ap, subst}
 use Rattle.sqlite.specs.Held.{state}
 use Rattle.tally_setup.specs.Constituency.{Constituency}
 use Rattle.tally_entries.specs.internal.Found.{IsStageAmong}
@@ -13,4 +13,4 @@ returns-clause-found g c clean at =
     let own = ap (λ (x : Constituency). x.code) c.con.view_is in
     let stage : ℕ × Bool = (c.in_ok-edition.edition, c.in_ok-edition.certified) in
     let among : IsStageAmong con.code rows stage = subst (λ k. IsStageAmong k rows stage) (c.as_str.ensures.text ∙ own) c.in_ok-edition.ensures in
-    finds_row con c.con.inside.code c.args.known rows old stage c.in_ok-statuses.statuses _ own among (c.in_ok-statuses.ensures.found clean at) refl
+    finds_row con c.con.inside.code c.args.known rows old stage c.in_ok-statuses.statuses own among (c.in_ok-statuses.ensures.found clean at)

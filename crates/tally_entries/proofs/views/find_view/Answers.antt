@@ -3,10 +3,10 @@ use Rattle.sqlite.specs.State.{HasCleanDisk, IsUnchanged}
 use Rattle.sqlite.specs.Held.{state}
 use Rattle.tally_setup.specs.Constituency.{Constituency}
 use Rattle.tally_setup.specs.Limits.{IsConstituency}
-use Rattle.tally_statements.specs.internal.Inside.{IsOpenInside}
 use Rattle.tally_entries.specs.internal.Found.{AreRowsFound}
 use Rattle.tally_entries.proofs.FindLemmas.{inside_still}
-use Rattle.tally_entries.proofs.LookLemmas.{clean_before, look_as, look_fails, look_open}
+use Rattle.tally_schema.proofs.StaysLemmas.{clean_first}
+use Rattle.tally_entries.proofs.LookLemmas.{look_as, look_fails, look_open}
 use Rattle.tally_entries.proofs.StatusLemmas.{known_before}
 use Rattle.tally_entries.proofs.WholeViewLemmas.{finds_view}
 use Rattle.tally_entries.proofs.views.find_view.Goals as goal
@@ -30,7 +30,7 @@ returns-clause-found g c clean inside =
     let known = c.args.known in
     let old = state g.S.Store c.args.tx.now.conn.now in
     let mid = state g.S.Store c.rows_of_con.new.tx.conn.now in
-    let early : HasCleanDisk mid = clean_before IsOpenInside g.S.Store c.rows_of_con.new.tx c.find_known.new.tx c.find_known.ensures.stays clean in
+    let early : HasCleanDisk mid = clean_first c.find_known.ensures.stays.survives clean in
     let same : IsUnchanged old mid = c.in_ok-rows.ensures.reads.same early inside in
     let limits : IsConstituency con = subst IsConstituency c.con.view_is c.con.invariant in
     let rows : AreRowsFound c.args.with_past con.code old c.in_ok-rows.rows = subst (λ k. AreRowsFound c.args.with_past k old c.in_ok-rows.rows) (c.as_str.ensures.text ∙ ap (λ (x : Constituency). x.code) c.con.view_is) (c.in_ok-rows.ensures.found early inside) in

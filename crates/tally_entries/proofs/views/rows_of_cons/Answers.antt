@@ -1,4 +1,4 @@
-use Rattle.tally_statements.specs.Office.{HasTables, IsInside}
+use Rattle.tally_schema.specs.Office.{HasTables, IsInside}
 use Rattle.sqlite.specs.State.{State}
 use Rattle.sqlite.specs.Held.{state}
 use Rattle.tally_entries.proofs.views.rows_of_cons.Goals as goal

@@ -11,22 +11,22 @@ use Rattle.tally_import.proofs.RoundsLemmas.{more-taken, taken-next}
 use Rattle.tally_records.proofs.WorkLemmas.{HasGiven-partly}
 use Rattle.tally_import.proofs.check.check_rows.Goals as goal
 
-pub loop-record-init : goal.loop-record-init
-loop-record-init g c = record {
+pub loop-end-init : goal.loop-end-init
+loop-end-init g c = record {
   reading = c.requires.reading;
   sep = refl;
   agrees = λ before ensured. ensured;
   within = omega arith;
-  given = ([], refl, c.in_ok-import.ensures, λ text before has. subst (λ l. HasGiven text (g.R.Read.remaining c.args.reader.now) l c.args.records.now) (sym (append-nil before)) has);
+  given = ([], refl, c.requires.none, λ text before has. subst (λ l. HasGiven text (g.R.Read.remaining c.args.reader.now) l c.args.records.now) (sym (append-nil before)) has);
 }
 
 pub returns-in-Some-clause-imports : goal.returns-in-Some-clause-imports
 returns-in-Some-clause-imports g c =
-    let inv = c.loop-record.invariant in
+    let inv = c.loop-end.invariant in
     let given = inv.given in
     let AreRows = AreRecordsAfter (g.R.Read.remaining c.args.reader.now) (g.R.Read.remaining c.next.new.input) c.args.records.now in
-    subst (ImportsRecords c.args.lists AreRows) (sym c.ended.ensures.import)
-    (Imports-ended c.args.lists AreRows c.loop-record.import given.0 c.in-Some.end.stop
+    subst (ImportsRecords c.args.import.now.lists AreRows c.loop-end.import) (sym c.ended.ensures.end)
+    (Imports-ended c.args.import.now.lists AreRows c.loop-end.import given.0 c.in-Some.end.stop
     (λ text before has. subst (λ s. AreAll s text (g.R.Read.remaining c.next.new.input) (before ++ given.0) c.in-Some.end.stop) inv.sep
     (c.in_ok-end.ensures.all c.in-Some.end c.in-Some.is text (before ++ given.0) (given.3 text before has)))
     given.2 (omega (arith, given.1, inv.within)))
@@ -34,16 +34,16 @@ returns-in-Some-clause-imports g c =
 pub returns-in-Some-clause-read : goal.returns-in-Some-clause-read
 returns-in-Some-clause-read g c before ensured =
     c.ended.ensures.read before c.next.new.watch.failed
-    (subst (λ e. WatchAgreesAtEnd before e c.next.new.watch.failed) c.in-Some.is (c.in_ok-end.ensures.failed before (c.loop-record.invariant.agrees before ensured)))
+    (subst (λ e. WatchAgreesAtEnd before e c.next.new.watch.failed) c.in-Some.is (c.in_ok-end.ensures.failed before (c.loop-end.invariant.agrees before ensured)))
 
 pub returns-in-Some-clause-all_read : goal.returns-in-Some-clause-all_read
 returns-in-Some-clause-all_read g c before ensured =
     c.ended.ensures.all_read before c.next.new.watch.failed
-    (subst (λ e. WatchAgreesAtEnd before e c.next.new.watch.failed) c.in-Some.is (c.in_ok-end.ensures.failed before (c.loop-record.invariant.agrees before ensured)))
+    (subst (λ e. WatchAgreesAtEnd before e c.next.new.watch.failed) c.in-Some.is (c.in_ok-end.ensures.failed before (c.loop-end.invariant.agrees before ensured)))
 
 pub returns-then-taken-eq-ROW_LIMIT-clause-imports : goal.returns-then-taken-eq-ROW_LIMIT-clause-imports
 returns-then-taken-eq-ROW_LIMIT-clause-imports g c =
-    let inv = c.loop-record.invariant in
+    let inv = c.loop-end.invariant in
     let given = inv.given in
     let fields = fields_of c.next.new.into in
     let partly = HasGiven-partly c.next.new.self in
@@ -62,16 +62,17 @@ returns-then-taken-eq-ROW_LIMIT-clause-imports g c =
 
 pub take_record-requires-clause-so_far : goal.take_record-requires-clause-so_far
 take_record-requires-clause-so_far g c =
-    let given = c.loop-record.invariant.given in
-    (record { lists = c.args.lists; rows = rows_of_records c.args.lists given.0 }, given.2, taken-next c.args.lists given.0 c.loop-record.taken given.1)
+    let given = c.loop-end.invariant.given in
+    let lists = c.args.import.now.lists in
+    (record { lists = lists; rows = rows_of_records lists given.0 }, given.2, taken-next lists given.0 c.loop-end.taken given.1)
 
-pub loop-record-preserved : goal.loop-record-preserved
-loop-record-preserved g c =
-    let inv = c.loop-record.invariant in
+pub loop-end-preserved : goal.loop-end-preserved
+loop-end-preserved g c =
+    let inv = c.loop-end.invariant in
     let given = inv.given in
     let none : c.in_ok-end.field-0 ≡ None = c.in_default.is in
     let fields = fields_of c.next.new.into in
-    let lists = c.args.lists in
+    let lists = c.args.import.now.lists in
     let left = g.R.Read.remaining c.next.new.input in
     record {
       reading = c.in_ok-end.ensures.reading none;
@@ -82,7 +83,7 @@ loop-record-preserved g c =
         given.0 ++ fields ∷ [],
         length-append given.0 (fields ∷ []) ∙ ap (λ n. n + 1) given.1,
         more-taken lists given.0 c.take_record.new.self fields
-            (c.in_ok-take_record.ensures (record { lists = lists; rows = rows_of_records lists given.0 }) given.2 (taken-next lists given.0 c.loop-record.taken given.1)),
+            (c.in_ok-take_record.ensures (record { lists = lists; rows = rows_of_records lists given.0 }) given.2 (taken-next lists given.0 c.loop-end.taken given.1)),
         (λ text before has. subst (λ l. HasGiven text left l c.next.new.self) (append_assoc before given.0 (fields ∷ []))
             (c.in_ok-end.ensures.record none text (before ++ given.0) (given.3 text before has))),
       );

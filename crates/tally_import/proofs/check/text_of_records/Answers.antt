@@ -1,4 +1,4 @@
-use Rattle.std.proofs.Common.{rules, ◌≡◌, ◌∙◌, ◌∷◌, [], None, Some, sym, ap, subst, length, arith}
+use Rattle.std.proofs.Common.{◌≡◌, ◌∙◌, ◌∷◌, [], None, Some, sym, ap, subst, length, arith}
 use Rattle.std.specs.Prelude.{IfSome, option_map}
 use Rattle.csv.specs.Records.{fields_of}
 use Rattle.tally_import.specs.Header.{header_lists}
@@ -25,8 +25,8 @@ returns-in-Some-clause-finds g c text given =
 pub returns-in_default-2-clause-finds : goal.returns-in_default-2-clause-finds
 returns-in_default-2-clause-finds g c text given =
     let left = g.R.Read.remaining c.next.new.input in
-    let goes : c.in_ok-end.field-0 ≡ None = search rules in
-    let none : c.in_ok-lists.field-0 ≡ None = search rules in
+    let goes : c.in_ok-end.field-0 ≡ None = c.in_default.is in
+    let none : c.in_ok-lists.field-0 ≡ None = c.in_default-2.is in
     let header = fields_of c.next.new.into in
     let partly = HasGiven-partly c.next.new.self in
     let all = subst (λ s. AreAll s text left (header ∷ partly.0) partly.1) c.next.ensures.sep
@@ -38,7 +38,7 @@ pub returns-clause-finds : goal.returns-clause-finds
 returns-clause-finds g c text given =
     let left = g.R.Read.remaining c.text_under_header.new.reader in
     let header = fields_of c.next.new.into in
-    let goes : c.in_ok-end.field-0 ≡ None = search rules in
+    let goes : c.in_ok-end.field-0 ≡ None = c.in_default.is in
     let named : Some c.in-Some-2.lists.items ≡ header_lists header = ap (option_map (λ l. l.items)) (sym c.in-Some-2.is) ∙ c.in_ok-lists.ensures in
     subst (λ s. IfSome text (λ t. FindsCheckText c.args.lines s t left c.text_under_header.result)) c.next.ensures.sep
     (c.text_under_header.ensures.finds header (ap Some c.as_slice.ensures.value ∙ named) text (c.in_ok-end.ensures.record goes text [] given))

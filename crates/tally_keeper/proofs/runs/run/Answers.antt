@@ -4,7 +4,8 @@ use Rattle.tally_returns.specs.declared.reply.Reply.{Reply}
 use Rattle.std.proofs.lemmas.List.Elements.{All-push}
 use Rattle.tally_returns.specs.declared.refusal.Refusal.TheVariants.{Store}
 use Rattle.std.proofs.Common.{Err, ◌≡◌, arith, subst}
-use Rattle.tally_keeper.specs.Keeper.{Happens, request}
+use Rattle.std.proofs.lemmas.List.{take_all}
+use Rattle.tally_keeper.specs.Keeper.{Happens, Runs, request}
 use Rattle.tally_keeper.proofs.RunLemmas.{runs_more}
 use Rattle.tally_keeper.proofs.StaysLemmas.{stays-then}
 use Rattle.tally_keeper.proofs.runs.run.Goals as goal
@@ -27,3 +28,9 @@ loop-ask-preserved g c =
           (omega (arith, c.loop-ask-test.true)) c.ask-item.is (was.runs (c.answer-answer.ensures.stays.trusted sure))
           (subst (λ setup. Happens setup (k.content c.loop-ask.keeper) (request c.ask-item.result c.answer-answer.result) (k.content c.answer-answer.new.self)) was.stays.setup (c.answer-answer.ensures.step sure)));
     }
+
+pub returns-clause-runs : goal.returns-clause-runs
+returns-clause-runs g c = λ sure.
+    let k = g.K.Keeper in
+    subst (λ asks. Runs (k.constituencies c.args.keeper.now) (k.content c.args.keeper.now) asks c.loop-ask.answers.items (k.content c.loop-ask.keeper))
+    (take_all c.loop-ask.ask-index c.args.asks.now c.loop-ask-test.false) (c.loop-ask.invariant.runs sure)

@@ -1,5 +1,5 @@
 use Rattle.std.proofs.Common.{◌≡◌, ◌∙◌, ℕ, ◌+◌, List, ◌∷◌, ◌++◌, [], length, sym, ap, arith}
-use Rattle.std.proofs.lemmas.List.{length_push}
+use Rattle.std.proofs.lemmas.List.{length_push, take_all}
 use Rattle.tally_steps.specs.Holders.{is_among, remaining_candidates}
 use Rattle.tally_steps.proofs.HolderLemmas.{staying-more, staying-same}
 use Rattle.tally_steps.proofs.LotLemmas.{among-turned}
@@ -36,3 +36,10 @@ loop-candidate-preserved c =
           let same : c.if-not-contains.places.items ≡ places.items = cc in
           record { found = same ∙ found ∙ sym goes; few = omega (arith, ap length same, few) }
     ]
+
+pub returns : goal.returns
+returns c =
+    let found = c.loop-candidate.invariant.found in
+    let all : c.loop-candidate.candidate ≡ c.args.candidates = omega (arith, c.loop-candidate-test.false, c.loop-candidate.auto.candidate-end) in
+    let same = found ∙ ap (λ n. remaining_candidates n c.args.gone.now) all in
+    same ∙ sym (take_all c.args.seats (remaining_candidates c.args.candidates c.args.gone.now) (omega (arith, c.loop-candidate.invariant.few, ap length same)))

@@ -3,7 +3,7 @@ use Rattle.std.specs.Prelude.{◌==◌}
 use Rattle.std.specs.List.{filter}
 use Rattle.std.proofs.lemmas.Bool.{eqb-true, false_from_ne_true}
 use Rattle.std.proofs.lemmas.Bool.Decides.{nat_tests}
-use Rattle.std.proofs.lemmas.List.{take_more}
+use Rattle.std.proofs.lemmas.List.{take_all, take_more}
 use Rattle.tally_returns.specs.GoneCandidate.{GoneCandidate}
 use Rattle.tally_returns.specs.View.{View}
 use Rattle.tally_machine.proofs.vacancy.gone_of.Goals as goal
@@ -51,3 +51,9 @@ loop-candidate-preserved c =
           ap (λ (v : Vec ℕ Global). v.items) w.places-is ∙ c.loop-candidate.invariant ∙ sym (append-nil (places_in c.args.list (take i gone)))
           ∙ sym (places_more c.args.list gone i g false low at (false_from_ne_true (g.list == c.args.list) (λ e. w.if-candidate-list.false (list ∙ eqb-true g.list c.args.list e))))
     ]
+
+pub returns : goal.returns
+returns c =
+    let gone = c.args.view.now.gone in
+    let items : c.deref-candidate-items.result.now ≡ gone = c.deref-candidate-items.ensures.value ∙ ap (λ (v : View). v.gone) c.view.view_is in
+    c.loop-candidate.invariant ∙ ap (places_in c.args.list) (take_all c.loop-candidate.candidate-index gone (omega (arith, c.loop-candidate-test.false, ap length items)))

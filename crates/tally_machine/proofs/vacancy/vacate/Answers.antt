@@ -46,6 +46,11 @@ returns-then-not-contains-clause-refused c = λ _.
 pub next_holder-requires-clause-place : goal.next_holder-requires-clause-place
 next_holder-requires-clause-place c = found-place c.args.con.now c.args.list c.in-Some.found (sym c.in-Some.ensures)
 
+pub next_holder-requires-clause-seats : goal.next_holder-requires-clause-seats
+next_holder-requires-clause-seats c =
+    let certified : c.args.view.now.certified ≡ true = sym (ap (λ (v : View). v.certified) c.view.view_is) ∙ c.if-not-view.false in
+    found-seats c.args.con.now c.args.view.now c.args.list c.in-Some.found c.requires certified (sym c.in-Some.ensures)
+
 pub returns-clause-vacated : goal.returns-clause-vacated
 returns-clause-vacated c =
     let view = c.args.view.now in

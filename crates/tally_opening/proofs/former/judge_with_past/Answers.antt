@@ -1,7 +1,7 @@
 use Rattle.std.proofs.lemmas.Result.{on_ok_weaker}
 use Rattle.sqlite.specs.State.{HasCleanDisk}
 use Rattle.sqlite.specs.Held.{state}
-use Rattle.tally_opening.proofs.ReturnLemmas.{clean_first}
+use Rattle.tally_schema.proofs.StaysLemmas.{clean_first}
 use Rattle.tally_opening.proofs.TakeoverLemmas.{fault_each, numbers_each, past_added, ready_each}
 use Rattle.tally_opening.proofs.former.judge_with_past.Goals as goal
 

@@ -2,7 +2,7 @@ use Rattle.std.proofs.Common.{rules}
 use Rattle.sqlite.specs.State.{HasCleanDisk, IsUnchanged}
 use Rattle.sqlite.specs.Held.{state}
 use Rattle.tally_opening.proofs.JudgingLemmas.{look_as, look_then, shows_before, tables_still}
-use Rattle.tally_opening.proofs.ReturnLemmas.{clean_first}
+use Rattle.tally_schema.proofs.StaysLemmas.{clean_first}
 use Rattle.tally_opening.proofs.judging.read_two.Goals as goal
 
 pub returns-clause-second : goal.returns-clause-second

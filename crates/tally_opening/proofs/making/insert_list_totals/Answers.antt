@@ -1,10 +1,9 @@
 use Rattle.std.proofs.Common.{refl, sym, subst}
 use Rattle.std.specs.Prelude.{⊤}
 use Rattle.sqlite.specs.Held.{state}
-use Rattle.tally_statements.proofs.StaysLemmas.{stays-both, stays-same}
+use Rattle.tally_schema.proofs.StaysLemmas.{clean_first, stays-both, stays-same}
 use Rattle.tally_opening.specs.internal.Making.{AddsTotals}
 use Rattle.tally_opening.proofs.AddLemmas.{totals_none, totals_then, list_rows_more}
-use Rattle.tally_opening.proofs.ReturnLemmas.{clean_first}
 use Rattle.tally_opening.proofs.making.insert_list_totals.Goals as goal
 
 pub loop-list-init : goal.loop-list-init

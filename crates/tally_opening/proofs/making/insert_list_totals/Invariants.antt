@@ -1,7 +1,7 @@
 use Rattle.sqlite.specs.State.{HasCleanDisk}
 use Rattle.sqlite.specs.Held.{state}
-use Rattle.tally_statements.specs.internal.Inside.{Stays}
-use Rattle.tally_statements.specs.Office.{IsInside}
+use Rattle.tally_schema.specs.internal.Inside.{Stays}
+use Rattle.tally_schema.specs.Office.{IsInside}
 use Rattle.tally_opening.specs.internal.Making.{AddsTotals, no_list_rows}
 use Rattle.tally_opening.proofs.making.insert_list_totals.Given as goal
 

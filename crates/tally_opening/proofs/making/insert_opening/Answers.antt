@@ -3,11 +3,11 @@ use Rattle.sqlite.specs.State.{HasCleanDisk}
 use Rattle.sqlite.specs.Held.{state}
 use Rattle.sqlite_value.specs.declared.value.Value.TheVariants.{Int, Text}
 use Rattle.tally_setup.specs.Constituency.{Constituency}
-use Rattle.tally_statements.specs.declared.table.KeyedTable.TheVariants.{Cons}
-use Rattle.tally_statements.specs.Office.{HasRows, rows_in}
+use Rattle.tally_schema.specs.declared.table.KeyedTable.TheVariants.{Cons}
+use Rattle.tally_schema.specs.Office.{HasRows, rows_in}
 use Rattle.tally_opening.specs.internal.Making.{AddsTotals, no_vote_rows}
 use Rattle.tally_opening.proofs.AddLemmas.{opening_last}
-use Rattle.tally_opening.proofs.ReturnLemmas.{clean_first}
+use Rattle.tally_schema.proofs.StaysLemmas.{clean_first}
 use Rattle.tally_opening.proofs.making.insert_opening.Goals as goal
 
 pub returns-clause-opened : goal.returns-clause-opened

@@ -2,10 +2,9 @@ use Rattle.std.proofs.Common.{arith, subst}
 use Rattle.std.proofs.lemmas.List.{take_all}
 use Rattle.std.specs.Prelude.{⊤}
 use Rattle.sqlite.specs.Held.{state}
-use Rattle.tally_statements.proofs.StaysLemmas.{stays-both, stays-same}
+use Rattle.tally_schema.proofs.StaysLemmas.{clean_first, stays-both, stays-same}
 use Rattle.tally_opening.specs.internal.Making.{AddsCons}
 use Rattle.tally_opening.proofs.AddLemmas.{cons_none, cons_more}
-use Rattle.tally_opening.proofs.ReturnLemmas.{clean_first}
 use Rattle.tally_opening.proofs.making.insert_openings.Goals as goal
 
 pub loop-con-init : goal.loop-con-init

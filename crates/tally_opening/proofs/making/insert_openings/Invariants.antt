@@ -1,8 +1,8 @@
 use Rattle.std.proofs.Common.{take}
 use Rattle.sqlite.specs.State.{HasCleanDisk}
 use Rattle.sqlite.specs.Held.{state}
-use Rattle.tally_statements.specs.internal.Inside.{Stays}
-use Rattle.tally_statements.specs.Office.{IsInside}
+use Rattle.tally_schema.specs.internal.Inside.{Stays}
+use Rattle.tally_schema.specs.Office.{IsInside}
 use Rattle.tally_opening.specs.internal.Making.{AddsCons}
 use Rattle.tally_opening.proofs.making.insert_openings.Given as goal
 

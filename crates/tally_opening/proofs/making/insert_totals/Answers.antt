@@ -1,11 +1,10 @@
 use Rattle.std.proofs.Common.{◌∷◌, ◌++◌, [], refl, subst, OnOk}
 use Rattle.sqlite.specs.State.{HasCleanDisk}
 use Rattle.sqlite.specs.Held.{state}
-use Rattle.tally_statements.proofs.StaysLemmas.{stays-both}
+use Rattle.tally_schema.proofs.StaysLemmas.{clean_first, stays-both}
 use Rattle.tally_tables.specs.Cells.{item_row, spoiled_item}
 use Rattle.tally_opening.specs.internal.Making.{AddsTotals, no_list_rows}
 use Rattle.tally_opening.proofs.AddLemmas.{totals_then, totals_last, no_votes_split}
-use Rattle.tally_opening.proofs.ReturnLemmas.{clean_first}
 use Rattle.tally_opening.proofs.making.insert_totals.Goals as goal
 
 pub returns-clause-added : goal.returns-clause-added

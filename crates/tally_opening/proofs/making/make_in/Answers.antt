@@ -3,7 +3,8 @@ use Rattle.sqlite.specs.State.{HasCleanDisk}
 use Rattle.sqlite.specs.Held.{state}
 use Rattle.tally_schema.specs.Made.{HasEmptyTables}
 use Rattle.tally_opening.specs.Create.{IsAsBefore}
-use Rattle.tally_opening.proofs.ReturnLemmas.{Began, clean_first, failed_commit, rolled_back}
+use Rattle.tally_schema.proofs.StaysLemmas.{clean_first}
+use Rattle.tally_opening.proofs.EndingLemmas.{Began, failed_commit, rolled_back}
 use Rattle.tally_opening.proofs.making.make_in.Goals as goal
 
 pub returns-in-Ok-clause-ends : goal.returns-in-Ok-clause-ends

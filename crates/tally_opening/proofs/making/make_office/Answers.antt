@@ -2,12 +2,11 @@ use Rattle.std.proofs.Common.{subst, OnOk}
 use Rattle.sqlite.specs.Effect.{IsDatabase}
 use Rattle.sqlite.specs.State.{HasCleanDisk}
 use Rattle.sqlite.specs.Held.{state}
-use Rattle.tally_statements.proofs.StaysLemmas.{stays-both}
+use Rattle.tally_schema.proofs.StaysLemmas.{clean_first, stays-both}
 use Rattle.tally_setup.specs.Limits.{IsSetup}
 use Rattle.tally_opening.specs.internal.Making.{AddsCons}
 use Rattle.tally_opening.proofs.EmptyLemmas.{empty_inside, setup_empty}
 use Rattle.tally_opening.proofs.OpeningLemmas.{office_last}
-use Rattle.tally_opening.proofs.ReturnLemmas.{clean_first}
 use Rattle.tally_opening.proofs.making.make_office.Goals as goal
 
 pub returns-clause-made : goal.returns-clause-made

@@ -6,7 +6,7 @@ use Rattle.sqlite.specs.Effect.{Database}
 use Rattle.sqlite.specs.State.{IsUnchanged}
 use Rattle.tally_opening.specs.internal.Opening.{AreOfNoStored, CountsTables, HasSetupRow, HasStoredRow, IsJudged}
 use Rattle.tally_opening.proofs.JudgingLemmas.{look_as, look_then, tables_still, unlawful_stored}
-use Rattle.tally_opening.proofs.ReturnLemmas.{clean_first}
+use Rattle.tally_schema.proofs.StaysLemmas.{clean_first}
 use Rattle.tally_opening.proofs.StoredLemmas.{fault_as}
 use Rattle.tally_opening.proofs.opening.judge_stored.Goals as goal
 

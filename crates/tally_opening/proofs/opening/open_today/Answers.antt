@@ -4,11 +4,11 @@ use Rattle.sqlite.specs.Effect.{Database}
 use Rattle.sqlite.specs.State.{HasCleanDisk, KeepsCounts}
 use Rattle.sqlite.specs.Held.{state}
 use Rattle.tally_setup.specs.Constituency.{Constituency}
-use Rattle.tally_statements.specs.Office.{HasTables}
+use Rattle.tally_schema.specs.Office.{HasTables}
 use Rattle.tally_tables.specs.TablesOfState.{version}
 use Rattle.tally_opening.specs.internal.Opening.{CountsTables, HasSetupRow, IsJudged, IsTodayFault}
 use Rattle.tally_opening.specs.internal.Ending.{EndsUnchanged}
-use Rattle.tally_opening.proofs.ReturnLemmas.{clean_first}
+use Rattle.tally_schema.proofs.StaysLemmas.{clean_first}
 use Rattle.tally_opening.proofs.StoredLemmas.{ok_answered, today_answered}
 use Rattle.tally_opening.proofs.UnwrittenLemmas.{begun_tables, counts_undone, ends_undone}
 use Rattle.tally_opening.proofs.opening.open_today.Given.{Over}

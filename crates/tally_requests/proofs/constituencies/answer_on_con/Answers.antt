@@ -7,13 +7,12 @@ use Rattle.tally_setup.specs.Constituency.{Constituency}
 use Rattle.tally_setup.specs.Setup.{constituency_with}
 use Rattle.tally_returns.specs.Return.{Returns}
 use Rattle.tally_returns.proofs.ClosedLemmas.{constituency_with-code, constituency_with-own}
-use Rattle.tally_entries.proofs.LookLemmas.{clean_before}
 use Rattle.tally_requests.proofs.AnswerLemmas.{answers-failed, on-answer, seen-carries, seen-known, still-state, still-unchanged, unknown-carried}
 use Rattle.tally_requests.specs.internal.Known.{AreKnown, known_of}
 use Rattle.tally_requests.proofs.KnownLemmas.{con-returns, forgets-answered, forgets-remembered}
 use Rattle.tally_requests.proofs.UnwrittenLemmas.{unwritten-then}
-use Rattle.tally_statements.specs.Office.{IsInside}
-use Rattle.tally_statements.proofs.StaysLemmas.{stays-then}
+use Rattle.tally_schema.specs.Office.{IsInside}
+use Rattle.tally_schema.proofs.StaysLemmas.{clean_first, stays-then}
 use Rattle.tally_requests.proofs.constituencies.answer_on_con.Goals as goal
 
 pub returns-in_default-clause-answers : goal.returns-in_default-clause-answers
@@ -62,7 +61,7 @@ returns-clause-answers g c =
     let old = state g.S.Store c.args.tx.now.conn.now in
     let mid = state g.S.Store c.find_view.new.tx.conn.now in
     let new = state g.S.Store c.answer_seen.new.tx.conn.now in
-    let earlier : (HasCleanDisk new → HasCleanDisk mid) = clean_before IsInside g.S.Store c.find_view.new.tx c.answer_seen.new.tx c.answer_seen.ensures.stays in
+    let earlier : (HasCleanDisk new → HasCleanDisk mid) = clean_first c.answer_seen.ensures.stays.survives in
     let found : constituency_with c.args.code setup ≡ Some con = sym c.con.ensures.found ∙ ap option_copied c.in-Some.is in
     let here = constituency_with-own setup c.args.code con found in
     let known_here = c.known_at.ensures ∙ ap (get before) own in

@@ -5,10 +5,9 @@ use Rattle.sqlite.specs.State.{HasCleanDisk}
 use Rattle.tally_returns.specs.Return.{StationReturn}
 use Rattle.tally_entries.specs.internal.Entries.{ChangesReturn}
 use Rattle.tally_requests.specs.internal.Moves.{CountsSo}
-use Rattle.tally_entries.proofs.LookLemmas.{clean_before}
 use Rattle.tally_requests.proofs.MovedLemmas.{closed_moved, closed_so, not_closed}
-use Rattle.tally_statements.specs.Office.{IsInside}
-use Rattle.tally_statements.proofs.StaysLemmas.{stays-then}
+use Rattle.tally_schema.specs.Office.{IsInside}
+use Rattle.tally_schema.proofs.StaysLemmas.{clean_first, stays-then}
 use Rattle.tally_requests.proofs.moves.put_closed.Goals as goal
 
 pub returns-clause-put : goal.returns-clause-put
@@ -20,7 +19,7 @@ returns-clause-put g c clean inside setup place text s limits at lawful not_cert
     let old = state g.S.Store c.args.tx.now.conn.now in
     let mid = state g.S.Store c.move_sums.new.tx.conn.now in
     let new = state g.S.Store c.change_return.new.tx.conn.now in
-    let early : HasCleanDisk mid = clean_before (λ _. ⊤) g.S.Store c.move_sums.new.tx c.change_return.new.tx c.change_return.ensures.stays clean in
+    let early : HasCleanDisk mid = clean_first c.change_return.ensures.stays.survives clean in
     let counts : standing.counts ≡ c.standing.inside.counts = sym (ap (λ (r : StationReturn). r.counts) c.standing.view_is) in
     let so : CountsSo true c.standing.inside.counts before standing = (not_closed before c.requires.open, closed_so standing c.requires.closed ∙ ap (λ k. k ∷ []) counts) in
     closed_moved setup text s con place station before standing old mid new c.change_return.result clean limits at not_certified stood c.requires.same_counts tables

@@ -3,15 +3,14 @@ use Rattle.std.specs.Prelude.{⊤}
 use Rattle.sqlite.specs.Held.{state}
 use Rattle.sqlite.specs.State.{HasCleanDisk}
 use Rattle.tally_setup.specs.Constituency.{Constituency}
-use Rattle.tally_statements.specs.declared.table.KeyedTable.TheVariants.{Lots}
+use Rattle.tally_schema.specs.declared.table.KeyedTable.TheVariants.{Lots}
 use Rattle.tally_tables.specs.Cells.{lot_rows}
 use Rattle.tally_entries.specs.internal.Constituencies.{HasLot}
 use Rattle.tally_entries.specs.internal.Entries.{ChangesReturn}
-use Rattle.tally_entries.proofs.LookLemmas.{clean_before}
 use Rattle.tally_requests.proofs.MovedLemmas.{queried_moved, queried_so}
 use Rattle.tally_requests.proofs.WriteLemmas.{HasMoved}
-use Rattle.tally_statements.specs.Office.{IsInside}
-use Rattle.tally_statements.proofs.StaysLemmas.{stays-then}
+use Rattle.tally_schema.specs.Office.{IsInside}
+use Rattle.tally_schema.proofs.StaysLemmas.{clean_first, stays-then}
 use Rattle.tally_requests.proofs.moves.put_queried.Goals as goal
 
 pub returns-clause-put : goal.returns-clause-put
@@ -24,8 +23,8 @@ returns-clause-put g c clean inside setup place text s limits at lawful not_cert
     let mid = state g.S.Store c.uncount.new.tx.conn.now in
     let bare = state g.S.Store c.put_lot.new.tx.conn.now in
     let new = state g.S.Store c.change_return.new.tx.conn.now in
-    let later : HasCleanDisk bare = clean_before (λ _. ⊤) g.S.Store c.put_lot.new.tx c.change_return.new.tx c.change_return.ensures.stays clean in
-    let early : HasCleanDisk mid = clean_before (λ _. ⊤) g.S.Store c.uncount.new.tx c.put_lot.new.tx c.put_lot.ensures.stays later in
+    let later : HasCleanDisk bare = clean_first c.change_return.ensures.stays.survives clean in
+    let early : HasCleanDisk mid = clean_first c.put_lot.ensures.stays.survives later in
     let key : c.as_str.result.now ≡ con.code = c.as_str.ensures.text ∙ ap (λ (x : Constituency). x.code) c.con.view_is in
     let sums = c.in_ok-uncount.ensures.uncounted early inside setup s station place standing limits at lawful stood (queried_so standing c.requires.queried) tables.totals in
     let lots : HasMoved Lots lot_rows con.code (HasLot []) mid bare = subst (λ k. HasMoved Lots lot_rows k (HasLot []) mid bare) key (c.in_ok-put_lot.ensures.lots later sums.0.inside) in

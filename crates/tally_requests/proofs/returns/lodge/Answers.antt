@@ -9,11 +9,10 @@ use Rattle.tally_returns.specs.declared.refusal.Refusal.TheVariants.{NoStation}
 use Rattle.tally_requests.specs.internal.Known.{known_of}
 use Rattle.tally_requests.specs.internal.Counting.{known_after_lodge}
 use Rattle.tally_requests.specs.internal.Lodging.{IsLodgeAnswer}
-use Rattle.tally_entries.proofs.LookLemmas.{clean_before}
 use Rattle.tally_requests.proofs.KnownLemmas.{lodge-counted}
 use Rattle.tally_requests.proofs.LodgedLemmas.{answer-nowhere, lodged-first, lodged-refused, lodged-same, still}
-use Rattle.tally_statements.specs.Office.{IsInside}
-use Rattle.tally_statements.proofs.StaysLemmas.{stays-then}
+use Rattle.tally_schema.specs.Office.{IsInside}
+use Rattle.tally_schema.proofs.StaysLemmas.{clean_first, stays-then}
 use Rattle.tally_requests.proofs.returns.lodge.Goals as goal
 
 pub returns-in_default-clause-lodged : goal.returns-in_default-clause-lodged
@@ -41,7 +40,7 @@ returns-clause-lodged g c clean inside text s lawful tables =
     let old = state g.S.Store c.args.tx.now.conn.now in
     let mid = state g.S.Store c.decide_first.new.tx.conn.now in
     let new = state g.S.Store c.put_first.new.tx.conn.now in
-    let early : HasCleanDisk mid = clean_before (λ _. ⊤) g.S.Store c.decide_first.new.tx c.put_first.new.tx c.put_first.ensures.stays clean in
+    let early : HasCleanDisk mid = clean_first c.put_first.ensures.stays.survives clean in
     let done = c.in_ok-answer.ensures in
     let answers = subst (IsLodgeAnswer setup c.args.station c.args.slip c.args.counts.now old) c.in-Ok.is (done.decided early inside) in
     lodged-first setup text s c.args.station c.args.slip c.args.counts.now c.in-Some.con.now c.in-Some.place.now (Ok c.in-Ok.reply) c.in-Lodged.rev mid new clean (sym c.in-Some.ensures.found)
@@ -71,7 +70,7 @@ pub returns-clause-unwritten : goal.returns-clause-unwritten
 returns-clause-unwritten g c clean at acts = absurd (true≢false (sym (ap (λ r. is_act (as_answer (Ok r))) c.in-Lodged.is) ∙ acts))
 
 pub returns-clause-answered_open : goal.returns-clause-answered_open
-returns-clause-answered_open g c clean = c.in_ok-answer.ensures.reads.answered_open (clean_before (λ _. ⊤) g.S.Store c.decide_first.new.tx c.put_first.new.tx c.put_first.ensures.stays clean)
+returns-clause-answered_open g c clean = c.in_ok-answer.ensures.reads.answered_open (clean_first c.put_first.ensures.stays.survives clean)
 
 pub returns-in_err-put_first-clause-stays : goal.returns-in_err-put_first-clause-stays
 returns-in_err-put_first-clause-stays g c =

@@ -5,10 +5,10 @@ use Rattle.tally_setup.specs.Constituency.{Constituency}
 use Rattle.tally_returns.specs.declared.refusal.Refusal.TheVariants.{NoStation}
 use Rattle.tally_requests.specs.internal.Known.{known_of}
 use Rattle.tally_requests.specs.internal.Counting.{after_command}
-use Rattle.tally_statements.specs.Office.{IsInside}
-use Rattle.tally_statements.proofs.StaysLemmas.{stays-then}
+use Rattle.tally_schema.specs.Office.{IsInside}
+use Rattle.tally_schema.proofs.StaysLemmas.{clean_first, stays-then}
 use Rattle.tally_entries.proofs.FindLemmas.{inside_still}
-use Rattle.tally_entries.proofs.LookLemmas.{clean_before, look_then}
+use Rattle.tally_entries.proofs.LookLemmas.{look_then}
 use Rattle.tally_requests.proofs.AnswerLemmas.{answers-failed, still-state, still-unchanged}
 use Rattle.tally_requests.proofs.FoundLemmas.{few-lists, found-carries, move-nowhere}
 use Rattle.tally_requests.proofs.KnownLemmas.{command-known, forgets-commanded, nowhere-known}
@@ -80,8 +80,8 @@ returns-clause-answers g c =
     let mid = state g.S.Store c.find_certified.new.tx.conn.now in
     let last = state g.S.Store c.find_lawful.new.tx.conn.now in
     let new = state g.S.Store c.move_found.new.tx.conn.now in
-    let later : (HasCleanDisk new → HasCleanDisk last) = clean_before IsInside g.S.Store c.find_lawful.new.tx c.move_found.new.tx c.move_found.ensures.stays in
-    let earlier : (HasCleanDisk new → HasCleanDisk mid) = λ clean. clean_before IsInside g.S.Store c.find_certified.new.tx c.find_lawful.new.tx c.find_lawful.ensures.reads.stays (later clean) in
+    let later : (HasCleanDisk new → HasCleanDisk last) = clean_first c.move_found.ensures.stays.survives in
+    let earlier : (HasCleanDisk new → HasCleanDisk mid) = λ clean. clean_first c.find_lawful.ensures.reads.stays.survives (later clean) in
     let both = look_then g.S.Store c.args.tx.now c.find_certified.new.tx c.find_lawful.new.tx c.in_ok-certified.certified (Ok found) c.in_ok-certified.ensures.reads c.in_ok-found.ensures.reads in
     record {
       kind = c.in_ok-answer.ensures.answers.kind;

@@ -1,7 +1,9 @@
-use Rattle.std.proofs.Common.{sym, subst}
+use Rattle.std.proofs.Common.{sym, subst, arith}
 use Rattle.sqlite.specs.Held.{state}
+use Rattle.tally_entries.specs.internal.Entries.{CorrectsReturn}
 use Rattle.tally_requests.specs.internal.Found.{MovesTo, after_move}
 use Rattle.tally_requests.specs.internal.Moves.{PutsMoved}
+use Rattle.tally_requests.proofs.MovedLemmas.{corrected_moved, corrected_so, queried_so}
 use Rattle.tally_requests.proofs.returns.put_moved.Goals as goal
 
 pub put_queried-requires : goal.put_queried-requires
@@ -17,18 +19,24 @@ returns-in-Query-clause-put g c =
     let new = state g.S.Store c.put_queried.new.tx.conn.now in
     subst (λ a. PutsMoved (after_move con c.args.station a c.args.standing.now) con c.args.station before old new c.put_queried.result) (sym c.in-Query.is) c.put_queried.ensures.put
 
-pub put_corrected-requires : goal.put_corrected-requires
-put_corrected-requires g c =
+pub correct_return-requires : goal.correct_return-requires
+correct_return-requires g c =
     let moves = subst (λ a. MovesTo c.args.con.now a c.args.before.now c.args.standing.now) c.in-Correct.is c.requires.moves in
-    record { few = c.requires.few; queried = moves.0; corrected = moves.1; lists = moves.2 }
+    record { few = omega (arith, moves.2, c.requires.few) }
 
 pub returns-in-Correct-clause-put : goal.returns-in-Correct-clause-put
 returns-in-Correct-clause-put g c =
     let con = c.args.con.now in
+    let station = c.args.station in
     let before = c.args.before.now in
+    let standing = c.args.standing.now in
     let old = state g.S.Store c.args.tx.now.conn.now in
-    let new = state g.S.Store c.put_corrected.new.tx.conn.now in
-    subst (λ a. PutsMoved (after_move con c.args.station a c.args.standing.now) con c.args.station before old new c.put_corrected.result) (sym c.in-Correct.is) c.put_corrected.ensures.put
+    let new = state g.S.Store c.correct_return.new.tx.conn.now in
+    let moves = subst (λ a. MovesTo con a before standing) c.in-Correct.is c.requires.moves in
+    let corrects = subst (λ k. CorrectsReturn k standing old new c.correct_return.result) c.as_str.ensures.text c.correct_return.ensures.corrected in
+    subst (λ a. PutsMoved (after_move con station a standing) con station before old new c.correct_return.result) (sym c.in-Correct.is)
+    (λ clean inside setup place text s limits at lawful is_open stood tables.
+    corrected_moved setup text s con place station before standing old new c.correct_return.result clean inside at lawful stood (queried_so before moves.0) (corrected_so standing moves.1) moves.2 tables corrects)
 
 pub put_closed-requires : goal.put_closed-requires
 put_closed-requires g c =

@@ -1,20 +1,18 @@
 use Rattle.std.proofs.Common.{[], ◌+◌, Ok, refl, subst, arith}
-use Rattle.std.proofs.lemmas.Result.{err_from_is_err_and}
 use Rattle.sqlite.proofs.Callers.{unchanged_then}
 use Rattle.sqlite.proofs.StateLemmas.{unchanged}
 use Rattle.sqlite.specs.State.{HasCleanDisk}
 use Rattle.sqlite.specs.Held.{state}
 use Rattle.tally_keeper.proofs.TakenLemmas.{GivesAt}
-use Rattle.tally_keeper.specs.Delivery.{source_at}
-use Rattle.tally_statements.specs.Office.{IsInside}
+use Rattle.tally_keeper.specs.Delivery.{delivery, source_at}
+use Rattle.tally_schema.specs.Office.{IsInside}
 use Rattle.tally_requests.specs.internal.Inside.{IsLawfulInside}
 use Rattle.tally_requests.specs.internal.Known.{known_of}
 use Rattle.tally_requests.proofs.KnownLemmas.{forgets-row, forgets-then}
-use Rattle.tally_requests.proofs.RowLemmas.{came-end, came-fault, came-next, came-own, came-start, counted-next, rows-end, rows-named, rows-next, rows-start}
+use Rattle.tally_requests.proofs.RowLemmas.{came-end, came-fault, came-long, came-next, came-own, came-start, counted-below, counted-next, lodges-failed, none-named, rows-end, rows-named, rows-next, rows-start}
 use Rattle.tally_entries.proofs.FindLemmas.{inside_still}
-use Rattle.tally_entries.proofs.LookLemmas.{clean_before}
 use Rattle.tally_requests.proofs.UnwrittenLemmas.{none-lodged}
-use Rattle.tally_statements.proofs.StaysLemmas.{stays-same, stays-then}
+use Rattle.tally_schema.proofs.StaysLemmas.{clean_first, stays-same, stays-then}
 use Rattle.tally_requests.proofs.rows.take_rows.Goals as goal
 
 pub loop-before-init : goal.loop-before-init
@@ -36,6 +34,9 @@ returns-in_err-answer-clause-stays g c =
     stays-then (IsLawfulInside c.args.setup.now) IsInside g.S.Store c.args.tx.now c.loop-before.tx c.take_row.new.tx
     (λ early at. (was.taken early at.inside at.text at.office at.lawful at.tables).in_state.inside) was.stays c.take_row.ensures.stays
 
+pub add_row-requires : goal.add_row-requires
+add_row-requires g c = record { below = counted-below c.loop-before.count c.loop-before.before c.loop-before.invariant.counted }
+
 pub loop-before-preserved : goal.loop-before-preserved
 loop-before-preserved g c =
     let left = source_at g.R.RowSource in
@@ -56,7 +57,7 @@ loop-before-preserved g c =
       came = came-next all came comes c.loop-before.before row was.came c.take_row.ensures.codes given;
       counted = counted-next c.loop-before.count c.add_row.new.self c.loop-before.before c.in_ok-answer.answer was.counted c.add_row.ensures;
       taken = λ clean inside text s lawful tables.
-          let early : HasCleanDisk mid = clean_before IsInside g.S.Store c.loop-before.tx c.take_row.new.tx c.take_row.ensures.stays clean in
+          let early : HasCleanDisk mid = clean_first c.take_row.ensures.stays.survives clean in
           let so_far = was.taken early inside text s lawful tables in
           rows-next setup text s all came comes c.loop-before.count c.add_row.new.self c.loop-before.before row c.in_ok-answer.answer (known_of c.args.known.now) (known_of c.loop-before.known) (known_of c.take_row.new.known)
           c.args.named.now.items c.loop-before.named.items c.take_row.new.named.items mid new c.cons-cons.ensures.limits so_far c.take_row.ensures.codes given
@@ -66,7 +67,7 @@ loop-before-preserved g c =
           let after = known_of c.take_row.new.known in
           forgets-then (known_of c.args.known.now) known after was.forgets (forgets-row setup row c.in_ok-answer.answer known after c.in_ok-answer.ensures.known);
       unwritten = λ clean at none.
-          let early : HasCleanDisk mid = clean_before IsInside g.S.Store c.loop-before.tx c.take_row.new.tx c.take_row.ensures.stays clean in
+          let early : HasCleanDisk mid = clean_first c.take_row.ensures.stays.survives clean in
           let both = none-lodged c.loop-before.count c.add_row.new.self (c.loop-before.before + 1) c.in_ok-answer.answer c.add_row.ensures none in
           let same = was.unwritten early at both.0 in
           unchanged_then old mid new same (c.in_ok-answer.ensures.unwritten clean (inside_still old mid same at.0, same.0.is_open) both.1);
@@ -92,14 +93,8 @@ pub returns-in_err-row-clause-lodges : goal.returns-in_err-row-clause-lodges
 returns-in_err-row-clause-lodges g c =
     let left = source_at g.R.RowSource in
     let ensured = c.in_err-row.ensures in
-    let p = err_from_is_err_and c.from_residual.result c.from_residual.ensures.1 in
-    rw (p.1, p.2) (record {
-      imported = λ clean inside. tt;
-      unwritten = λ clean at. tt;
-      gave = tt;
-      fault = came-fault (left c.args.source.now) (left c.loop-before.source) (left c.next_row.new.self) c.loop-before.before c.in_err-row.field-0.0 c.loop-before.invariant.came (ensured.gives, ensured.gave, ensured.ends);
-      forgets = tt;
-    })
+    lodges-failed {d = delivery g.R.RowSource c.args.source.now c.next_row.new.self} {after = c.loop-before.known} {new = c.loop-before.tx} _ c.in_err-row.field-0.0 c.from_residual.ensures.1
+    (came-fault (left c.args.source.now) (left c.loop-before.source) (left c.next_row.new.self) c.loop-before.before c.in_err-row.field-0.0 c.loop-before.invariant.came (ensured.gives, ensured.gave, ensured.ends))
 
 pub returns-in_err-answer-clause-lodges : goal.returns-in_err-answer-clause-lodges
 returns-in_err-answer-clause-lodges g c =
@@ -108,14 +103,28 @@ returns-in_err-answer-clause-lodges g c =
     let comes = left c.next_row.new.self in
     let ensured = c.in_ok-row.ensures in
     let given = subst (λ r. GivesAt came (Ok r) comes) c.in-Some.is (ensured.gives, ensured.gave, ensured.ends) in
-    let p = err_from_is_err_and c.from_residual-in_err-answer.result c.from_residual-in_err-answer.ensures.1 in
-    rw (p.1, p.2) (record {
-      imported = λ clean inside. tt;
-      unwritten = λ clean at. tt;
+    lodges-failed {d = delivery g.R.RowSource c.args.source.now c.next_row.new.self} {after = c.take_row.new.known} {new = c.take_row.new.tx} _ c.in_err-answer.field-0.0 c.from_residual-in_err-answer.ensures.1
+    (came-own (left c.args.source.now) came comes c.loop-before.before c.in-Some.row c.in_err-answer.field-0.0 c.loop-before.invariant.came given c.in_err-answer.ensures.own)
+
+pub returns-clause-lodges : goal.returns-clause-lodges
+returns-clause-lodges g c =
+    let left = source_at g.R.RowSource in
+    record {
+      imported = λ _ _. tt;
+      unwritten = λ _ _. tt;
       gave = tt;
-      fault = came-own (left c.args.source.now) came comes c.loop-before.before c.in-Some.row c.in_err-answer.field-0.0 c.loop-before.invariant.came given c.in_err-answer.ensures.own;
+      fault = came-long (left c.args.source.now) (left c.loop-before.source) c.loop-before.before c.loop-before.invariant.came (omega (arith, c.loop-before-test.false)) (g.met.R.RowSource.within c.args.source.now);
       forgets = tt;
-    })
+    }
+
+pub returns-in_err-row-clause-named : goal.returns-in_err-row-clause-named
+returns-in_err-row-clause-named g c clean inside = none-named _ _ c.from_residual.ensures.0
+
+pub returns-in_err-answer-clause-named : goal.returns-in_err-answer-clause-named
+returns-in_err-answer-clause-named g c clean inside = none-named _ _ c.from_residual-in_err-answer.ensures.0
+
+pub returns-clause-named : goal.returns-clause-named
+returns-clause-named g c = λ _ _. tt
 
 pub returns-in_default-clause-named : goal.returns-in_default-clause-named
 returns-in_default-clause-named g c clean inside text s lawful tables =

@@ -4,8 +4,8 @@ use Rattle.sqlite.specs.Held.{state}
 use Rattle.tally_returns.specs.State.{State}
 use Rattle.tally_steps.specs.LawfulState.{IsLawfulState}
 use Rattle.tally_keeper.specs.Delivery.{source_at}
-use Rattle.tally_statements.specs.Office.{IsInside}
-use Rattle.tally_statements.specs.internal.Inside.{IsOpenInside}
+use Rattle.tally_schema.specs.Office.{IsInside}
+use Rattle.tally_schema.specs.internal.Inside.{IsOpenInside}
 use Rattle.tally_tables.specs.TablesOfState.{AreTables}
 use Rattle.tally_requests.specs.internal.Inside.{StaysInState}
 use Rattle.tally_requests.specs.internal.Known.{ForgetsNone, known_of}

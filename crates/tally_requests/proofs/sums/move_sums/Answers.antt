@@ -5,10 +5,9 @@ use Rattle.sqlite.specs.Held.{state}
 use Rattle.tally_setup.specs.Constituency.{Constituency}
 use Rattle.tally_returns.specs.Counts.{VoteCounts}
 use Rattle.tally_entries.specs.internal.Constituencies.{ChangesSums, FindsSums}
-use Rattle.tally_entries.proofs.LookLemmas.{clean_before}
 use Rattle.tally_requests.proofs.TotalLemmas.{moved-long, sums-written}
-use Rattle.tally_statements.specs.Office.{IsInside}
-use Rattle.tally_statements.proofs.StaysLemmas.{stays-then}
+use Rattle.tally_schema.specs.Office.{IsInside}
+use Rattle.tally_schema.proofs.StaysLemmas.{clean_first, stays-then}
 use Rattle.tally_requests.proofs.sums.move_sums.Goals as goal
 
 pub put_sums-requires : goal.put_sums-requires
@@ -33,7 +32,7 @@ returns-clause-moved g c clean inside =
     let old = state g.S.Store c.args.tx.now.conn.now in
     let mid = state g.S.Store c.find_sums.new.tx.conn.now in
     let new = state g.S.Store c.put_sums.new.tx.conn.now in
-    let early : HasCleanDisk mid = clean_before (λ _. ⊤) g.S.Store c.find_sums.new.tx c.put_sums.new.tx c.put_sums.ensures.stays clean in
+    let early : HasCleanDisk mid = clean_first c.put_sums.ensures.stays.survives clean in
     let votes : length c.sums.inside.votes.items ≡ length found.votes = ap (λ (v : VoteCounts). length v.votes) c.sums.view_is in
     let lists : length c.con.inside.lists.items ≡ length con.lists = ap (λ (k : Constituency). length k.lists) c.con.view_is in
     let many : length found.votes ≡ length con.lists = omega (arith, votes, lists, c.len.ensures, c.len-2.ensures, c.sums.inside.votes.ok.0, c.con.inside.lists.ok.0, c.if-len.false) in

@@ -1,5 +1,5 @@
-use Rattle.std.proofs.lemmas.Bool.{eqb-true}
+use Rattle.std.proofs.Common.{◌∙◌, sym, true≢false}
 use Rattle.tally_schema.proofs.same_schema.is_same_op.Goals as goal
 
-pub returns-else-s-t : goal.returns-else-s-t
-returns-else-s-t c = λ same. absurd (c.if-s-t.false (eqb-true c.in-Column-Column.s c.in-Column-Column.t same))
+pub returns-else-eq : goal.returns-else-eq
+returns-else-eq c = λ same. absurd (true≢false (sym same ∙ c.if-eq.false))

@@ -7,8 +7,7 @@ use Rattle.sqlite.specs.Held.{state}
 use Rattle.tally_keeper.specs.Delivery.{source_at}
 use Rattle.tally_keeper.proofs.TakenLemmas.{own-first}
 use Rattle.tally_requests.specs.internal.Inside.{IsLawfulInside}
-use Rattle.tally_opening.proofs.ReturnLemmas.{clean_first}
-use Rattle.tally_statements.proofs.StaysLemmas.{stays-then}
+use Rattle.tally_schema.proofs.StaysLemmas.{clean_first, stays-then}
 use Rattle.tally_tables.specs.TablesOfState.{AreTables}
 use Rattle.tally_store.proofs.RequestLemmas.{inside_still, lawful_still, on_ok, stays_in_state}
 use Rattle.tally_store.proofs.requests.take_open.Goals as goal

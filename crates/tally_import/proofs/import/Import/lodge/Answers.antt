@@ -1,15 +1,34 @@
-use Rattle.std.proofs.Common.{◌≡◌, ◌∙◌, ◌++◌, ◌∷◌, [], sym, ap, subst, Ok}
+use Rattle.std.proofs.Common.{◌≡◌, ◌∙◌, ◌++◌, ◌∷◌, [], sym, ap, subst, true, Ok}
 use Rattle.std.specs.FinMap.{insert}
 use Rattle.std.specs.Option.{option_copied}
 use Rattle.tally_setup.specs.declared.constituency.Entry.TheVariants.{Single}
+use Rattle.tally_returns.specs.Counts.{are_counts}
 use Rattle.tally_returns.specs.Lodge.{limits_for}
 use Rattle.tally_returns.proofs.CountsLemmas.{are_counts-lodged, length-counts}
 use Rattle.tally_returns.specs.declared.reply.LodgeReply.TheVariants.{Lodged}
 use Rattle.tally_import.specs.Check.{every_code}
 use Rattle.tally_import.specs.internal.Progress.{Holds, lodged_of}
-use Rattle.tally_import.specs.internal.Totals.{AreTotals}
+use Rattle.tally_import.specs.internal.Totals.{AreTotals, AreTotalsOfFew}
 use Rattle.tally_import.proofs.ProgressLemmas.{Holds-insert, lodge-lodged, answer-held}
 use Rattle.tally_import.proofs.import.Import.lodge.Goals as goal
+
+pub add_return-requires : goal.add_return-requires
+add_return-requires c =
+    let lists = c.args.self.now.lists in
+    let counts = c.args.counts in
+    let way = c.in-Ok-Lodged in
+    let lodged : c.decide_lodge-answer.result ≡ Ok (Lodged way.field-0-0) = way.is ∙ ap Ok (rw way.is at way.field-0-is) in
+    let good = are_counts-lodged (limits_for lists 1000000 Single) (option_copied c.get-found.result) c.args.slip counts way.field-0-0 (sym c.decide_lodge-answer.ensures ∙ lodged) in
+    let same = sym (length-counts lists counts good) in
+    record {
+      totals = subst (λ n. AreTotalsOfFew n c.args.self.now.totals) same c.requires.totals;
+      counts = subst (λ n. are_counts n counts ≡ true) same good;
+    }
+
+pub returns-clause-answer : goal.returns-clause-answer
+returns-clause-answer c s holds =
+    let old = c.args.self.now in
+    sym (answer-held old.lists old.returns s c.args.station c.args.slip c.args.counts _ c.decide_lodge-answer.result holds c.get-found.ensures.value c.decide_lodge-answer.ensures)
 
 pub returns-clause-table : goal.returns-clause-table
 returns-clause-table c s holds =

@@ -34,7 +34,7 @@ new-requires-2-clause-some g c not =
     let fills = c.in_ok-end.ensures.fills in
     let last = subst (λ all. (size : ℕ) → size ≤ length all → ends_line (take size all) ≡ true → size ≤ piece) c.as_slice.ensures.value c.piece_size-piece.ensures.last in
     let text : bytes_left c.in_ok-text.text ≡ take piece bytes ++ separator c.args.sep ∷ [] =
-    c.in_ok-text.ensures ∙ c.in_ok-piece_text.ensures ∙ ap (λ l. take piece l ++ separator c.args.sep ∷ []) c.deref.ensures.value in
+    c.in_ok-text.ensures ∙ ap (λ l. take piece l ++ separator c.args.sep ∷ []) c.deref.ensures.value in
     let begun = Begun-none c.args.sep c.args.held.bytes.items in
     subst (λ t. 0 < length (text_rows c.args.sep t)) (sym text)
     ((Begun-room c.args.sep None c.args.held.bytes.items fills.0 bytes 0 piece begun fills.1 last).0 not)
@@ -82,7 +82,7 @@ returns-clause-reading g c =
     let piece = c.piece_size-piece.result in
     let bytes = c.fill.new.self.bytes.items in
     let text : bytes_left c.in_ok-text.text ≡ take piece bytes ++ separator c.args.sep ∷ [] =
-    c.in_ok-text.ensures ∙ c.in_ok-piece_text.ensures ∙ ap (λ l. take piece l ++ separator c.args.sep ∷ []) c.deref.ensures.value in
+    c.in_ok-text.ensures ∙ ap (λ l. take piece l ++ separator c.args.sep ∷ []) c.deref.ensures.value in
     record {
       reading = c.in_ok-rest.ensures.reading;
       rest = subst (λ (t : List ℕ). IsRest false (drop 0 (text_rows c.args.sep t)) c.in_ok-rest.rest) text c.in_ok-rest.ensures.rest;

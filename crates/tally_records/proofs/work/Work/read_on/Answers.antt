@@ -28,10 +28,18 @@ less-dropped old new middle done came goes some within front taken more count =
 some-left : (r : Work) → r.end ≡ None → 0 < left_size r
 some-left r goes = subst (λ e. 0 < size_left e r.held.taken (length r.held.bytes.items)) (sym goes) (omega arith)
 
+-- what is dropped is held
+inside : (piece done : ℕ) (held bytes : List ℕ) → held ≡ bytes → done ≤ length (take piece held) → done ≤ length bytes
+inside piece done held bytes is within = omega (arith, within, length-take piece held, ap length is)
+
+pub drop_front-requires-clause-within : goal.drop_front-requires-clause-within
+drop_front-requires-clause-within g c =
+    inside c.args.self.now.piece c.in_ok-done.done _ _ (c.deref.ensures.value ∙ ap (λ (h : HeldText). h.bytes.items) (sym c.replace-held.ensures.value)) c.in_ok-done.ensures.within
+
 pub read_all-requires-clause-begun : goal.read_all-requires-clause-begun
 read_all-requires-clause-begun g c =
     let old = c.args.self.now in
-    subst (λ (h : HeldText). Begun old.sep h.bytes.items old.given) (sym c.replace-held-2.ensures.value)
+    subst (λ (h : HeldText). Begun old.sep h.bytes.items old.given) (sym c.replace-held.ensures.value)
     (subst (λ bytes. Begun old.sep bytes old.given) (sym (bytes_of-open old c.requires.more)) (Begun-spent old c.requires.spent c.requires.more))
 
 pub returns-then-done-gt1-clause-given : goal.returns-then-done-gt1-clause-given
@@ -49,24 +57,22 @@ returns-then-done-gt1-clause-given g c =
     let is = ap (take done) slice ∙ front in
     let done_rows = c.in_ok-done.ensures.given some in
     IfOk-three c.read.result c.read.ensures.fills c.read.ensures.sep c.read.ensures.given (λ new fills sep none text given has.
-    HasGiven-dropped text (g.R.Read.remaining c.args.input.now) (g.R.Read.remaining c.read.new.input) given old new c.replace-held.result done
+    HasGiven-dropped text (g.R.Read.remaining c.args.input.now) (g.R.Read.remaining c.read.new.input) given old new c.drop_front.new.self done
     c.requires.more some (omega (arith, within, size, inside))
     (subst (λ l. ends_line l ≡ true) is done_rows.0)
     (subst (λ l. drop old.given (piece_rows old.sep None l) ≡ nothing ∷ []) is done_rows.1)
-    (ap (λ (h : HeldText). h.bytes.items) c.replace-held.ensures.value ∙ c.in_ok-drop_front.ensures.bytes ∙ ap (λ l. 10 ∷ drop done l) same)
-    (ap (λ (h : HeldText). h.taken) c.replace-held.ensures.value ∙ c.in_ok-drop_front.ensures.taken)
+    (c.in_ok-drop_front.ensures.bytes ∙ ap (λ (h : HeldText). 10 ∷ drop done h.bytes.items) c.replace-held.ensures.value ∙ ap (λ l. 10 ∷ drop done l) same)
+    (c.in_ok-drop_front.ensures.taken ∙ ap (λ (h : HeldText). h.taken) c.replace-held.ensures.value)
     fills sep none has)
 
 pub returns-then-done-gt1-clause-goes_on : goal.returns-then-done-gt1-clause-goes_on
 returns-then-done-gt1-clause-goes_on g c =
     let old = c.args.self.now in
     let done = c.in_ok-done.done in
-    let within : done ≤ length (take old.piece old.held.bytes.items) = subst (λ l. done ≤ length l) (ap (take old.piece) c.deref.ensures.value) c.in_ok-done.ensures.within in
-    let inside : done ≤ length old.held.bytes.items = omega (arith, within, length-take old.piece old.held.bytes.items) in
     IfOk-both c.read.result c.read.ensures.fills c.read.ensures.count (λ new fills count.
-    less-dropped old new c.replace-held.result done fills.0 c.requires.more c.if-done-gt1.true inside
-    (ap (λ (h : HeldText). h.bytes.items) c.replace-held.ensures.value ∙ c.in_ok-drop_front.ensures.bytes)
-    (ap (λ (h : HeldText). h.taken) c.replace-held.ensures.value ∙ c.in_ok-drop_front.ensures.taken)
+    less-dropped old new c.drop_front.new.self done fills.0 c.requires.more c.if-done-gt1.true (inside old.piece done _ _ c.deref.ensures.value c.in_ok-done.ensures.within)
+    (c.in_ok-drop_front.ensures.bytes ∙ ap (λ (h : HeldText). 10 ∷ drop done h.bytes.items) c.replace-held.ensures.value)
+    (c.in_ok-drop_front.ensures.taken ∙ ap (λ (h : HeldText). h.taken) c.replace-held.ensures.value)
     fills.1 count)
 
 pub returns-clause-given : goal.returns-clause-given
@@ -77,7 +83,7 @@ returns-clause-given g c =
     IfOk-three c.read_all.result c.read_all.ensures.fills c.read_all.ensures.sep c.read_all.ensures.given (λ new fills sep same text given has.
     HasGiven-grown text old_left left given old new c.requires.more
     (subst (λ l. Fills old_left left l old.held.taken (bytes_of new) new.held.taken new.end) (bytes_of-open old c.requires.more)
-    (subst (λ (h : HeldText). Fills old_left left h.bytes.items h.taken (bytes_of new) new.held.taken new.end) c.replace-held-2.ensures.value fills))
+    (subst (λ (h : HeldText). Fills old_left left h.bytes.items h.taken (bytes_of new) new.held.taken new.end) c.replace-held.ensures.value fills))
     sep same has)
 
 pub returns-clause-goes_on : goal.returns-clause-goes_on

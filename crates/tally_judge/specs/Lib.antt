@@ -1,3 +1,0 @@
-pub mod internal
-pub mod OfficeRows
-pub mod Numbers

@@ -1,5 +1,0 @@
--- Words of private contracts and of proofs. No promise to a caller speaks of them.
-pub mod Entries
-pub mod Found
-pub mod Seen
-pub mod Tree

@@ -1,2 +1,0 @@
-pub mod internal
-pub mod Office

@@ -1,5 +1,0 @@
--- Words of private contracts, of what crates promise one another, and of proofs. No promise to a
--- program speaks of them.
-pub mod Texts
-pub mod Numbered
-pub mod Inside
