@@ -534,6 +534,10 @@ def test_each_command_at_the_last_revision_and_edition():
 
 TIMES = 5
 
+# The nanoseconds of the processor that an answer takes at least. Where a virtual machine waits for
+# its host, Linux counts fewer, down to none.
+FEWEST = 100_000
+
 
 def has_taken(desk):
     """The nanoseconds of the processor that a server has taken so far."""
@@ -542,14 +546,13 @@ def has_taken(desk):
 
 
 def spent(desk, *request, times=TIMES, status=200):
-    """The nanoseconds of the processor that an answer takes, the median of so many of this status: other work on the machine adds to some,
-    and Linux takes time off others, down to none, for which the virtual machine had to wait before."""
+    """The nanoseconds of the processor that an answer takes, the median of so many of this status: other work on the machine adds to some."""
     took = []
     for _ in range(times):
         before = has_taken(desk)
         same((request[:2], desk.ask(*request)[0]), (request[:2], status))
         took.append(has_taken(desk) - before)
-    return statistics.median(took)
+    return max(FEWEST, statistics.median(took))
 
 
 def reads_each_return_once(db, con):
