@@ -14,8 +14,8 @@ ghost use Rattle.tally_law.specs.Rules.{rule_of, poll_of};
 ghost use Rattle.tally_contest.specs.internal.Terms.{AreSound};
 
 use crate::fault::AllotFault;
+use crate::lot::check_lot;
 use crate::under_lot::{award_under_lot, seats_by_remainders};
-use crate::verdict::check_lot;
 use std::alloc::Global;
 use tally_contest::{
     Contest, DivisorContest, HareContest, Need, Poll, contested_seats, has_eligible, is_fair,

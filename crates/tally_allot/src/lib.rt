@@ -8,11 +8,11 @@ mod award;
 mod award_table;
 mod fault;
 pub mod laws;
+mod lot;
 mod quota_row;
 mod quota_table;
 mod short;
 mod under_lot;
-mod verdict;
 
 pub use allotment::{allot, is_allotment, lot_need};
 pub use award::Award;

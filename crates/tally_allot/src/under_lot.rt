@@ -15,7 +15,7 @@ ghost use Rattle.tally_contest.specs.internal.Terms.{placed_race};
 ghost use Rattle.tally_contest.specs.internal.WonSeat.{AreRows, AreWon};
 
 use crate::fault::AllotFault;
-use crate::verdict::check_lot;
+use crate::lot::check_lot;
 use std::alloc::Global;
 use tally_contest::{
     AwardedSeats, DivisorContest, HareContest, Poll, award_from_heap, award_remainders,

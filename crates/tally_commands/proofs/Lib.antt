@@ -4,3 +4,4 @@ pub mod ShowLemmas
 pub mod ImportLemmas
 pub mod JudgeLemmas
 pub mod NamedLemmas
+pub mod WrittenLemmas

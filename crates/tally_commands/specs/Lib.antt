@@ -2,6 +2,8 @@ pub mod internal
 pub mod Reported
 pub mod Place
 pub mod Trouble
+pub mod Troubles
+pub mod Written
 pub mod Show
 pub mod Imported
 pub mod Made

@@ -4,3 +4,4 @@ pub mod Judged
 pub mod Put
 pub mod Room
 pub mod Withheld
+pub mod Worked

@@ -14,17 +14,80 @@ ghost use Rattle.tally_commands.specs.Imported.{IsCountText, IsImportTrouble, Is
 ghost use Rattle.tally_commands.specs.Imported.{IsImportedComing, IsTextImported, IsTextTrouble};
 ghost use Rattle.tally_commands.specs.Imported.{IsTroubleComing, coming_of, import_text};
 ghost use Rattle.tally_commands.specs.Trouble.{IsTroubleOfText, IsTroubleOfRows};
+ghost use Rattle.tally_commands.specs.Troubles.{IsTroubleOfFileImport, IsTroubleOfImport};
+ghost use Rattle.tally_commands.specs.Written.{IsWritten};
 ghost use Rattle.tally_commands.specs.internal.Found.{IsFindTrouble};
 ghost use Rattle.tally_commands.specs.internal.Room.{room_of_lines};
+ghost use Rattle.tally_commands.specs.internal.Worked.{IsFileImported, IsFileTrouble};
 
+use crate::ending::close_and_print;
+use crate::files::open_file;
 use crate::named::con_with_code;
+use crate::offices::Offices;
 use crate::trouble::Trouble;
 use std::alloc::Global;
-use std::io::Read;
+use std::fs::File;
+use std::io::{Read, Write};
 use tally_import::room::{COUNT_ROOM, push_count};
 use tally_import::{LINE_ROOM, ReturnRows, Sep, Watch, list_codes, push_lines};
 use tally_keeper::{ImportCount, Keeper, NamedRow, ROW_LIMIT, RowSource};
 use tally_setup::{Code, Constituency, Setup};
+
+/// Lodges the returns of a file, and with `lines` names each row that is not lodged.
+pub fn import_at<O: Offices, W: Write>(
+    rt: &HostRuntime,
+    offices: &O,
+    db: &str,
+    con: &str,
+    csv: &str,
+    sep: Sep,
+    lines: bool,
+    output: &mut W,
+) -> Result<(), Trouble>
+    ensures written { IsWritten W.contents (IsCountText lines) output.old output.new result }
+    ensures named { IfErr result IsTroubleOfImport }
+{
+    let mut office = match offices.open_office(rt, db) {
+        Ok(office) => office,
+        Err(trouble) => return Err(trouble),
+    };
+    let outcome = import_file(rt, &mut office, con, csv, sep, lines, &mut Watch::new());
+    close_and_print(rt, offices, db, office, outcome, output)
+}
+
+/// The text of the import of a file. The constituency is looked up before the file is opened. A
+/// failed read is answered only where one was noted on the watch; where the rows were imported,
+/// none was.
+fn import_file<K: Keeper>(
+    rt: &HostRuntime,
+    keeper: &mut K,
+    con: &str,
+    csv: &str,
+    sep: Sep,
+    lines: bool,
+    watch: &mut Watch<File>,
+) -> Result<String, Trouble>
+    ensures stays { StaysKeeper K.Keeper keeper.old keeper.new }
+    ensures text { IfOk result (λ text. IsCountText lines (string_bytes text)) }
+    ensures named { IfErr result IsTroubleOfFileImport }
+    ensures read { K.IsTrusted keeper.new →
+        result ≡ Err Trouble.Read → has_failed watch.new ≡ true }
+    ensures all_read { K.IsTrusted keeper.new → OnOk result (NotesNothing watch.old watch.new) }
+    ensures imported { K.IsTrusted keeper.new → IfOk result (λ text.
+        IsFileImported con.now sep lines (K.constituencies keeper.old) (K.content keeper.old)
+        (string_bytes text) (K.content keeper.new)) }
+    ensures trouble { K.IsTrusted keeper.new → IfErr result (λ trouble.
+        IsFileTrouble con.now sep (K.constituencies keeper.old) (K.content keeper.old)
+        trouble (K.content keeper.new)) }
+{
+    if !has_con(keeper.setup(), con) {
+        return Err(Trouble::NoConstituency);
+    }
+    match open_file(rt, csv) {
+        Ok(file) => import_returns(rt.alloc(), keeper, con, sep, lines, file, watch),
+        Err(trouble) => Err(trouble),
+    }
+}
 
 /// Whether the setup has a constituency of this code.
 pub fn has_con(setup: &Setup, code: &str) -> bool

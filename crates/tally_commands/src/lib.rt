@@ -1,7 +1,9 @@
-//! What the commands of the program do over an office that is open: reports and the progress as
-//! text, imports; why a command was not done; and what the offices are that commands open.
+//! What the commands of the program do over an office: new offices, imports, reports and the
+//! progress as text; why a command was not done; and what the offices are that commands open.
 #![tactic(auto)]
 
+mod ending;
+mod files;
 mod import;
 mod make;
 mod named;
@@ -12,11 +14,12 @@ mod show;
 mod standard_error;
 mod trouble;
 
-pub use import::{has_con, import_from, import_returns};
-pub use make::{CONSTITUENCIES_ROOM, constituencies_text, judge_setup};
+pub use ending::{close_and_print, line_room};
+pub use import::{has_con, import_at, import_from, import_returns};
+pub use make::{CONSTITUENCIES_ROOM, constituencies_text, judge_setup, make_at};
 pub use offices::Offices;
 pub use serve::{LISTENING_ROOM, SERVED_ROOM, listening_text, served_text};
-pub use show::{show_country, show_progress, show_report, show_stations};
+pub use show::{show_at, show_country, show_progress, show_report, show_stations};
 pub use standard_error::tell;
 pub use tally_import::{Sep, Watch};
 pub use tally_overview::{Shown, StationsReport};

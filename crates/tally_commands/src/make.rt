@@ -1,20 +1,73 @@
-//! What a text is judged before an office is made of it, and what is reported of one that was made.
+//! New offices: what a text is judged before one is made of it, and what is reported of one that
+//! was made. Errors are matched and returned, and not passed on by `?`, since the `?` of an enum
+//! that holds a text (`Trouble`) has no proof yet.
 
-ghost use Rattle.std.specs.Prelude.{◌≡◌, ◌≤◌, ◌+◌, ◌++◌, IfErr, IsOk, OnErr, OnOk, string_bytes};
-ghost use Rattle.std.specs.Prelude.{string_len, string_capacity};
+ghost use Rattle.std.specs.Prelude.{◌≡◌, ◌≤◌, ◌+◌, ◌++◌, [], IfErr, IsOk, OnErr, OnOk};
+ghost use Rattle.std.specs.Prelude.{string_bytes, string_len, string_capacity};
 ghost use Rattle.tally_rules.specs.Reading.{setup_of_text};
-ghost use Rattle.tally_commands.specs.Made.{IsJudged, constituencies_text};
+ghost use Rattle.tally_commands.specs.Made.{IsJudged, IsMadeText, constituencies_text};
 ghost use Rattle.tally_commands.specs.Trouble.{IsTroubleOfMaking};
+ghost use Rattle.tally_commands.specs.Troubles.{IsTroubleOfNew};
+ghost use Rattle.tally_commands.specs.Written.{IsWritten};
 ghost use Rattle.tally_commands.specs.internal.Judged.{placed_trouble};
 
+use crate::ending::{close_and_print, line_room};
+use crate::files::read_setup_text;
+use crate::offices::Offices;
 use crate::trouble::{Trouble, copy_of};
 use std::alloc::{AllocError, Global};
+use std::io::Write;
 use tally_import::room::push_number;
+use tally_keeper::Keeper;
 use tally_rules::{Place, SetupFault, read_setup_placed};
 use tally_setup::Setup;
 
 /// The most bytes that the number of constituencies has as text.
 pub const CONSTITUENCIES_ROOM: usize = 32;
+
+/// Makes an office of a setup, which is judged before the database is opened.
+pub fn make_at<O: Offices, W: Write>(
+    rt: &HostRuntime,
+    offices: &O,
+    db: &str,
+    setup: &str,
+    output: &mut W,
+) -> Result<(), Trouble>
+    ensures written { IsWritten W.contents IsMadeText output.old output.new result }
+    ensures named { IfErr result IsTroubleOfNew }
+{
+    let text = match read_setup_text(rt, setup) {
+        Ok(text) => text,
+        Err(trouble) => return Err(trouble),
+    };
+    match judge_setup(rt.alloc(), text.as_slice()) {
+        Ok(()) => {}
+        Err(trouble) => return Err(trouble),
+    }
+    let line = match line_room(rt, CONSTITUENCIES_ROOM) {
+        Ok(line) => line,
+        Err(trouble) => return Err(trouble),
+    };
+    let office = match offices.make_office(rt, db, text.as_slice()) {
+        Ok(office) => office,
+        Err(trouble) => return Err(trouble),
+    };
+    let text = made_text(line, &office);
+    close_and_print(rt, offices, db, office, Ok(text), output)
+}
+
+/// The number of the constituencies, in a line that is empty and has the room: it takes no memory.
+fn made_text<K: Keeper>(mut line: String, keeper: &K) -> String
+    requires empty { string_bytes line ≡ [] }
+    requires len { string_len line ≡ 0 }
+    requires room { CONSTITUENCIES_ROOM ≤ string_capacity line }
+    ensures { string_bytes result ≡ constituencies_text (K.constituencies keeper.now) }
+{
+    match constituencies_text(&mut line, keeper.setup()) {
+        Ok(()) => line,
+        Err(_) => unreachable!(),
+    }
+}
 
 /// Appends how many constituencies a setup has. A text that has the room takes no memory.
 pub fn constituencies_text(text: &mut String, setup: &Setup) -> Result<(), AllocError>

@@ -1,11 +1,13 @@
-//! What the office shows, as text.
+//! What the office shows, as text. Errors are matched and returned, and not passed on by `?`, since
+//! the `?` of an enum that holds a text (`Trouble`) has no proof yet.
 
 ghost use Rattle.std.specs.List.{AllZip};
-ghost use Rattle.std.specs.Prelude.{◌≡◌, Err, IfErr, IfOk, None, Some, string_bytes};
+ghost use Rattle.std.specs.Prelude.{◌≡◌, Err, IfErr, IfOk, None, Some, is_some, option_map};
+ghost use Rattle.std.specs.Prelude.{string_bytes, true};
 ghost use Rattle.tally_keeper.specs.StaysKeeper.{StaysKeeper};
 ghost use Rattle.tally_overview.specs.CountryText.{country_text};
 ghost use Rattle.tally_report.specs.ProgressText.{progress_text};
-ghost use Rattle.tally_overview.specs.Shown.{stations_report};
+ghost use Rattle.tally_overview.specs.Shown.{needs_con, stations_report};
 ghost use Rattle.tally_returns.specs.View.{FitsView};
 ghost use Rattle.tally_setup.specs.Setup.{constituency_with};
 ghost use Rattle.tally_report.specs.Reports.{IsEnoughFor, report_fault};
@@ -14,17 +16,75 @@ ghost use Rattle.tally_commands.specs.Trouble.{IsTroubleOfReport};
 ghost use Rattle.tally_commands.specs.Show.{AreStationsShown, IsCountryShown, IsCountryTrouble};
 ghost use Rattle.tally_commands.specs.Show.{IsGiven, IsProgressShown, IsProgressTrouble};
 ghost use Rattle.tally_commands.specs.Show.{IsReportShown, IsReportTrouble, IsStationsTrouble};
+ghost use Rattle.tally_commands.specs.Troubles.{IsTroubleOfShow};
+ghost use Rattle.tally_commands.specs.Written.{IsAnyText, IsWritten};
 ghost use Rattle.tally_commands.specs.internal.Withheld.{IsWithheld, OfCon, refusal_trouble};
+ghost use Rattle.tally_commands.specs.internal.Worked.{IsShowTrouble, IsTextShown};
 
+use crate::ending::close_and_print;
 use crate::named::code_named;
+use crate::offices::Offices;
 use crate::trouble::Trouble;
 use std::alloc::Global;
+use std::io::Write;
 use tally_keeper::{ConView, Keeper, ProgressRow, Refusal, StationRow};
 use tally_overview::{
-    StationsReport, all_views, country_report, progress_of, stations_report_text, view_for,
+    Shown, StationsReport, all_views, country_report, progress_of, stations_report_text, view_for,
 };
 use tally_report::{Report, progress_text, report_text};
 use tally_setup::{Code, Setup};
+
+/// Prints a report, of the constituency that is named where it is of one.
+pub fn show_at<O: Offices, W: Write>(
+    rt: &HostRuntime,
+    offices: &O,
+    db: &str,
+    report: Shown,
+    con: Option<&str>,
+    output: &mut W,
+) -> Result<(), Trouble>
+    requires { needs_con report ≡ true → is_some con ≡ true }
+    ensures written { IsWritten W.contents IsAnyText output.old output.new result }
+    ensures named { IfErr result IsTroubleOfShow }
+{
+    let mut office = match offices.open_office(rt, db) {
+        Ok(office) => office,
+        Err(trouble) => return Err(trouble),
+    };
+    let outcome = show_in(rt, &mut office, report, con);
+    close_and_print(rt, offices, db, office, outcome, output)
+}
+
+/// The text of a report.
+fn show_in<K: Keeper>(
+    rt: &HostRuntime,
+    keeper: &mut K,
+    report: Shown,
+    con: Option<&str>,
+) -> Result<String, Trouble>
+    requires { needs_con report ≡ true → is_some con ≡ true }
+    ensures stays { StaysKeeper K.Keeper keeper.old keeper.new }
+    ensures named { IfErr result IsTroubleOfReport }
+    ensures shown { K.IsTrusted keeper.new → IfOk result (λ text.
+        IsTextShown (K.constituencies keeper.old) (K.content keeper.old) report
+        (option_map (λ c. c.now) con.entry) (string_bytes text) (K.content keeper.new)) }
+    ensures trouble { K.IsTrusted keeper.new → IfErr result (λ trouble.
+        IsShowTrouble (K.constituencies keeper.old) (K.content keeper.old) report
+        (option_map (λ c. c.now) con.entry) trouble (K.content keeper.new)) }
+{
+    match report {
+        Shown::Progress => show_progress(rt.alloc(), keeper),
+        Shown::Country => show_country(rt.alloc(), keeper),
+        Shown::Stations(which) => match con {
+            Some(con) => show_stations(rt.alloc(), keeper, con, which),
+            None => unreachable!(),
+        },
+        Shown::Report(which) => match con {
+            Some(con) => show_report(rt.alloc(), keeper, con, which),
+            None => unreachable!(),
+        },
+    }
+}
 
 /// A report of the constituency of a code. It is shown, and nothing changes.
 pub fn show_report<K: Keeper>(

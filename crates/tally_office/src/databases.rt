@@ -4,7 +4,7 @@
 ghost use Rattle.std.specs.Prelude.{◌≡◌, false, IfErr, IfOk};
 ghost use Rattle.tally_commands.specs.Trouble.{IsTroubleOfDatabase};
 
-use sqlite::{Connection, Error, ErrorCode, FileFrom, FileStore, Wary};
+use sqlite::{Alter, Connection, Error, ErrorCode, FileFrom, FileStore, Wary};
 use std::fs::{self, File};
 use std::io::{self, ErrorKind};
 use std::net::{Ipv4Addr, TcpListener};
@@ -72,11 +72,10 @@ impl Offices for Databases {
         match Store::create(rt.alloc(), conn, text) {
             Ok(office) => Ok(office),
             Err((conn, fault)) => {
-                if !was_made {
+                if was_made {
+                    remove_unused_files(rt, path, log.as_str(), conn);
+                } else {
                     let _closed = close(rt, path, conn);
-                } else if conn.schema().tables.as_slice().is_empty() {
-                    // As long as the connection is open, no other program has these files.
-                    let _ = remove_files(rt, path, log.as_str());
                 }
                 Err(Trouble::from_create(&fault))
             }
@@ -211,10 +210,24 @@ fn remove_empty(rt: &HostRuntime, path: &str, log: &str) -> io::Result<()> {
     fs::remove_file(rt, log)
 }
 
+/// Removes the files of a database that has no tables: as long as the connection is open, no other
+/// program has them. It is over any store, since a call over that of files takes long to prove.
+fn remove_unused_files<S: Alter + Drop>(
+    rt: &HostRuntime,
+    path: &str,
+    log: &str,
+    conn: Connection<S>,
+) {
+    if conn.schema().tables.as_slice().is_empty() {
+        let _ = remove_files(rt, path, log);
+    }
+}
+
 /// Closes a database, so that all of it is in its one file, and answers whether that was done. It
 /// is not where a disk that failed has shut the database.
 fn close(rt: &HostRuntime, path: &str, conn: FileConnection) -> bool {
     match conn.close_files() {
+        // The files are held, and with them the lock, until the log is gone: it might be another's.
         Ok(_files) => {
             let _ = remove_log(rt, path);
             true

@@ -1,2 +1,2 @@
-pub mod WrittenLemmas
+pub mod ServerLemmas
 pub mod LineLemmas

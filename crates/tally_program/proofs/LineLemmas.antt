@@ -11,11 +11,13 @@ use Rattle.tally_line.specs.declared.line.LineFault.{LineFault}
 use Rattle.tally_line.specs.declared.line.LineFault.TheVariants.{Usage, NoCon, Memory}
 use Rattle.tally_line.proofs.CommandLemmas.{lacks_con_alone}
 use Rattle.tally_commands.specs.Offices.{AtPath, AtPort, OpeningOutcome, Resource}
-use Rattle.tally_program.specs.Commands.{Bytes, IsAnyText, IsOutcomeReported, IsWritten, NotListening, TakesCourse, command_status}
+use Rattle.tally_commands.specs.Written.{Bytes, IsAnyText, IsWritten}
+use Rattle.tally_program.specs.Commands.{IsOutcomeReported, NotListening, TakesCourse, command_status}
 use Rattle.tally_program.specs.Perform.{Performs, PerformsLine}
 use Rattle.tally_program.specs.internal.Fault.{fault_status}
-use Rattle.tally_program.specs.Troubles.{IsTroubleOfServe}
-use Rattle.tally_program.proofs.WrittenLemmas.{any, counted, made, served, unwritten}
+use Rattle.tally_commands.specs.Troubles.{IsTroubleOfServe}
+use Rattle.tally_commands.proofs.WrittenLemmas.{any, counted, made, unwritten}
+use Rattle.tally_program.proofs.ServerLemmas.{served}
 
 -- out of memory, whatever the words ask for
 pub without-memory : {R W E : Type 0} (Opens : Resource → OpeningOutcome) (left : Bytes R) (held : Bytes W) (reported : Bytes E) (words : List (List ℕ)) (line : Option LineSeen)

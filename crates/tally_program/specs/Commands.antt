@@ -1,24 +1,16 @@
 -- What a command over an office leaves on the three streams of the program, and its exit status. No
 -- contract says what is in its files.
-use Rattle.std.specs.Prelude.{◌≡◌, ◌⊎◌, ℕ, List, Option, Result, Ok, Err, IfErr, take}
-use Rattle.std.specs.Io.KnownBytes.{Appends}
+use Rattle.std.specs.Prelude.{◌≡◌, ◌⊎◌, ℕ, List, Result, Ok, Err, IfErr}
 use Rattle.tally_commands.specs.Offices.{OpeningOutcome}
 use Rattle.tally_commands.specs.Served.{IsServedText, listening_line}
 use Rattle.tally_commands.specs.Reported.{IsReported}
 use Rattle.tally_commands.specs.Trouble.{IsTroubleOfOpening, trouble_line, trouble_status}
 use Rattle.tally_commands.specs.declared.trouble.Trouble.{Trouble}
-use Rattle.tally_commands.specs.declared.trouble.Trouble.TheVariants.{Memory, Port, Write}
-use Rattle.tally_program.specs.Troubles.{IsTroubleOfEnding, IsTroubleOfServe}
-
--- any text, where it takes the office to say more
-abbrev pub IsAnyText : List ℕ → Type 0
-IsAnyText text = Unit {0}
+use Rattle.tally_commands.specs.declared.trouble.Trouble.TheVariants.{Memory, Port}
+use Rattle.tally_commands.specs.Troubles.{IsTroubleOfEnding, IsTroubleOfServe}
+use Rattle.tally_commands.specs.Written.{Bytes, IsWritten}
 
 -- ---- the streams
-
--- what is known of the bytes that a stream has to give, or has taken
-abbrev pub Bytes : Type 0 → Type 0
-Bytes S = S → Option (List ℕ)
 
 -- The input, the output and the standard error of the program.
 pub record Streams (R W E : Type 0) : Type 0 where
@@ -30,16 +22,6 @@ abbrev pub streams : {R W E : Type 0} → R → W → E → Streams R W E
 streams input output errors = record { input = input; output = output; errors = errors }
 
 -- ---- how a command ends
-
--- Where it is done, one text of a kind was written whole; with the trouble `write`, a prefix of
--- one; with any other trouble the output is as it was.
-abbrev pub IsWritten : {W : Type 0} → Bytes W → (List ℕ → Type 0) → W → W
-    → Result (Unit {0}) Trouble → Type 0
-IsWritten held IsText old new (Ok done) =
-    (text : List ℕ) × IsText text × Appends (held old) (held new) text
-IsWritten held IsText old new (Err Write) =
-    (text : List ℕ) × (n : ℕ) × IsText text × Appends (held old) (held new) (take n text)
-IsWritten held IsText old new (Err other) = new ≡ old
 
 -- Nothing is reported where it is done, and the line of its trouble where it has one.
 abbrev pub IsOutcomeReported : {E : Type 0} → Bytes E → E → E → Result (Unit {0}) Trouble → Type 0

@@ -1,4 +1,3 @@
 pub mod internal
 pub mod Commands
 pub mod Perform
-pub mod Troubles

@@ -12,10 +12,10 @@ use Rattle.tally_commands.specs.declared.trouble.Trouble.{Trouble}
 use Rattle.tally_line.specs.Line.{CheckSeen, ImportSeen, LacksCon, LineSeen, NewSeen, ServeSeen}
 use Rattle.tally_line.specs.Line.{ShowSeen, line_of}
 use Rattle.tally_commands.specs.Offices.{AtPath, AtPort, OpeningOutcome, Resource}
-use Rattle.tally_program.specs.Commands.{Bytes, EndsCommand, EndsServer, IsAnyText}
-use Rattle.tally_program.specs.Commands.{IsOutcomeReported, Streams}
+use Rattle.tally_commands.specs.Troubles.{IsTroubleOfImport, IsTroubleOfNew, IsTroubleOfShow}
+use Rattle.tally_commands.specs.Written.{Bytes, IsAnyText}
+use Rattle.tally_program.specs.Commands.{EndsCommand, EndsServer, IsOutcomeReported, Streams}
 use Rattle.tally_program.specs.Commands.{command_status}
-use Rattle.tally_program.specs.Troubles.{IsTroubleOfImport, IsTroubleOfNew, IsTroubleOfShow}
 
 -- ---- checks
 

@@ -1,4 +1,3 @@
 -- Words of private contracts and of proofs. No promise to a caller speaks of them.
 pub mod Fault
 pub mod Served
-pub mod Worked

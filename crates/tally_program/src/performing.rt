@@ -7,9 +7,9 @@ ghost use Rattle.tally_program.specs.Commands.{IsOutcomeReported, command_status
 ghost use Rattle.tally_program.specs.Perform.{Performs, check_outcome, not_text_line};
 ghost use Rattle.tally_program.specs.internal.Fault.{fault_status};
 
-use crate::commands::{import, make, serve_office, show};
+use crate::serve::serve_office;
 use std::io::{self, ErrorKind, Read, Write};
-use tally_commands::{FAILED, Offices, Trouble, tell};
+use tally_commands::{FAILED, Offices, Trouble, import_at, make_at, show_at, tell};
 use tally_import::{CheckFault, check_csv};
 use tally_line::{Line, LineFault, read_line};
 
@@ -40,7 +40,7 @@ pub fn perform<O: Offices, R: Read, W: Write, E: Write>(
             report_check(outcome, errors)
         }
         Ok(Line::New { db, setup }) => {
-            let outcome = make(rt, offices, &db, &setup, output);
+            let outcome = make_at(rt, offices, &db, &setup, output);
             report_command(&outcome, errors)
         }
         Ok(
@@ -52,11 +52,11 @@ pub fn perform<O: Offices, R: Read, W: Write, E: Write>(
                 rows,
             },
         ) => {
-            let outcome = import(rt, offices, &db, &con, &csv, sep, rows, output);
+            let outcome = import_at(rt, offices, &db, &con, &csv, sep, rows, output);
             report_command(&outcome, errors)
         }
         Ok(Line::Show { db, report, con }) => {
-            let outcome = show(rt, offices, &db, report, con.as_deref(), output);
+            let outcome = show_at(rt, offices, &db, report, con.as_deref(), output);
             report_command(&outcome, errors)
         }
         Ok(Line::Serve { db, port, count }) => {

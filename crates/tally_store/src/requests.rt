@@ -144,7 +144,7 @@ pub(crate) fn show_stations<S: Alter>(
 
 /// Lodges the rows of a source in the database, and names those that are refused or bad. With a
 /// fault the database is as it was, unless a disk that failed has shut the connection, and nothing
-/// is known. Where no row was lodged nothing is written.
+/// is known. An import that is done and lodged no row has written nothing.
 pub(crate) fn import_rows<S: Alter, R: RowSource>(
     alloc: Global,
     conn: &mut Connection<S>,

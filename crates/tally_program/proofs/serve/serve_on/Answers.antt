@@ -1,6 +1,6 @@
 use Rattle.std.proofs.Common.{◌∙◌, subst}
 use Rattle.tally_commands.specs.Reported.{IsReported}
-use Rattle.tally_program.proofs.commands.serve_on.Goals as goal
+use Rattle.tally_program.proofs.serve.serve_on.Goals as goal
 
 pub returns-clause-said : goal.returns-clause-said
 returns-clause-said g c =

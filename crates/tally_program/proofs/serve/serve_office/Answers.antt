@@ -2,9 +2,10 @@ use Rattle.std.proofs.Common.{inl, inr, refl, string_bytes}
 use Rattle.tally_commands.specs.Served.{IsServedText}
 use Rattle.tally_commands.specs.Offices.{AtPath, AtPort}
 use Rattle.tally_program.specs.Commands.{IsTroubleOfListening, NotListening}
-use Rattle.tally_program.specs.Troubles.{IsTroubleOfServe}
-use Rattle.tally_program.proofs.WrittenLemmas.{ended, ended-named, served, serving, takes, unwritten}
-use Rattle.tally_program.proofs.commands.serve_office.Goals as goal
+use Rattle.tally_commands.specs.Troubles.{IsTroubleOfServe}
+use Rattle.tally_commands.proofs.WrittenLemmas.{ended, ended-named, unwritten}
+use Rattle.tally_program.proofs.ServerLemmas.{served, serving, takes}
+use Rattle.tally_program.proofs.serve.serve_office.Goals as goal
 
 pub returns-in-Err-clause-written : goal.returns-in-Err-clause-written
 returns-in-Err-clause-written g c = unwritten g.W.Write.contents (IsServedText c.args.count) (served c.args.count) c.args.output.now c.in-Err.unopened

@@ -1,9 +1,9 @@
 use Rattle.std.proofs.Common.{inl, inr, string_bytes}
-use Rattle.tally_program.specs.Commands.{IsAnyText}
+use Rattle.tally_commands.specs.Written.{IsAnyText}
 use Rattle.tally_commands.specs.Trouble.{IsTroubleOfReport}
-use Rattle.tally_program.specs.Troubles.{IsTroubleOfShow}
-use Rattle.tally_program.proofs.WrittenLemmas.{any, any_text, ended, ended-named, unwritten}
-use Rattle.tally_program.proofs.commands.show.Goals as goal
+use Rattle.tally_commands.specs.Troubles.{IsTroubleOfShow}
+use Rattle.tally_commands.proofs.WrittenLemmas.{any, any_text, ended, ended-named, unwritten}
+use Rattle.tally_commands.proofs.show.show_at.Goals as goal
 
 pub returns-in-Err-clause-written : goal.returns-in-Err-clause-written
 returns-in-Err-clause-written g c = unwritten g.W.Write.contents IsAnyText any c.args.output.now c.in-Err.trouble

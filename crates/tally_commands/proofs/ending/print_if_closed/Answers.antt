@@ -1,6 +1,6 @@
 use Rattle.std.proofs.Common.{ℕ, List, refl, subst, take}
 use Rattle.std.specs.Io.KnownBytes.{Appends}
-use Rattle.tally_program.proofs.commands.print_if_closed.Goals as goal
+use Rattle.tally_commands.proofs.ending.print_if_closed.Goals as goal
 
 pub returns-in-Ok-clause-written : goal.returns-in-Ok-clause-written
 returns-in-Ok-clause-written g c = (c.args.text.now, refl, subst (Appends _ _) c.as_bytes.ensures.value c.in-Ok.ensures.ok)

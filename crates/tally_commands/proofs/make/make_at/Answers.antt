@@ -1,7 +1,7 @@
 use Rattle.std.proofs.Common.{string_bytes}
 use Rattle.tally_commands.specs.Made.{IsMadeText}
-use Rattle.tally_program.proofs.WrittenLemmas.{made, of_kind, unwritten}
-use Rattle.tally_program.proofs.commands.make.Goals as goal
+use Rattle.tally_commands.proofs.WrittenLemmas.{made, of_kind, unwritten}
+use Rattle.tally_commands.proofs.make.make_at.Goals as goal
 
 pub returns-in-Err-clause-written : goal.returns-in-Err-clause-written
 returns-in-Err-clause-written g c = unwritten g.W.Write.contents IsMadeText made c.args.output.now c.in-Err.trouble

@@ -2,17 +2,17 @@
 //! passed on by `?`, since the `?` of an enum that holds a text (`Trouble`) has no proof yet.
 
 ghost use Rattle.std.specs.Prelude.{IfErr};
-ghost use Rattle.tally_program.specs.Troubles.{IsTroubleOfFile, IsTroubleOfReading};
+ghost use Rattle.tally_commands.specs.Troubles.{IsTroubleOfFile, IsTroubleOfReading};
 
+use crate::trouble::{Trouble, is_memory};
 use std::fs::File;
 use std::io::Read;
-use tally_commands::{Trouble, is_memory};
 
 /// How much of a setup is read: a text that is longer than this less one byte is over its limit.
 const SETUP_BYTES: u64 = 8_388_609;
 
 /// Opens a file that is read.
-pub fn open_file(rt: &HostRuntime, path: &str) -> Result<File, Trouble>
+pub(crate) fn open_file(rt: &HostRuntime, path: &str) -> Result<File, Trouble>
     ensures named { IfErr result IsTroubleOfFile }
 {
     match File::open(rt, path) {
@@ -23,7 +23,7 @@ pub fn open_file(rt: &HostRuntime, path: &str) -> Result<File, Trouble>
 }
 
 /// The text of a setup, up to one byte past its limit where it is longer.
-pub fn read_setup_text(rt: &HostRuntime, path: &str) -> Result<Vec<u8>, Trouble>
+pub(crate) fn read_setup_text(rt: &HostRuntime, path: &str) -> Result<Vec<u8>, Trouble>
     ensures named { IfErr result IsTroubleOfReading }
 {
     let file = match open_file(rt, path) {

@@ -1,8 +1,8 @@
 use Rattle.std.proofs.Common.{inl, inr, string_bytes}
 use Rattle.tally_commands.specs.Imported.{IsCountText}
-use Rattle.tally_program.specs.Troubles.{IsTroubleOfImport, IsTroubleOfFileImport}
-use Rattle.tally_program.proofs.WrittenLemmas.{counted, ended, ended-named, unwritten}
-use Rattle.tally_program.proofs.commands.import.Goals as goal
+use Rattle.tally_commands.specs.Troubles.{IsTroubleOfImport, IsTroubleOfFileImport}
+use Rattle.tally_commands.proofs.WrittenLemmas.{counted, ended, ended-named, unwritten}
+use Rattle.tally_commands.proofs.import.import_at.Goals as goal
 
 pub returns-in-Err-clause-written : goal.returns-in-Err-clause-written
 returns-in-Err-clause-written g c = unwritten g.W.Write.contents (IsCountText c.args.lines) (counted c.args.lines) c.args.output.now c.in-Err.trouble

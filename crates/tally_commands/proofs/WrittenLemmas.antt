@@ -1,17 +1,14 @@
 -- What a command writes: nothing where it had a trouble before, and a
 -- text of a kind where it wrote one that is of the kind.
-use Rattle.std.proofs.Common.{◌≡◌, ◌⊎◌, ℕ, Bool, List, [], Option, Some, None, Result, Ok, Err, IfOk, IfErr, OnOk, OnErr, refl, sym, subst, append-nil, arith, inl, inr}
+use Rattle.std.proofs.Common.{◌≡◌, ℕ, Bool, List, [], Option, Some, None, Result, Ok, Err, IfOk, IfErr, OnOk, refl, sym, subst, append-nil}
 use Rattle.std.specs.Io.KnownBytes.{Appends}
 use Rattle.tally_keeper.specs.declared.import.ImportCount.{ImportCount}
 use Rattle.tally_commands.specs.Imported.{IsCountText, import_text}
 use Rattle.tally_commands.specs.Made.{IsMadeText, constituencies_text}
-use Rattle.tally_commands.specs.Served.{IsServedText, listening_line, served_line}
-use Rattle.tally_commands.specs.Reported.{IsReported}
 use Rattle.tally_commands.specs.declared.trouble.Trouble.{Trouble}
 use Rattle.tally_commands.specs.declared.trouble.Trouble.TheVariants as trouble
-use Rattle.tally_commands.specs.Offices.{OpeningOutcome}
-use Rattle.tally_program.specs.Commands.{Bytes, IsAnyText, IsTroubleOfListening, IsWritten, Listened, NotListening, TakesCourse}
-use Rattle.tally_program.specs.Troubles.{IsTroubleOfEnding, IsTroubleBeforeServing}
+use Rattle.tally_commands.specs.Troubles.{IsTroubleOfEnding}
+use Rattle.tally_commands.specs.Written.{Bytes, IsAnyText, IsWritten}
 
 appends-nothing : (held : Option (List ℕ)) → Appends held held []
 appends-nothing None = tt
@@ -32,9 +29,6 @@ counted lines = (import_text lines [] no_rows [], ([], no_rows, [], refl))
 
 pub any : Example IsAnyText
 any = ([], tt)
-
-pub served : (count : ℕ) → Example (IsServedText count)
-served count = (served_line 0 count, (0, count, omega arith, refl))
 
 pub any_text : {S : Type 0} (bytes : S → List ℕ) (outcome : Result S Trouble) → IfOk outcome (λ text. IsAnyText (bytes text))
 any_text bytes (Ok text) = tt
@@ -102,21 +96,3 @@ pub ended-named : {S : Type 0} (Same : Type 0) (Own Whole : Trouble → Type 0) 
 ended-named Same Own Whole own ending (Ok text) r named ends fails = named-weaker IsTroubleOfEnding Whole ending r ends
 ended-named Same Own Whole own ending (Err t) r named ends fails =
     subst (λ (r : Result (Unit {0}) Trouble). IfErr r Whole) (sym fails.0) (own t named)
-
--- a trouble of listening is one before serving
-pub serving : (Listens : OpeningOutcome) (t : Trouble) → IsTroubleOfListening Listens t → IsTroubleBeforeServing t
-serving Listens t (inl memory) = inl memory
-serving Listens t (inr port) = inr port.0
-
--- the course of a server whose office was opened, by what serving came to, and then its ending
-pub takes : {E S : Type 0} (Opens Listens : OpeningOutcome) (reported : Bytes E) (port count : ℕ) (Same : Type 0) (old new : E) (outcome : Result S Trouble) (r : Result (Unit {0}) Trouble)
-    → Opens (Ok tt) → OnOk outcome (Listens (Ok tt)) → OnOk outcome (IsReported (reported old) (reported new) (listening_line port count)) → OnErr outcome (new ≡ old) → IfErr outcome (IsTroubleOfListening Listens)
-    → OnOk outcome (IfErr r IsTroubleOfEnding) → IfErr outcome (λ t. (r ≡ Err t) × Same) → TakesCourse Opens Listens reported port count old new r
-takes Opens Listens reported port count Same old new (Ok text) r opened listens said silent listening ends fails =
-    record { course = Listened r; is = refl; named = (opened, listens, ends); says = said }
-takes Opens Listens reported port count Same old new (Err t) r opened listens said silent listening ends fails =
-    record { course = NotListening t; is = fails.0; named = inr (unopened listening); says = silent }
-  where
-    unopened : IsTroubleOfListening Listens t → (t ≡ trouble.Memory) ⊎ (Opens (Ok tt) × (t ≡ trouble.Port) × Listens (Err t))
-    unopened (inl memory) = inl memory
-    unopened (inr port) = inr (opened, port.0, port.1)

@@ -12,7 +12,7 @@ use Rattle.tally_commands.specs.Show.{AreStationsShown, IsCountryShown, IsCountr
 use Rattle.tally_commands.specs.Show.{IsProgressShown, IsProgressTrouble, IsReportShown}
 use Rattle.tally_commands.specs.Show.{IsReportTrouble, IsStationsTrouble}
 use Rattle.tally_commands.specs.declared.trouble.Trouble.{Trouble}
-use Rattle.tally_program.specs.Troubles.{IsTroubleOfFile}
+use Rattle.tally_commands.specs.Troubles.{IsTroubleOfFile}
 
 -- The text is the report that is named, of the constituency of this code where it is of one.
 abbrev pub IsTextShown : List Constituency → Option State → Shown → Option (List ℕ) → List ℕ
