@@ -331,7 +331,8 @@ def print_sums(given, returns):
 
 def print_lots(audit):
     for it in audit.lots:
-        print(f"A lot decided that {it.words}: the votes of the two are equal.")
+        # (here the order of the setup gave the seat to the first)
+        print(f"A lot decided between {it.words.replace(' comes before ', ' and ')}: the votes of the two are equal.")
     print("No sample can confirm what a lot decided: count all papers.")
 
 
@@ -351,8 +352,9 @@ def print_outcome(audit):
     print(f"{con.code} {con.name}: {con.seats} seats by {RULES[con.method]}{threshold}")
     print(f"{len(con.electors):,} stations, all closed, with {electors:,} electors; {sum(audit.votes):,} votes for lists, "
           f"{audit.blank:,} blank, {audit.spoiled:,} spoiled")
+    in_question = {place for it in audit.lots for place, _ in it.terms[:2]}
     for i, code in enumerate(con.lists):
-        seats = "lot" if audit.lots else audit.seats[i]
+        seats = "lot" if i in in_question else audit.seats[i]
         print(f"  {code:16} {audit.votes[i]:12,} {seats:>5}{'' if i in audit.taking_part else '  below the threshold'}")
 
 

@@ -284,7 +284,8 @@ def read_setup(file):
     profiles = {profile["code"]: profile for profile in setup["profile"]}
     found = []
     for con in setup["constituency"]:
-        rule = {key: profiles[con["profile"]][key] for key in ("method", "threshold", "base")}
+        profile = {"lot": "fixed"} | profiles[con["profile"]]
+        rule = {key: profile[key] for key in ("method", "threshold", "base", "lot")}
         lists = [{key: row[key] for key in ("code", "name", "candidates")} for row in con["list"]]
         stations = [{key: row[key] for key in ("code", "electors")} for row in con["station"]]
         found.append({"code": con["code"], "name": con["name"], "seats": con["seats"], **rule, "lists": lists,

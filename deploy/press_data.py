@@ -10,7 +10,7 @@ import xml.etree.ElementTree as ET
 
 # Of the form of the files. The first number is raised when something goes or means something else,
 # the second when something is added.
-VERSION = "1.0.0"
+VERSION = "1.1.0"
 
 # In the name of a file of returns, in the place of the edition of a certificate.
 OPEN = "open"
@@ -106,7 +106,8 @@ REPORTS = {
     "awards": described(an_array(an_object({
         "seat": FROM_ONE, **OF_LIST, "of_list": described(FROM_ONE, "Which of the list’s seats it is."), "votes": VOTES,
         "divisor": FROM_ONE, "quotient": described(COUNT, "Rounded down; the rule compares it whole.")})), "The seats in the order of their award."),
-    "short": an_array(an_object(OF_LIST | {"seats": COUNT, "short": described(or_null(COUNT), "Votes that it lacked for one seat more.")})),
+    "short": an_array(an_object(OF_LIST | {"seats": COUNT, "short": described(
+        or_null(COUNT), "Votes that it lacked for one seat more, whatever lot is drawn, with the same other votes and eligible lists.")})),
     "quota": an_object({"votes": COUNT, "seats": COUNT, "lists": an_array(an_object(OF_LIST | {
         "votes": VOTES, "whole": COUNT, "remainder": COUNT, "seats": COUNT}))}),
 }
@@ -119,6 +120,8 @@ SCHEMAS = {
     "setup": ("The setup of the election: setup.json", an_array(an_object({
         "code": PROGRESS["con"], "name": RESULTS["con_name"], "seats": COUNT, "method": {"enum": ["dhondt", "sainte-lague", "modified-sainte-lague", "hare"]},
         "threshold": described(COUNT, "In hundredths of a per cent."), "base": {"enum": ["valid", "lists"]},
+        "lot": described({"enum": ["fixed", "alternating"]},
+                         "Alternating: the order of a lot is turned round for the second, fourth, .. seat of its lists, but not under hare."),
         "lists": an_array(an_object({"code": CODE, "name": TEXT, "candidates": an_array(TEXT)})),
         "stations": an_array(an_object({"code": CODE, "electors": COUNT}))}))),
     "manifest": ("All files: manifest.json", an_object(

@@ -483,7 +483,9 @@ def seats_sections(site, code, con, row, entry, room):
     values = {"edition": con["seats"]["edition"], "seats": site.number(total)}
     said = site.say("certified_by", **values, method=site.words["methods"][entry["method"]]) if entry else site.say("certified_in", **values)
     lot = con["view"]["lot"]
-    drawn = f'<p>{site.say("lot", lists=escaped(site.say("lot_then").join(lot)))}</p>\n' if lot else ""
+    # (of Hare's rule a list has one claim to a seat, for which the order is as it was drawn)
+    turned = f' {site.say("lot_turned")}' if entry and entry["lot"] == "alternating" and entry["method"] != "hare" else ""
+    drawn = f'<p>{site.say("lot", lists=escaped(site.say("lot_then").join(lot)))}{turned}</p>\n' if lot else ""
     heads = (site.say("list"), changing(site, "seats", before))
     ordered = {listed["code"]: seats[listed["code"]] for listed in by_votes(con)}
     return sections(site.say("seats"), f'<p>{said}</p>\n<div class="pair">\n{half_circle(site, ordered, total) if total else ""}',

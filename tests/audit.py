@@ -467,11 +467,24 @@ def test_a_lot():
     given(returns="station,slip,blank,spoiled,A,B\ns1,p1,0,0,50,20\ns2,p2,0,0,50,30\ns3,p3,0,0,0,50\n")
     ran = run(f"plan {GIVEN} --risk 5")
     same((ran.status, ran.err), (0, ""))
-    assert "A lot decided that A's seat 2 comes before B's seat 2: the votes of the two are equal.\n" in ran.out, ran.out
+    assert "A lot decided between A's seat 2 and B's seat 2: the votes of the two are equal.\n" in ran.out, ran.out
     assert "No sample can confirm what a lot decided: count all papers.\n" in ran.out and "U =" not in ran.out, ran.out
     same(run(f"draw {GIVEN} --seed {SEED} --draws 5"),
          Ran(2, "", "audit.py: no station is drawn: a lot decided a seat, so all papers are counted (--all)\n"))
     same(run(f"draw {GIVEN} --all").out, DRAWN + "s1,0,,,,\ns2,0,,,,\ns3,0,,,,\n")
+
+
+def test_whose_seats_a_lot_decided():
+    """Of five seats by D'Hondt A, with 150 votes, has three, and B, with 100, one: of C and D, with 50 each, one has the fifth. E
+    has too few votes to take part."""
+    setup = (profile("d5", threshold=500) + constituency("c1", "Town", 5, "d5")
+             + "".join(party_list(code, code, "Ana") for code in "ABCDE") + station("s1", 400))
+    for seats, wanted in ((5, ["3", "1", "lot", "lot", "0"]), (6, ["3", "1", "1", "1", "0"])):
+        given(setup=setup.replace("seats = 5", f"seats = {seats}"), returns="station,slip,blank,spoiled,A,B,C,D,E\ns1,p1,0,0,150,99,50,50,5\n")
+        ran = run(f"plan {GIVEN} --risk 5")
+        same((ran.status, ran.err, re.findall(r"^  ([A-E]) +\d+ +(\w+)", ran.out, re.M)), (0, "", list(zip("ABCDE", wanted))))
+    # (of six seats nobody's lot is needed)
+    assert "lot" not in ran.out, ran.out
 
 
 # What is wrong with papers, and what is said of it.

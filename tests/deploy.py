@@ -40,7 +40,7 @@ from pathlib import Path
 
 import browser
 import model
-from office import TABLES, constituency, party_list, profile, station, with_stations
+from office import PROFILE, TABLES, constituency, party_list, profile, station, with_stations
 from running import PATIENCE, Skipped, free_port, run_tests, slowness, take_signals, tries, until
 
 ROOT = Path(__file__).resolve().parent.parent
@@ -1294,7 +1294,7 @@ def test_a_page_of_the_press():
     same(page.tables["Awards in order"][1:], [["1", "B", "1", "100", "1", "100"], ["2", "A", "1", "100", "1", "100"],
                                               ["3", "B", "2", "100", "2", "50"]])
     same(page.tables["Quotients of each list"][1:], [["A", "100 ★ won", "50", "33"], ["B", "100 ★ won", "50 ★ won", "33"]])
-    same(page.tables["Votes that a list lacked for one seat more, if the others had stayed as they are"][1:],
+    same(page.tables["Votes that a list lacked for one seat more, whatever lot is drawn, with the same other votes and eligible lists"][1:],
          [["A", "1", "1"], ["B", "2", "200"]])
     same(page.tables["Returns of the stations"][1:], [["1", "0", "0", "0", "0", "1"]])
     text = read("con-c1.html")
@@ -1311,10 +1311,47 @@ def test_a_page_of_the_press():
     found = json.loads(read("con-c1.json"))
     same((found["view"], found["texts"]["seats"]), (TWIN["/con/c1"], TWIN["/con/c1/seats"]))
     same(json.loads(read("setup.json")), [{
-        "code": "c1", "name": "Twin Town", "seats": 3, "method": "dhondt", "threshold": 0, "base": "valid",
+        "code": "c1", "name": "Twin Town", "seats": 3, "method": "dhondt", "threshold": 0, "base": "valid", "lot": "fixed",
         "lists": [{"code": "A", "name": "Alpha", "candidates": ["Ana", "Abel"]}, {"code": "B", "name": "Beta", "candidates": ["Bea"]}],
         "stations": [{"code": "s1", "electors": 300}]}])
     same([name for name in os.listdir("pages") if name.startswith(".")], [])
+
+
+# Three seats of two lists with as many votes, by the lot B, A: the rule, those of each list, and
+# whether the page says that the order is turned round.
+LOTS = (("dhondt", "fixed", [1, 2], False), ("dhondt", "alternating", [2, 1], True), ("hare", "alternating", [1, 2], False))
+
+
+def test_a_page_after_a_lot():
+    """Where lots alternate the page says so, and setup.json. The list that the lot left out lacked no vote: with one more it would
+    have one more seat. The published files, with the setup, are counted to the same seats again by the lot that is published."""
+    os.mkdir("returns")
+    for method, lot, seats, turned in LOTS:
+        setup = with_stations(1).replace(PROFILE, f'{profile("d0", method)}lot = "{lot}"\n')
+        Path("setup.toml").write_text(setup, encoding="utf-8")
+        with modelled(setup) as (office, port):
+            done(office, "/station/s1/lodge", {"slip": "p1", "votes": [100, 100], "blank": 0, "spoiled": 0})
+            done(office, "/station/s1/close", {"rev": 1})
+            done(office, "/con/c1/draw", {"edition": 1, "order": ["B", "A"]})
+            done(office, "/con/c1/certify", {"edition": 2})
+            press(port, "--setup", "setup.toml")
+            press(port, "--setup", "setup.toml", *site_folder(site='language = "es"\n'), folder="es")
+        same(page_of("con-c1.html").tables["Seats of each list"][1:], [["A Alpha", str(seats[0])], ["B Beta", str(seats[1])], ["Total", "3"]])
+        for folder, said, more in (
+                ("pages", "A lot was drawn: first B, then A.", " For a list’s second seat, its fourth and so on this order is turned round."),
+                ("es", "Hubo sorteo: primero B, después A.", " Para el segundo escaño de una lista, el cuarto y así sucesivamente, este orden se invierte.")):
+            assert f"<p>{said}{more if turned else ''}</p>" in read("con-c1.html", folder), (folder, lot)
+        same([entry["lot"] for entry in json.loads(read("setup.json"))], [lot])
+        least = "AB"[seats.index(1)]
+        for folder, said in (("pages", f"{least} would have one more seat in Twin Town with 1 more vote"),
+                             ("es", f"{least} tendría un escaño más en Twin Town con 1 voto más")):
+            text = shown_text(read("index.html", folder))
+            same((folder, method, said in text, "lacked 1" in text), (folder, method, method != "hare", False))
+        Path("returns/c1.csv").write_text(read("stations-c1-3.csv"), encoding="utf-8")
+        Path("lots").write_text(" ".join(["c1", *json.loads(read("con-c1.json"))["view"]["lot"]]), encoding="utf-8")
+        words = [sys.executable, ROOT / "examples/recount.py", "--setup", "setup.toml", "--returns", "returns"]
+        same(ran(*words, "--lots", "lots"), f"c1 A {seats[0]} B {seats[1]} (1 of 1 stations)\n")
+        assert ran(*words, status=1).endswith("; a lot is missing)\n")
 
 
 def test_a_code_in_capitals():
@@ -1585,9 +1622,9 @@ def test_the_page_of_a_country():
         assert 'aria-label="Seats as a half circle of dots: B 3, A 2, open 5.' in read("index.html")
         dots = re.findall(r'<g class="([\w-]+)"><path d="([^"]*)"', read("index.html"))
         same([(of, path.count("h0")) for of, path in dots], [("list-B", 3), ("list-A", 2), ("open-seats", 5)])
-        same([shown_text(item) for item in re.findall("<li>(.*? lacked .*?)</li>", read("index.html"))], [
-            "B lacked 11 votes for a seat in Norte", "A lacked 11 votes for a seat in Este", "C lacked 31 votes for a seat in Este",
-            "C lacked 46 votes for a seat in Norte", "A lacked 170 votes for a seat in Norte"])
+        same([shown_text(item) for item in re.findall("<li>(.*? one more seat .*?)</li>", read("index.html"))], [
+            f"{of} would have one more seat in {con} with {votes} more votes"
+            for votes, of, con in ((11, "B", "Norte"), (11, "A", "Este"), (31, "C", "Este"), (46, "C", "Norte"), (170, "A", "Norte"))])
         same(page.tables["Constituencies in the order of their names"][1:], [
             ["Este certified", "B", "B 2", "100.00 %"], ["Norte certified", "A", "A 2 B 1", "100.00 %"],
             ["Óeste <3> no certificate yet", "D", "–", "50.00 %"], ["Sur certificate withdrawn", "B", "–", "100.00 %"]])
@@ -1759,7 +1796,7 @@ def test_the_texts_of_a_site():
             own = shown_text(re.sub("<h3 id=.*?</h3>|<pre.*?</pre>", "", read(name), flags=re.S))  # the office's own texts are in English
             same((name, re.findall(r"\b(?:list|seats|votes|stations?|the|returns|of|is)\b", own)), (name, []))
         assert "<h1>Elecciones &amp; más</h1>" in read("index.html") and "29 de noviembre de 2026 · Junta" in text
-        assert "A B le faltaron 11 votos para un escaño en Norte" in text and "42,88 %" in text and "353 de 1.700 electores" in text
+        assert "B tendría un escaño más en Norte con 11 votos más" in text and "42,88 %" in text and "353 de 1.700 electores" in text
         for site, words in (('language = "xx"', "no texts of the language 'xx'"), ("title = ", "Invalid value"), ('date = "today"', "date is not a date"), ('language = "../en"', "no texts of the language")):
             refused_site(port, words, site=site)
     texts = {file.name: tomllib.loads(file.read_text(encoding="utf-8")) for file in DEPLOY.glob("press_*.toml")}
@@ -2399,7 +2436,7 @@ def test_the_weight_of_a_constituency():
     rows = {caption: len(cells) - 1 for caption, cells in found.items()}
     quotients = [f"Quotients of each list, seats {first} to {min(first + 7, 42)}" for first in range(1, 43, 8)]
     same(rows, {"Seats of each list": 61, "Votes of each list": 60, "Returns of the stations": 1, "Holders of the seats": 100, "Awards in order": 100,
-                **dict.fromkeys(quotients, 60), "Votes that a list lacked for one seat more, if the others had stayed as they are": 60})
+                **dict.fromkeys(quotients, 60), "Votes that a list lacked for one seat more, whatever lot is drawn, with the same other votes and eligible lists": 60})
     same([cell for caption in quotients for cell in found[caption][2][1:]], ["1,000 ★ won", *(str(1000 // k) for k in range(2, 43))])
     same(read("con-c1.html").count('<div class="bar '), 12)
     assert "The other 48 lists are in the table." in read("con-c1.html")
@@ -2470,7 +2507,7 @@ def test_the_weight_at_the_limits():
             same(len(rows_of_pages(pages, "Holders of the seats")), 500)
             same(len(rows_of_pages(pages, "Quotas of each list")), 60 if method == "hare" else 0)
             same(len(rows_of_pages(pages, "Awards in order")), 0 if method == "hare" else 500)
-            same(len(rows_of_pages(pages, "Votes that a list lacked for one seat more, if the others had stayed as they are")), 0 if method == "hare" else 60)
+            same(len(rows_of_pages(pages, "Votes that a list lacked for one seat more, whatever lot is drawn, with the same other votes and eligible lists")), 0 if method == "hare" else 60)
             said = collections.defaultdict(str)
             for page in pages:
                 for report, part in re.findall(r'<pre [^>]*aria-labelledby="text-([a-z]+)[-\d]*">(.*?)</pre>', read(page, folder), re.S):

@@ -60,9 +60,9 @@ fn push_fields(out: &mut Vec<u8>, status: AnswerStatus, body: BodyType, length: 
 }
 
 fn push_head(out: &mut Vec<u8>, status: AnswerStatus, body: BodyType, length: usize)
-    requires { vec_len out.old + 256 ≤ vec_capacity out.old }
+    requires { vec_len out.old + HEAD_ROOM ≤ vec_capacity out.old }
     ensures items { out.new.items ≡ out.old.items ++ head_text status body length }
-    ensures len { vec_len out.new ≤ vec_len out.old + 256 }
+    ensures len { vec_len out.new ≤ vec_len out.old + HEAD_ROOM }
     ensures room { vec_capacity out.old ≤ vec_capacity out.new }
 {
     push_status(out, status);
@@ -73,7 +73,7 @@ fn push_head(out: &mut Vec<u8>, status: AnswerStatus, body: BodyType, length: us
 /// that of the body and `HEAD_ROOM`. It takes no memory.
 pub fn write_answer(out: &mut Vec<u8>, status: AnswerStatus, body: BodyType, text: &[u8])
     requires empty { out.old.items ≡ [] }
-    requires room { length text.now + 256 ≤ vec_capacity out.old }
+    requires room { length text.now + HEAD_ROOM ≤ vec_capacity out.old }
     ensures { out.new.items ≡ answer_text status body text.now }
 {
     push_head(out, status, body, text.len());

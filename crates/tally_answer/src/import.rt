@@ -5,6 +5,7 @@ ghost use Rattle.tally_answer.specs.Import.{counts_before, counts_after, first_v
 ghost use Rattle.tally_answer.specs.Import.{import_text};
 
 use crate::answer::write_answer;
+use crate::outcome::{ANSWER_ROOM, BODY_ROOM};
 use crate::push::{push, push_around};
 use crate::status::{AnswerStatus, BodyType};
 use tally_keeper::{FirstRow, ImportCount};
@@ -65,8 +66,8 @@ fn push_import(out: &mut Vec<u8>, count: &ImportCount)
 pub fn write_import(out: &mut Vec<u8>, body: &mut Vec<u8>, count: &ImportCount)
     requires empty { out.old.items ≡ [] }
     requires no_body { body.old.items ≡ [] }
-    requires room { 2048 ≤ vec_capacity out.old }
-    requires body_room { 1280 ≤ vec_capacity body.old }
+    requires room { ANSWER_ROOM ≤ vec_capacity out.old }
+    requires body_room { BODY_ROOM ≤ vec_capacity body.old }
     ensures { out.new.items ≡ import_text count.now }
 {
     push_import(body, count);

@@ -136,9 +136,9 @@ fn push_word(out: &mut Vec<u8>, refusal: &Refusal)
 
 fn push_members(out: &mut Vec<u8>, lists: &[ListEntry], refusal: &Refusal)
     requires few { length lists.now ≤ most_lists }
-    requires room { vec_len out.old + 1280 ≤ vec_capacity out.old }
+    requires room { vec_len out.old + BODY_ROOM ≤ vec_capacity out.old }
     ensures items { out.new.items ≡ out.old.items ++ refusal_members lists.now refusal.now }
-    ensures len { vec_len out.new ≤ vec_len out.old + 1280 }
+    ensures len { vec_len out.new ≤ vec_len out.old + BODY_ROOM }
     ensures room { vec_capacity out.old ≤ vec_capacity out.new }
 {
     push(out, b"{");
@@ -150,9 +150,9 @@ fn push_members(out: &mut Vec<u8>, lists: &[ListEntry], refusal: &Refusal)
 
 fn push_refusal(out: &mut Vec<u8>, lists: &[ListEntry], refusal: &Refusal)
     requires few { length lists.now ≤ most_lists }
-    requires room { vec_len out.old + 1280 ≤ vec_capacity out.old }
+    requires room { vec_len out.old + BODY_ROOM ≤ vec_capacity out.old }
     ensures items { out.new.items ≡ out.old.items ++ refusal_body lists.now refusal.now }
-    ensures len { vec_len out.new ≤ vec_len out.old + 1280 }
+    ensures len { vec_len out.new ≤ vec_len out.old + BODY_ROOM }
     ensures room { vec_capacity out.old ≤ vec_capacity out.new }
 {
     match refusal {
@@ -166,9 +166,9 @@ fn push_refusal(out: &mut Vec<u8>, lists: &[ListEntry], refusal: &Refusal)
 
 fn push_outcome(out: &mut Vec<u8>, lists: &[ListEntry], outcome: &Result<Reply, Refusal>)
     requires few { length lists.now ≤ most_lists }
-    requires room { vec_len out.old + 1280 ≤ vec_capacity out.old }
+    requires room { vec_len out.old + BODY_ROOM ≤ vec_capacity out.old }
     ensures items { out.new.items ≡ out.old.items ++ (outcome_answer lists.now outcome.now).1 }
-    ensures len { vec_len out.new ≤ vec_len out.old + 1280 }
+    ensures len { vec_len out.new ≤ vec_len out.old + BODY_ROOM }
     ensures room { vec_capacity out.old ≤ vec_capacity out.new }
 {
     match outcome {
@@ -188,8 +188,8 @@ pub fn write_outcome(
     requires empty { out.old.items ≡ [] }
     requires no_body { body.old.items ≡ [] }
     requires few { length lists.now ≤ most_lists }
-    requires room { 2048 ≤ vec_capacity out.old }
-    requires body_room { 1280 ≤ vec_capacity body.old }
+    requires room { ANSWER_ROOM ≤ vec_capacity out.old }
+    requires body_room { BODY_ROOM ≤ vec_capacity body.old }
     ensures { out.new.items ≡ outcome_text lists.now outcome.now }
 {
     push_outcome(body, lists, outcome);

@@ -90,7 +90,7 @@ fn body_of(word: Word) -> &'static [u8]
 /// no memory.
 pub fn write_word(out: &mut Vec<u8>, word: Word)
     requires empty { out.old.items ≡ [] }
-    requires room { 320 ≤ vec_capacity out.old }
+    requires room { WORD_ROOM ≤ vec_capacity out.old }
     ensures { out.new.items ≡ word_text word }
 {
     write_answer(out, status_of_word(word), BodyType::Json, body_of(word));

@@ -21,7 +21,4 @@ pub use offices::Offices;
 pub use serve::{LISTENING_ROOM, SERVED_ROOM, listening_text, served_text};
 pub use show::{show_at, show_country, show_progress, show_report, show_stations};
 pub use standard_error::tell;
-pub use tally_import::{Sep, Watch};
-pub use tally_overview::{Shown, StationsReport};
-pub use tally_report::Report;
 pub use trouble::{FAILED, REFUSED, Trouble, is_memory};

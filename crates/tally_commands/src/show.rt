@@ -27,11 +27,12 @@ use crate::offices::Offices;
 use crate::trouble::Trouble;
 use std::alloc::Global;
 use std::io::Write;
-use tally_keeper::{ConView, Keeper, ProgressRow, Refusal, StationRow};
+use tally_keeper::Keeper;
 use tally_overview::{
     Shown, StationsReport, all_views, country_report, progress_of, stations_report_text, view_for,
 };
 use tally_report::{Report, progress_text, report_text};
+use tally_returns::{ConView, ProgressRow, Refusal, StationRow};
 use tally_setup::{Code, Setup};
 
 /// Prints a report, of the constituency that is named where it is of one.

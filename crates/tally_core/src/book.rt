@@ -13,9 +13,8 @@ use rows::{take_out, take_source};
 use shown::show_returns;
 use std::alloc::{AllocError, Global};
 use std::marker::Model;
-use tally_keeper::{
-    Ask, ImportCount, ImportFault, Keeper, Ledger, NamedRow, Refusal, Reply, RowSource, StationRow,
-};
+use tally_keeper::{ImportCount, ImportFault, Keeper, Ledger, NamedRow, RowSource};
+use tally_returns::{Ask, Refusal, Reply, StationRow};
 use tally_setup::{Code, Setup};
 
 /// Keeps the office's state in memory. Nothing of it outlasts the program.

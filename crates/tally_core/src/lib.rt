@@ -1,15 +1,16 @@
-//! A keeper of an electoral office's state in memory, and the laws of all keepers. What any keeper
-//! promises, runs and imports are those of `tally_keeper`, what is decided of commands that of
-//! `tally_machine`, whose public names are here too.
+//! A keeper of an electoral office's state in memory. What any keeper promises, runs and imports
+//! are those of `tally_keeper`, what is decided of commands that of `tally_machine`, commands and
+//! state those of `tally_returns`; what a program over a keeper names of these is here too.
 #![tactic(auto)]
 
 mod book;
-pub mod laws;
 
 pub use book::Book;
 pub use tally_keeper::{
-    Ask, Change, ConView, Counts, FirstRow, Gone, ImportCount, ImportFault, Keeper, ListSet,
-    LodgeReply, NamedRow, Past, ProgressRow, ROW_LIMIT, Refusal, Reply, Return, Row, RowSource,
-    StationRow, Status, decide_at, decide_lodge, decide_return, moved, run,
+    FirstRow, ImportCount, ImportFault, Keeper, NamedRow, ROW_LIMIT, Row, RowSource, moved, run,
 };
 pub use tally_machine::{decide_con, holders};
+pub use tally_returns::{
+    Ask, Change, ConView, Counts, Gone, ListSet, LodgeReply, Past, ProgressRow, Refusal, Reply,
+    Return, StationRow, Status, decide_at, decide_lodge, decide_return,
+};

@@ -17,8 +17,9 @@ use std::alloc::Global;
 use tally_answer::Word;
 use tally_asks::{ConCommand, StationCommand, ask_on_con, ask_on_station};
 use tally_import::{ReturnRows, Sep};
-use tally_keeper::{Ask, ImportCount, ImportFault, Keeper, Refusal};
+use tally_keeper::{ImportCount, ImportFault, Keeper};
 use tally_message::Message;
+use tally_returns::{Ask, Refusal};
 use tally_setup::{Code, Constituency, Setup};
 
 /// Carries out the command that a body was read as. Its answer takes no memory.

@@ -14,8 +14,9 @@ ghost use Rattle.tally_desk.specs.Requests.{ShowsCountry};
 use crate::room::{Room, done_answer};
 use std::alloc::Global;
 use tally_answer::BodyType;
-use tally_keeper::{ConView, Keeper};
+use tally_keeper::Keeper;
 use tally_overview::{all_views, country_report};
+use tally_returns::ConView;
 use tally_setup::Setup;
 
 fn country_answer(alloc: Global, setup: &Setup, views: &[ConView]) -> Option<Vec<u8>>

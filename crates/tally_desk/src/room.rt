@@ -6,6 +6,7 @@ ghost use Rattle.tally_answer.specs.Answer.{answer_text};
 ghost use Rattle.tally_answer.specs.Import.{import_text};
 ghost use Rattle.tally_answer.specs.Outcome.{outcome_text};
 ghost use Rattle.tally_answer.specs.Words.{word_text};
+ghost use Rattle.tally_answer.specs.declared.outcome.TheConstants.{ANSWER_ROOM, BODY_ROOM};
 ghost use Rattle.tally_answer.specs.declared.status.AnswerStatus.TheVariants as status;
 ghost use Rattle.tally_desk.specs.Requests.{refusal_text};
 
@@ -14,7 +15,8 @@ use tally_answer::{
     ANSWER_ROOM, AnswerStatus, BODY_ROOM, BodyType, Word, answer_of, write_import, write_outcome,
     write_word,
 };
-use tally_keeper::{ImportCount, Refusal, Reply};
+use tally_keeper::ImportCount;
+use tally_returns::{Refusal, Reply};
 use tally_setup::ListEntry;
 
 /// Room for an answer, which is reserved before the office is asked: what is written into it takes
@@ -25,8 +27,8 @@ pub(crate) struct Room {
     body: Vec<u8>,
     ghost no_answer: { out.items ≡ [] },
     ghost no_body: { body.items ≡ [] },
-    ghost room: { 2048 ≤ vec_capacity out },
-    ghost body_room: { 1280 ≤ vec_capacity body },
+    ghost room: { ANSWER_ROOM ≤ vec_capacity out },
+    ghost body_room: { BODY_ROOM ≤ vec_capacity body },
 }
 
 impl Room {

@@ -23,10 +23,11 @@ use crate::named::{con_in_target, station_in_target};
 use crate::room::{Room, done_answer};
 use std::alloc::Global;
 use tally_answer::{BodyType, Word, con_text, return_text};
-use tally_keeper::{Ask, ConView, Keeper, ProgressRow, Refusal, Reply, Return};
+use tally_keeper::Keeper;
 use tally_message::Message;
 use tally_overview::{progress_of, view_for};
 use tally_report::{Report, ReportFault, progress_text, report_text};
+use tally_returns::{Ask, ConView, ProgressRow, Refusal, Reply, Return};
 use tally_setup::{Code, Setup};
 
 fn return_answer(alloc: Global, station: Code, kept: &Return) -> Option<Vec<u8>>

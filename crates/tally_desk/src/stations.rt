@@ -12,9 +12,10 @@ use crate::named::con_in_target;
 use crate::room::{Room, done_answer};
 use std::alloc::Global;
 use tally_answer::BodyType;
-use tally_keeper::{Keeper, Refusal, StationRow};
+use tally_keeper::Keeper;
 use tally_message::Message;
 use tally_overview::{StationsReport, returns_text, stations_text};
+use tally_returns::{Refusal, StationRow};
 use tally_setup::{Code, Setup};
 
 /// The answer that shows a report of the stations of the constituency of a code.

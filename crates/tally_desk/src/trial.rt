@@ -13,8 +13,9 @@ use std::alloc::{AllocError, Global};
 use tally_answer::BodyType;
 use tally_import::room::{COUNT_ROOM, push_count};
 use tally_import::{ReturnRows, Sep, list_codes, push_lines};
-use tally_keeper::{ImportCount, ImportFault, Keeper, NamedRow, Refusal};
+use tally_keeper::{ImportCount, ImportFault, Keeper, NamedRow};
 use tally_message::Message;
+use tally_returns::Refusal;
 use tally_setup::{Code, Constituency};
 
 /// The six lines of an import, and a line for each row that it names.

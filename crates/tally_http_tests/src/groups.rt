@@ -20,7 +20,7 @@ const RULE: Profile = Profile {
 };
 
 fn are_few(votes: &[u64]) -> bool
-    ensures { IsTrue result → sum votes.now ≤ 5000000000 }
+    ensures { IsTrue result → sum votes.now ≤ MOST }
 {
     let mut left = MOST;
     for list in votes {

@@ -17,10 +17,8 @@ use crate::totals::{Totals, add_return, no_totals};
 use csv::ByteRecord;
 use std::alloc::{AllocError, Global};
 use std::collections::HashMap;
-use tally_keeper::{
-    Ask, Counts, ImportCount, LodgeReply, NamedRow, Refusal, Return, Row, decide_lodge, name_bad,
-    name_refused,
-};
+use tally_keeper::{ImportCount, NamedRow, Row, name_bad, name_refused};
+use tally_returns::{Ask, Counts, LodgeReply, Refusal, Return, decide_lodge};
 use tally_setup::{Code, MOST_ELECTORS};
 
 /// How far an import has come.

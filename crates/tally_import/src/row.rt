@@ -14,8 +14,9 @@ use crate::header::FIXED_NAMES;
 use csv::ByteRecord;
 use std::alloc::{AllocError, Global};
 use std::collections::BTreeSet;
-use tally_keeper::{Ask, BadRow, Column, Counts, Row};
+use tally_keeper::{BadRow, Column, Row};
 use tally_records::field;
+use tally_returns::{Ask, Counts};
 use tally_setup::Code;
 
 /// The most digits that a number may have.

@@ -6,7 +6,7 @@ ghost use Rattle.tally_returns.specs.Counts.{are_counts};
 ghost use Rattle.tally_import.specs.internal.Totals.{AreTotals, AreTotalsOfFew, TotalsRise};
 
 use std::alloc::{AllocError, Global};
-use tally_keeper::Counts;
+use tally_returns::Counts;
 
 /// The votes for each list, the blank votes and the spoiled ones of returns, together.
 #[derive(Drop)]

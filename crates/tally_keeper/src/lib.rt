@@ -1,6 +1,6 @@
 //! What keeps an electoral office's state: the trait of keepers, runs over any of them, and imports
-//! with what is answered of them. `tally_core` has a keeper in memory and the laws of all keepers,
-//! `tally_store` a keeper in a database.
+//! with what is answered of them. `tally_core` has a keeper in memory, `tally_store` one in a
+//! database, `tally_laws` the laws of all keepers.
 #![tactic(auto)]
 
 mod fault;
@@ -24,7 +24,3 @@ pub use ledger::Ledger;
 pub use runs::run;
 pub use source::{ImportFault, ROW_LIMIT, RowSource};
 pub use sums::moved;
-pub use tally_returns::{
-    Ask, Change, ConView, Counts, Gone, ListSet, LodgeReply, Past, ProgressRow, Refusal, Reply,
-    Return, StationRow, Status, decide_at, decide_lodge, decide_return,
-};

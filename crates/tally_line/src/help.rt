@@ -282,7 +282,8 @@ Show a report of the office.
 What goes in:
   --db      the database of an office
   --report  the name of the report:
-              tally      the votes of each list, and whether it takes part
+              tally      the votes of each list, and whether it is eligible:
+                         whether it has votes and reaches the threshold
               seats      the seats of each list
               quotients  the quotients of each list; a star marks the number
                          at its right as one that won a seat
@@ -290,9 +291,9 @@ What goes in:
               quota      the quotas and remainders of each list
               holders    who holds the seats
               past       the certificates that were reopened
-              short      the fewest extra votes that would guarantee each list
-                         another seat, whatever lot is drawn, if the other
-                         votes stayed the same
+              short      the fewest extra votes that would guarantee each
+                         eligible list another seat, whatever lot is drawn, if
+                         the other votes and the eligible lists stayed the same
               stations   the stations, with the status of each return, or a dash
                          where it is missing
               returns    the returns as CSV, which 'office import' takes
@@ -358,7 +359,7 @@ database, so Ctrl-C is safe at any time. Until the server ends, no other command
 can open the database. A connection that failed counts, and so does each of the
 two or three that a browser takes for one table.
 
-The server asks nobody who they are. Every program on this machine can send it
+The server asks nobody who they are. Every program on this computer can send it
 requests, and so can a web page that is open in a browser here: it could lodge,
 vacate and certify. Let no browser run here while this serves without a proxy;
 the folder deploy/ of the repository has one, with accounts and a record of who

@@ -1,6 +1,5 @@
 //! The machine of an electoral office: what it decides of each constituency, its steps and runs,
-//! and their laws. The commands, the state and the returns are those of `tally_returns`, whose
-//! public names are exported here too.
+//! and their laws. The commands, the state and the returns are those of `tally_returns`.
 #![tactic(auto)]
 
 mod certification;
@@ -13,8 +12,4 @@ mod vacancy;
 pub use certification::{Reopening, certify, draw, reopen};
 pub use con_commands::decide_con;
 pub use seat_holders::holders;
-pub use tally_returns::{
-    Ask, Change, ConView, Counts, Gone, ListSet, LodgeReply, Past, ProgressRow, Refusal, Reply,
-    Return, Status, decide_at, decide_lodge, decide_return,
-};
 pub use vacancy::{Vacancy, vacate};

@@ -5,11 +5,12 @@ ghost use Rattle.std.specs.Prelude.{◌≡◌, false, IfErr, IfOk};
 ghost use Rattle.tally_commands.specs.Trouble.{IsTroubleOfDatabase};
 
 use sqlite::{Alter, Connection, Error, ErrorCode, FileFrom, FileStore, Wary};
+use std::alloc::Global;
 use std::fs::{self, File};
 use std::io::{self, ErrorKind};
 use std::net::{Ipv4Addr, TcpListener};
 use tally_commands::{Offices, Trouble, is_memory};
-use tally_store::Store;
+use tally_store::{CreateFault, Store};
 
 /// The bytes of a page of an office's database. A database of one page has no tables.
 const PAGE: u64 = 4_096;
@@ -48,14 +49,14 @@ impl Offices for Databases {
         match Store::open(rt.alloc(), conn) {
             Ok(office) => Ok(office),
             Err((conn, fault)) => {
-                let _closed = close(rt, path, conn);
+                let _closed = close(rt, path, conn, false);
                 Err(Trouble::from_open(&fault))
             }
         }
     }
 
-    /// Makes an office in a new file, or in one that has no tables yet. A file that it made is
-    /// removed if that fails.
+    /// Makes an office in a new file, or in one that has no tables yet. A file that it made and
+    /// that has no tables is removed if that fails.
     fn make_office(&self, rt: &HostRuntime, path: &str, text: &[u8]) -> Result<Office, Trouble> {
         if !names_file(path) {
             return Err(Trouble::Store);
@@ -69,17 +70,17 @@ impl Offices for Databases {
             Ok(conn) => conn,
             Err(trouble) => return Err(trouble),
         };
-        match Store::create(rt.alloc(), conn, text) {
-            Ok(office) => Ok(office),
-            Err((conn, fault)) => {
-                if was_made {
-                    remove_unused_files(rt, path, log.as_str(), conn);
-                } else {
-                    let _closed = close(rt, path, conn);
-                }
-                Err(Trouble::from_create(&fault))
-            }
+        let (conn, fault, has_tables) = match create(rt.alloc(), conn, text) {
+            Ok(office) => return Ok(office),
+            Err(refused) => refused,
+        };
+        let is_unused = was_made && !has_tables;
+        if is_unused {
+            // As long as the connection is open, no other program has the files.
+            let _ = remove_files(rt, path, log.as_str());
         }
+        let _closed = close(rt, path, conn, is_unused);
+        Err(Trouble::from_create(&fault))
     }
 
     fn listen(&self, rt: &HostRuntime, port: u16) -> Result<TcpListener, Trouble> {
@@ -90,7 +91,7 @@ impl Offices for Databases {
     }
 
     fn close_office(&self, rt: &HostRuntime, path: &str, office: Office) -> bool {
-        close(rt, path, office.close())
+        close(rt, path, office.close(), false)
     }
 }
 
@@ -210,26 +211,34 @@ fn remove_empty(rt: &HostRuntime, path: &str, log: &str) -> io::Result<()> {
     fs::remove_file(rt, log)
 }
 
-/// Removes the files of a database that has no tables: as long as the connection is open, no other
-/// program has them. It is over any store, since a call over that of files takes long to prove.
-fn remove_unused_files<S: Alter + Drop>(
-    rt: &HostRuntime,
-    path: &str,
-    log: &str,
+/// Makes an office, or gives the connection back and whether the database has tables. It is over
+/// any store, since a call over that of files takes long to prove.
+fn create<S: Alter + Drop>(
+    alloc: Global,
     conn: Connection<S>,
-) {
-    if conn.schema().tables.as_slice().is_empty() {
-        let _ = remove_files(rt, path, log);
+    text: &[u8],
+) -> Result<Store<S>, (Connection<S>, CreateFault, bool)>
+    requires { conn.in_transaction ≡ false }
+{
+    match Store::create(alloc, conn, text) {
+        Ok(office) => Ok(office),
+        Err((conn, fault)) => {
+            let has_tables = !conn.schema().tables.as_slice().is_empty();
+            Err((conn, fault, has_tables))
+        }
     }
 }
 
 /// Closes a database, so that all of it is in its one file, and answers whether that was done. It
-/// is not where a disk that failed has shut the database.
-fn close(rt: &HostRuntime, path: &str, conn: FileConnection) -> bool {
+/// is not where a disk that failed has shut the database. The log of an unused one is left: once
+/// its files are removed, a log at its path is another's.
+fn close(rt: &HostRuntime, path: &str, conn: FileConnection, is_unused: bool) -> bool {
     match conn.close_files() {
         // The files are held, and with them the lock, until the log is gone: it might be another's.
         Ok(_files) => {
-            let _ = remove_log(rt, path);
+            if !is_unused {
+                let _ = remove_log(rt, path);
+            }
             true
         }
         Err(_) => false,

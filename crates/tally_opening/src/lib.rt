@@ -19,4 +19,3 @@ mod view;
 pub use create::create_in;
 pub use office::{OfficeRows, accept_rows};
 pub use open::open_in;
-pub use tally_keeper::{CreateFault, OpenFault};

@@ -14,9 +14,10 @@ ghost use Rattle.tally_report.specs.Reports.{IsEnoughFor};
 ghost use Rattle.tally_overview.specs.Views.{ShowsAll, ShowsFor, as_progress, is_past};
 
 use std::alloc::{AllocError, Global};
-use tally_keeper::{Ask, ConView, Keeper, ProgressRow, Refusal, Reply};
+use tally_keeper::Keeper;
 use tally_machine::laws::a_constituency_has_a_view;
 use tally_report::Report;
+use tally_returns::{Ask, ConView, ProgressRow, Refusal, Reply};
 use tally_setup::{Code, Setup};
 
 /// Whether a report shows certificates on record.

@@ -6,4 +6,3 @@ mod performing;
 mod serve;
 
 pub use performing::{DONE, USAGE, perform, report_start};
-pub use tally_commands::{FAILED, Offices, REFUSED, Trouble};

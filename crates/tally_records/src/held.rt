@@ -2,6 +2,7 @@
 
 ghost use Rattle.std.specs.Prelude.{◌≡◌, ◌+◌, ◌<◌, ◌≤◌, ◌∷◌, [], drop, length, vec_len, IfOk, OnOk};
 ghost use Rattle.std.specs.Prelude.{None, Some};
+ghost use Rattle.tally_records.specs.declared.held.TheConstants.{SIZE_LIMIT};
 
 use crate::end::{End, Stop};
 use crate::watch::Watch;
@@ -10,7 +11,7 @@ use std::collections::VecDeque;
 use std::io::Read;
 
 /// The most bytes that an input may have: 16 MiB.
-const SIZE_LIMIT: usize = 16_777_216;
+pub(crate) const SIZE_LIMIT: usize = 16_777_216;
 
 /// How many bytes are asked for at a time. They come by way of the stack.
 const READ_SIZE: usize = 16_384;
@@ -29,7 +30,7 @@ pub(crate) struct HeldText {
     pub(crate) bytes: Vec<u8>,
     /// How many bytes the input gave.
     taken: usize,
-    ghost counted: { (vec_len bytes ≤ taken + 1) × (taken ≤ 16777217) },
+    ghost counted: { (vec_len bytes ≤ taken + 1) × (taken ≤ SIZE_LIMIT + 1) },
 }
 
 impl HeldText {
@@ -59,12 +60,12 @@ impl HeldText {
         watch: &mut Watch<R>,
         size: usize,
     ) -> Result<Option<End>, AllocError>
-        requires { self.old.taken ≤ 16777216 }
+        requires { self.old.taken ≤ SIZE_LIMIT }
         ensures fills { IfOk result (FillsHeld
             (R.remaining input.old) (R.remaining input.new) self.old self.new) }
         ensures size { IfNotEnded result (size ≤ length self.new.bytes.items) }
         ensures count { IfNotEnded result (HoldsAllThatCame self.old self.new) }
-        ensures limit { IfNotEnded result (self.new.taken ≤ 16777216) }
+        ensures limit { IfNotEnded result (self.new.taken ≤ SIZE_LIMIT) }
         ensures few { OnOk result (HoldsNoMore self.old self.new) }
         ensures failed { IfOk result (NotesEnd watch.old watch.new) }
     {
@@ -99,11 +100,11 @@ impl HeldText {
         room: &mut [u8],
     ) -> Result<Option<End>, AllocError>
         requires some { 0 < length room.old }
-        requires limit { self.old.taken + length room.old ≤ 16777217 }
+        requires limit { self.old.taken + length room.old ≤ SIZE_LIMIT + 1 }
         ensures came { IfNotEnded result
             (HoldsMore (R.remaining input.old) (R.remaining input.new) self.old self.new) }
         ensures some { IfNotEnded result (self.old.taken < self.new.taken) }
-        ensures limit { OnOk result (self.new.taken ≤ 16777217) }
+        ensures limit { OnOk result (self.new.taken ≤ SIZE_LIMIT + 1) }
         ensures ended { IfEnded result (λ end. (self.new ≡ self.old)
             × Ends (R.remaining input.old) (R.remaining input.new) end.stop) }
         ensures failed { IfOk result (NotesEnd watch.old watch.new) }
@@ -129,7 +130,7 @@ impl HeldText {
         input: &mut R,
         watch: &mut Watch<R>,
     ) -> Result<(VecDeque<Vec<u8>>, End), AllocError>
-        requires { self.old.taken ≤ 16777216 }
+        requires { self.old.taken ≤ SIZE_LIMIT }
         ensures fills { IfOk result (λ rest. Fills (R.remaining input.old) (R.remaining input.new)
             [] self.old.taken (bytes_of_parts rest.0.items) self.new.taken (Some rest.1)) }
         ensures bytes { OnOk result (self.new.bytes ≡ self.old.bytes) }

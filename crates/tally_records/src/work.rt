@@ -6,7 +6,7 @@ ghost use Rattle.csv.specs.Records.{fields_of};
 
 use crate::cut::{ended_itself, given_size, last_text, piece_size, piece_text};
 use crate::end::End;
-use crate::held::HeldText;
+use crate::held::{HeldText, SIZE_LIMIT};
 use crate::piece::Rest;
 use crate::reading::next_record;
 use crate::separator::Sep;
@@ -77,10 +77,10 @@ impl Work {
         watch: &mut Watch<R>,
         sep: Sep,
     ) -> Result<Work, AllocError>
-        requires { held.taken ≤ 16777216 }
+        requires { held.taken ≤ SIZE_LIMIT }
         ensures reading { IfOk result IsWorking }
         ensures fills { IfOk result (TakesUp (R.remaining input.old) (R.remaining input.new) held) }
-        ensures size { IfOk result (λ r. r.end ≡ None → 262144 ≤ length r.held.bytes.items) }
+        ensures size { IfOk result (λ r. r.end ≡ None → PIECE ≤ length r.held.bytes.items) }
         ensures count { IfOk result (λ r. r.end ≡ None → HoldsAllThatCame held r.held) }
         ensures sep { IfOk result (λ r. r.sep ≡ sep) }
         ensures given { IfOk result (λ r. r.given ≡ 0) }
@@ -114,7 +114,7 @@ impl Work {
         sep: Sep,
         given: usize,
     ) -> Result<Work, AllocError>
-        requires limit { held.taken ≤ 16777216 }
+        requires limit { held.taken ≤ SIZE_LIMIT }
         requires few { length held.bytes.items ≤ held.taken + 1 }
         requires begun { Begun sep held.bytes.items given }
         ensures reading { IfOk result IsWorking }

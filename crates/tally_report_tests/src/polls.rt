@@ -88,7 +88,7 @@ pub(crate) fn numbers(alloc: Global, text: &str) -> Result<Vec<u32>, AllocError>
 const MOST: u64 = 5_000_000_000;
 
 fn are_few(votes: &[u64], blank: u64) -> bool
-    ensures { IsTrue result → sum votes.now + blank ≤ 5000000000 }
+    ensures { IsTrue result → sum votes.now + blank ≤ MOST }
 {
     if blank > MOST {
         return false;

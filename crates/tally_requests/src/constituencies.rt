@@ -18,7 +18,8 @@ use sqlite::{Alter, Error, Transaction};
 use std::alloc::Global;
 use std::collections::BTreeMap;
 use tally_entries::{find_progress_row, find_view, rows_of_cons};
-use tally_machine::{Ask, Change, ConView, Refusal, Reply, decide_con};
+use tally_machine::decide_con;
+use tally_returns::{Ask, Change, ConView, Refusal, Reply};
 use tally_setup::{Code, Constituency, Setup};
 use tally_tables::{Statuses, statuses_of};
 

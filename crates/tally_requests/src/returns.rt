@@ -28,10 +28,9 @@ use sqlite::{Alter, Error, ErrorCode, Transaction};
 use std::alloc::Global;
 use std::collections::BTreeMap;
 use tally_entries::{add_return, correct_return, find_certified, find_return};
-use tally_machine::{
-    Ask, Change, Counts, LodgeReply, Refusal, Reply, Return, decide_at, decide_lodge,
+use tally_returns::{
+    Ask, Change, Counts, LodgeReply, Refusal, Reply, Return, Status, decide_at, decide_lodge,
 };
-use tally_returns::Status;
 use tally_setup::{Code, Constituency, Setup, Station};
 use tally_tables::Statuses;
 

@@ -18,9 +18,9 @@ use sqlite::{Alter, Error, ErrorCode, Transaction};
 use std::alloc::Global;
 use std::collections::BTreeMap;
 use tally_keeper::{
-    Ask, ImportCount, ImportFault, LodgeReply, NamedRow, ROW_LIMIT, Refusal, Row, RowSource,
-    name_bad, name_refused,
+    ImportCount, ImportFault, NamedRow, ROW_LIMIT, Row, RowSource, name_bad, name_refused,
 };
+use tally_returns::{Ask, LodgeReply, Refusal};
 use tally_schema::is_memory;
 use tally_setup::{Code, Setup};
 use tally_tables::Statuses;

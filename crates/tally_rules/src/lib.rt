@@ -9,7 +9,6 @@ mod read;
 pub use fault::SetupFault;
 pub use place::{Holder, Place, SetupArray, Way};
 pub use read::{read_setup, read_setup_placed};
-pub use tally_frac::ListSet;
 pub use tally_setup::{
     Base, Code, Constituency, Entry, ListEntry, LotRule, MOST_CANDIDATES, MOST_CONSTITUENCIES,
     MOST_ELECTORS, MOST_PROFILES, MOST_STATIONS, Method, Profile, Setup, Station, base_of,

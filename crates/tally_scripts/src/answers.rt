@@ -4,9 +4,8 @@ use crate::commands::{command, commands};
 use crate::setups::code;
 use std::alloc::Global;
 use std::test::Fail;
-use tally_keeper::{
-    Ask, ConView, Keeper, ListSet, ProgressRow, Refusal, Reply, Return, StationRow, run,
-};
+use tally_keeper::{Keeper, run};
+use tally_returns::{Ask, ConView, ListSet, ProgressRow, Refusal, Reply, Return, StationRow};
 use tally_setup::Code;
 
 /// What is answered, as text: a word for it, and its numbers.

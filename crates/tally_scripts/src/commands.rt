@@ -3,7 +3,7 @@
 use crate::setups::{code, number};
 use std::alloc::Global;
 use std::test::Fail;
-use tally_keeper::{Ask, Counts};
+use tally_returns::{Ask, Counts};
 use tally_setup::Code;
 
 /// The counts of a text such as `100,50 3 1`: the votes of the lists, and blank and spoiled ones if

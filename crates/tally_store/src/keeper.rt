@@ -24,10 +24,9 @@ ghost use Rattle.tally_store.specs.Keeping.{SurvivesRequest};
 use crate::requests::{answer_request, import_rows, show_request, show_stations, try_rows};
 use crate::store::Store;
 use sqlite::Alter;
-use tally_keeper::{
-    Ask, ConView, ImportCount, ImportFault, Keeper, NamedRow, Refusal, Reply, RowSource, StationRow,
-};
+use tally_keeper::{ImportCount, ImportFault, Keeper, NamedRow, RowSource};
 use tally_machine::laws;
+use tally_returns::{Ask, ConView, Refusal, Reply, StationRow};
 use tally_setup::{Code, Setup};
 
 impl<S: Alter> Keeper for Store<S> {

@@ -35,12 +35,11 @@ ghost use Rattle.tally_store.specs.internal.Served.{IsKnownOf};
 use sqlite::{Alter, Connection, Error, ErrorCode, Transaction};
 use std::alloc::Global;
 use std::collections::BTreeMap;
-use tally_keeper::{
-    Ask, ConView, ImportCount, ImportFault, NamedRow, Refusal, Reply, RowSource, StationRow,
-};
+use tally_keeper::{ImportCount, ImportFault, NamedRow, RowSource};
 use tally_requests::{
     answer_in, import_fault_of, see_open, show_con_in, show_returns_in, take_rows,
 };
+use tally_returns::{Ask, ConView, Refusal, Reply, StationRow};
 use tally_schema::is_memory;
 use tally_setup::{Code, Setup};
 use tally_tables::Statuses;

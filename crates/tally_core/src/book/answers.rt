@@ -14,7 +14,7 @@ ghost use Rattle.tally_returns.specs.declared.refusal.Refusal.TheVariants.{Memor
 use super::constituencies::answer_on_con;
 use std::alloc::Global;
 use tally_keeper::Ledger;
-use tally_machine::{
+use tally_returns::{
     Ask, Change, Counts, LodgeReply, Refusal, Reply, Return, decide_at, decide_lodge,
 };
 use tally_setup::Code;

@@ -8,7 +8,8 @@ ghost use Rattle.tally_returns.specs.declared.refusal.Refusal.TheVariants.{Memor
 
 use std::alloc::Global;
 use tally_keeper::Ledger;
-use tally_machine::{Ask, Change, Refusal, Reply, decide_con};
+use tally_machine::decide_con;
+use tally_returns::{Ask, Change, Refusal, Reply};
 use tally_setup::Code;
 
 /// Answers a command on the constituency of a code, and carries it out.

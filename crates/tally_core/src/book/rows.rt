@@ -15,9 +15,9 @@ ghost use Rattle.tally_setup.specs.Code.{is_code};
 use super::answers::decide_first;
 use std::alloc::{AllocError, Global};
 use tally_keeper::{
-    Ask, Counts, ImportCount, ImportFault, Ledger, LodgeReply, NamedRow, ROW_LIMIT, Refusal,
-    Return, Row, RowSource, name_bad, name_refused,
+    ImportCount, ImportFault, Ledger, NamedRow, ROW_LIMIT, Row, RowSource, name_bad, name_refused,
 };
+use tally_returns::{Ask, Counts, LodgeReply, Refusal, Return};
 use tally_setup::Code;
 
 /// Lodges the rows of a source, and adds the stations that were lodged to a list, so that a fault

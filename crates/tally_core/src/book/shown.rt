@@ -7,7 +7,8 @@ ghost use Rattle.tally_returns.specs.StationRows.{station_row};
 ghost use Rattle.tally_returns.specs.declared.refusal.Refusal.TheVariants.{Store};
 
 use std::alloc::{AllocError, Global};
-use tally_keeper::{Ledger, Refusal, StationRow};
+use tally_keeper::Ledger;
+use tally_returns::{Refusal, StationRow};
 use tally_setup::{Code, Station};
 
 /// The stations of the constituency of a code, in the setup's order, each with a copy of its return

@@ -1,4 +1,0 @@
-pub mod LawStatements
-pub mod EnteredTwice
-pub mod Trials
-pub mod ReadBack

@@ -1,4 +1,0 @@
-//! The laws of messages that are answered from an office.
-#![tactic(auto)]
-
-pub mod laws;

@@ -1,0 +1,5 @@
+pub mod KeeperLaws
+pub mod MessageLaws
+pub mod EnteredTwice
+pub mod Trials
+pub mod ReadBack
