@@ -1,7 +1,8 @@
 //! Offices in databases, each of them a file. Errors are matched and returned, and not passed on by
 //! `?`, since the `?` of an enum that holds a text (`Trouble`) has no proof yet.
 
-ghost use Rattle.std.specs.Prelude.{◌≡◌, false, IfErr, IfOk};
+ghost use Rattle.std.specs.Prelude.{◌≡◌, ◌==◌, false, not, length, IfErr, IfOk};
+ghost use Rattle.sqlite.specs.Held.{state};
 ghost use Rattle.tally_commands.specs.Trouble.{IsTroubleOfDatabase};
 
 use sqlite::{Alter, Connection, Error, ErrorCode, FileFrom, FileStore, Wary};
@@ -219,6 +220,8 @@ fn create<S: Alter + Drop>(
     text: &[u8],
 ) -> Result<Store<S>, (Connection<S>, CreateFault, bool)>
     requires { conn.in_transaction ≡ false }
+    ensures { IfErr result (λ e.
+        e.2 ≡ not (length (state S.Store e.0).now.schema.tables == 0)) }
 {
     match Store::create(alloc, conn, text) {
         Ok(office) => Ok(office),
