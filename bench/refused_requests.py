@@ -1,7 +1,7 @@
 #!/usr/bin/env python3
 """Refuses a keeper in memory its memory, once at each place where it asks for some.
 
-Two tests of the crate `tally_core_tests` ask the requests of scripts, and import texts of returns. The library of
+Two tests of the crate `tally_test_core` ask the requests of scripts, and import texts of returns. The library of
 `refused_memory.py` refuses a test the first request for memory, then in another run the second, and so on through all
 that a run with ample memory makes. A request to the office is then refused with 22, or an import with fault 4, the
 keeper shows the same as before, and what was refused gets its own answer when it is asked once more; or there is no
@@ -10,7 +10,7 @@ needs, to read a setup, to make the requests or to write an answer as text, it f
 
     bench/refused_requests.py [--program FILE] [--every N]
 
-The tests are those that `rt ci` built, or `rt test tally_core_tests`; they are skipped where neither was run. With
+The tests are those that `rt ci` built, or `rt test tally_test_core`; they are skipped where neither was run. With
 `--every N` only every Nth request for memory is refused. A C compiler is needed, as `cc`. The last line is `N passed, M
 failed, K skipped`: tests, or the script where it is skipped.
 """
@@ -27,7 +27,7 @@ sys.dont_write_bytecode = True
 from building import ROOT
 from refused_memory import WHOLE, NotPromised, Runs, each_judged, ended, has_no_compiler, library_in, requests_refused
 
-PROGRAM = ROOT / "crates/tally_core_tests/out/tally_core_tests_tests"
+PROGRAM = ROOT / "crates/tally_test_core/out/tally_test_core_tests"
 
 # The tests by name.
 TESTS = {
@@ -90,7 +90,7 @@ def main():
     if has_no_compiler():
         return ended(0, 0, 1)
     if not os.access(given.program, os.X_OK):
-        print(f"skipped: no program of the tests at {given.program}: rt test tally_core_tests builds it")
+        print(f"skipped: no program of the tests at {given.program}: rt test tally_test_core builds it")
         return ended(0, 0, 1)
     with tempfile.TemporaryDirectory() as folder:
         runs = Runs(library_in(folder))

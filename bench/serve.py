@@ -61,7 +61,7 @@ SERVERS = ["file", "/dev/shm", "desk", "alone"]
 PROGRAMS = {
     "serve_alone": ["@rattle//httparse", "@rattle//serde_json"],
     "serve_office": ["//crates/tally_core", "//crates/tally_desk", "//crates/tally_rules"],
-    "message_office": ["//crates/tally_message"],
+    "message_office": ["//crates/tally_desk_message"],
 }
 
 

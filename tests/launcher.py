@@ -361,8 +361,8 @@ def written_over(file):
 def what_it_is_not_made_of_builds_nothing(copy):
     copy.run("check")
     crates = copy.root / "crates"
-    append(crates / "tally_report_tests/src/lib.rt")
-    append(crates / "tally_core_tests/src/lib.rt")
+    append(crates / "tally_test_report/src/lib.rt")
+    append(crates / "tally_test_core/src/lib.rt")
     (crates / "tally_frac/README.md").write_text("changed\n")
     os.utime(crates / "tally_frac/src/share.rt")
     assert copy.run("check")[2] == "an error\n" and copy.runs() == 1
@@ -637,9 +637,9 @@ def a_machine_that_is_slower_than_the_record_takes_longer(copy):
 
 
 def minutes_left_shrink_as_a_build_goes_on(copy):
-    copy.record({**RECORDED, "tally_setup": 1800, "tally_report": 1200, "tally_message": 1})
-    crates = "".join(f"echo '== {name}'\n" for name in NAMES if name not in ("tally_frac", "tally_office", "tally_message"))
-    message = "echo '== tally_message'\necho 'logic=proved functions=7 sum=0'\n"
+    copy.record({**RECORDED, "tally_setup": 1800, "tally_report": 1200, "tally_desk_message": 1})
+    crates = "".join(f"echo '== {name}'\n" for name in NAMES if name not in ("tally_frac", "tally_office", "tally_desk_message"))
+    message = "echo '== tally_desk_message'\necho 'logic=proved functions=7 sum=0'\n"
     copy.plan(TIMED.format(3).replace("printf", crates + message + "printf"))
     lines = copy.run("check")[2].splitlines()
     assert minutes_in(lines[1]) >= 80 and minutes_in(lines[2]) >= 56, lines
@@ -649,11 +649,11 @@ def minutes_left_shrink_as_a_build_goes_on(copy):
 
 def what_an_earlier_build_left_is_taken_over(copy):
     copy.record(RECORDED)
-    kept = ["tally_frac", "tally_setup", "tally_message", "tally_schema"]
+    kept = ["tally_frac", "tally_setup", "tally_desk_message", "tally_store_schema"]
     for crate in kept:
         copy.keep(crate)
     taken = f"of {CRATES} crates were proved before and are taken over"
-    copy.plan("".join(f"echo '== {crate}'\n" for crate in [*kept, "tally_records"]) + "sleep 2; exit 1")
+    copy.plan("".join(f"echo '== {crate}'\n" for crate in [*kept, "tally_import_records"]) + "sleep 2; exit 1")
     lines = copy.run("check")[2].splitlines()
     assert lines[1] == f"office: 4 {taken}" and "about 3" in lines[2] and lines[3] == f"office: 5 {taken}", lines
     # What is above a crate that changed is proved again, over what is left of it.
@@ -677,12 +677,12 @@ def what_an_earlier_build_left_is_taken_over(copy):
 
 
 def a_build_notes_when_its_parts_ended(copy):
-    copy.plan(TIMED.format(3).replace("printf", "echo '== tally_message'; echo '== below'; echo logic=proved functions=0; printf"))
+    copy.plan(TIMED.format(3).replace("printf", "echo '== tally_desk_message'; echo '== below'; echo logic=proved functions=0; printf"))
     begun = time.monotonic()
     copy.run("check")
     took = time.monotonic() - begun
     lines = [line.split() for line in (copy.out / "office.ends").read_text().splitlines()]
-    assert [line[0] for line in lines] == ["workers", "reading", "tally_frac", "tally_message", "tally_office", "building"]
+    assert [line[0] for line in lines] == ["workers", "reading", "tally_frac", "tally_desk_message", "tally_office", "building"]
     assert [line[2] for line in lines[1:]] == ["new", "new", "kept", "new", "new"], lines
     (copy.root / "bench").mkdir()
     shutil.copy(ROOT / "bench/building.py", copy.root / "bench")
@@ -690,8 +690,8 @@ def a_build_notes_when_its_parts_ended(copy):
     record.write_text("# a comment\nreading 900\ntally_message 40\ntally_gone 7\n")
     subprocess.run([sys.executable, copy.root / "bench/building.py"], check=True, capture_output=True)
     written = dict(line.split() for line in record.read_text().splitlines() if not line.startswith("#"))
-    assert [*written] == ["reading", "tally_frac", "tally_message", "tally_office", "building"], written
-    assert written["tally_message"] == "40" and 3 <= int(written["reading"]) <= took + 1 and int(written["tally_frac"]) <= max(took - 3, 3), written
+    assert [*written] == ["reading", "tally_frac", "tally_desk_message", "tally_office", "building"], written
+    assert written["tally_desk_message"] == "40" and 3 <= int(written["reading"]) <= took + 1 and int(written["tally_frac"]) <= max(took - 3, 3), written
 
 
 def a_build_that_is_silent_is_spoken_of_all_the_same(copy):

@@ -14,15 +14,15 @@ from pathlib import Path
 ROOT = Path(__file__).resolve().parent.parent
 DOCUMENT = json.loads((ROOT / "docs/openapi.json").read_text(encoding="utf-8"))
 FORMATS = (ROOT / "docs/FORMATS.md").read_text(encoding="utf-8")
-ROUTES = (ROOT / "crates/tally_asks/src/routes.rt").read_text(encoding="utf-8")
+ROUTES = (ROOT / "crates/tally_desk_routes/src/routes.rt").read_text(encoding="utf-8")
 TESTED = "\n".join(
     path.read_text(encoding="utf-8")
-    for crate in ("tally_desk_tests", "tally_http_tests")
+    for crate in ("tally_test_desk", "tally_test_http")
     for path in sorted((ROOT / "crates" / crate / "src").glob("*.rt"))
 ).replace('\\"', '"')
 # The refusals of the checks that a request goes through (`Lodge`, `Moves`, `Decide` of
-# tally_returns; `Certification` of tally_steps). The other routes to a constituency have its own
-# alone.
+# tally_returns; `Certification` of tally_machine_law). The other routes to a constituency have its
+# own alone.
 CHECKS = {
     "/station/{s}": {1, 8},
     "/station/{s}/lodge": {1, 4, 6, 7},

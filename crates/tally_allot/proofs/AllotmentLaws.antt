@@ -11,15 +11,15 @@ use Rattle.tally_law.specs.Lot.{place_of, is_named, IsTurned, ComesFirst, IsOrde
 use Rattle.tally_law.specs.Allotment.{Rule, IsAllotment, IsAllotmentByVotes}
 use Rattle.tally_law.specs.Poll.{HasEligible}
 use Rattle.tally_law.specs.LotNeed.{IsNeed, IsInGroup}
-use Rattle.tally_contest.specs.internal.Race.{IsFair, IsTie, CanHold}
-use Rattle.tally_contest.specs.internal.Sums.{sum_before}
-use Rattle.tally_contest.specs.internal.Terms.{Terms, IsRule, IsSound, IsProperLot, lot_rule_of, vote_race, placed_race}
-use Rattle.tally_contest.proofs.AwardStep.{further}
-use Rattle.tally_contest.proofs.Sums.{sum-is, sum_before-same}
-use Rattle.tally_contest.proofs.Ties.{IsMoved, loses, gains, moved, tie_alike, class_differs, ties_are_one}
-use Rattle.tally_contest.proofs.DivisorRace.{eligible_or_not}
-use Rattle.tally_contest.proofs.TermsRace.{AreRaces, are_races, from_placed, within_placed}
-use Rattle.tally_contest.proofs.Room.{room_of, floors_of}
+use Rattle.tally_allot_award.specs.internal.Race.{IsFair, IsTie, CanHold}
+use Rattle.tally_allot_award.specs.internal.Sums.{sum_before}
+use Rattle.tally_allot_award.specs.internal.Terms.{Terms, IsRule, IsSound, IsProperLot, lot_rule_of, vote_race, placed_race}
+use Rattle.tally_allot_award.proofs.AwardStep.{further}
+use Rattle.tally_allot_award.proofs.Sums.{sum-is, sum_before-same}
+use Rattle.tally_allot_award.proofs.Ties.{IsMoved, loses, gains, moved, tie_alike, class_differs, ties_are_one}
+use Rattle.tally_allot_award.proofs.DivisorRace.{eligible_or_not}
+use Rattle.tally_allot_award.proofs.TermsRace.{AreRaces, are_races, from_placed, within_placed}
+use Rattle.tally_allot_award.proofs.Room.{room_of, floors_of}
 use Rattle.tally_allot.proofs.OrderOfChoice.{order_before, in_order, order_of_group, first_placed}
 use Rattle.tally_allot.proofs.LotLaws.{group_is_class, named_if_marked, some_in_group}
 

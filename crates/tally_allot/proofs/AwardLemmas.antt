@@ -2,17 +2,17 @@
 use Rattle.std.proofs.Common.{◌≡◌, ℕ, ◌+◌, ◌-◌, ◌<◌, ◌≤◌, List, length, get_or, map, refl, sym, ap, ◌∙◌, subst, arith}
 use Rattle.std.proofs.lemmas.List.{get_or-map, length-map}
 use Rattle.tally_frac.specs.Rank.{RanksAbove}
-use Rattle.tally_contest.specs.declared.won.WonSeat.{WonSeat}
+use Rattle.tally_allot_award.specs.declared.won.WonSeat.{WonSeat}
 use Rattle.tally_allot.specs.declared.award.Award.{Award}
 use Rattle.tally_law.specs.Poll.{Poll}
 use Rattle.tally_allot.specs.Awards.{award_of, IsAwardOf, AreAwardsOf, IsAwardAbove}
 use Rattle.tally_setup.specs.declared.profile.LotRule.{LotRule}
 use Rattle.tally_law.specs.DivisorAllotment.{IsAbove}
-use Rattle.tally_contest.specs.internal.Pairs.{pair_of}
-use Rattle.tally_contest.specs.internal.Race.{IsPair}
-use Rattle.tally_contest.specs.internal.Terms.{AreDivisors, IsProperLot, IsSound, placed_divisor_race}
-use Rattle.tally_contest.specs.internal.WonSeat.{AreRows, AreWon}
-use Rattle.tally_contest.proofs.DivisorRace.{above_from_placed, runs_if_eligible, seats_for-le}
+use Rattle.tally_allot_award.specs.internal.Pairs.{pair_of}
+use Rattle.tally_allot_award.specs.internal.Race.{IsPair}
+use Rattle.tally_allot_award.specs.internal.Terms.{AreDivisors, IsProperLot, IsSound, placed_divisor_race}
+use Rattle.tally_allot_award.specs.internal.WonSeat.{AreRows, AreWon}
+use Rattle.tally_allot_award.proofs.DivisorRace.{above_from_placed, runs_if_eligible, seats_for-le}
 
 module _ (nth : ℕ → ℕ) (unit : ℕ) (lot_rule : LotRule) (d : AreDivisors nth) (some_unit : 1 ≤ unit) (poll : Poll) (sound : IsSound poll) (lot : List ℕ) (proper : IsProperLot poll lot) (seats : ℕ) (a : List ℕ) (rows : List WonSeat) (w : AreWon (placed_divisor_race nth lot_rule poll lot seats) a rows) where
   abbrev awards : List Award

@@ -7,11 +7,11 @@ use Rattle.std.proofs.lemmas.List.FromFn.{get_or-map-range_with_len, length-map-
 use Rattle.tally_law.specs.Allotment.{IsAllotment, Rule}
 use Rattle.tally_law.specs.LotNeed.{IsDecidedByVotes, IsNeed}
 use Rattle.tally_law.specs.Poll.{HasEligible, IsEligible, Poll, votes_of}
-use Rattle.tally_contest.specs.internal.Premises.{IsRule, IsSound}
-use Rattle.tally_contest.specs.internal.Race.{IsFair, IsTie}
-use Rattle.tally_contest.specs.internal.Terms.{IsClassOf, Terms, vote_race}
-use Rattle.tally_contest.proofs.NeedOfTie.{decided_if_no_tie, need_if_tie}
-use Rattle.tally_contest.proofs.TermsRace.{AreRaces, are_races}
+use Rattle.tally_allot_award.specs.internal.Premises.{IsRule, IsSound}
+use Rattle.tally_allot_award.specs.internal.Race.{IsFair, IsTie}
+use Rattle.tally_allot_award.specs.internal.Terms.{IsClassOf, Terms, vote_race}
+use Rattle.tally_allot_award.proofs.NeedOfTie.{decided_if_no_tie, need_if_tie}
+use Rattle.tally_allot_award.proofs.TermsRace.{AreRaces, are_races}
 use Rattle.tally_allot.proofs.AllotmentLaws.{by_votes, exists}
 use Rattle.tally_allot.proofs.LotLaws.{proper_without_lot}
 

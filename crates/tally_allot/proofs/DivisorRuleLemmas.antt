@@ -6,7 +6,7 @@ use Rattle.tally_setup.specs.Method.{divisor_rule_of}
 use Rattle.tally_setup.specs.declared.profile.LotRule.{LotRule}
 use Rattle.tally_setup.specs.declared.profile.Method.{Method}
 use Rattle.tally_law.specs.Rules.{rule_by, rule_with}
-use Rattle.tally_contest.specs.internal.Terms.{IsRule}
+use Rattle.tally_allot_award.specs.internal.Terms.{IsRule}
 
 -- the rule of what was found is the rule of the method
 pub named : (method : Method) (lot_rule : LotRule) {found found' : Option DivisorRule} → found ≡ found' → found ≡ divisor_rule_of method →

@@ -10,14 +10,14 @@ use Rattle.std.proofs.lemmas.Map.Steps.{length-le_from_distinct_below}
 use Rattle.std.specs.List.{list_any}
 use Rattle.tally_frac.specs.ListSet.{has_place}
 use Rattle.tally_law.specs.Lot.{place_of}
-use Rattle.tally_contest.specs.internal.NextPairs.{HaveKeys}
-use Rattle.tally_contest.specs.internal.Orders.{MayBeTaken}
-use Rattle.tally_contest.specs.internal.Pairs.{last_place, turns, place_at}
+use Rattle.tally_allot_award.specs.internal.NextPairs.{HaveKeys}
+use Rattle.tally_allot_award.specs.internal.Orders.{MayBeTaken}
+use Rattle.tally_allot_award.specs.internal.Pairs.{last_place, turns, place_at}
 use Rattle.tally_setup.specs.declared.profile.LotRule.{LotRule}
 use Rattle.tally_law.specs.Poll.{Poll}
-use Rattle.tally_contest.specs.internal.Terms.{AreDivisors, IsClassOf, IsSound, Terms, divisor_under, lot_rule_of}
+use Rattle.tally_allot_award.specs.internal.Terms.{AreDivisors, IsClassOf, IsSound, Terms, divisor_under, lot_rule_of}
 use Rattle.tally_allot.proofs.LotLaws.{IsPlaced, at_name, at_setup, placed_at}
-use Rattle.tally_contest.proofs.Vectors.{get_or-le-sum}
+use Rattle.tally_allot_award.proofs.Vectors.{get_or-le-sum}
 
 -- numbers of which no two are equal, all from 1 to n, are at most n
 pub few_distinct : (n : ℕ) (lot : List ℕ) → ((i : ℕ) → i < length lot → (1 ≤ get_or lot i 0) × (get_or lot i 0 ≤ n)) → ((i j : ℕ) → i < j → j < length lot → get_or lot i 0 ≢ get_or lot j 0) → length lot ≤ n

@@ -9,11 +9,11 @@ use Rattle.tally_frac.specs.ListSet.{has_place}
 use Rattle.tally_law.specs.Lot.{place_in_lot, place_of, is_named, IsOrderOf}
 use Rattle.tally_law.specs.Allotment.{IsAllotmentByVotes}
 use Rattle.tally_law.specs.LotNeed.{IsLotNeeded, IsDecidedByVotes, IsNeed, IsLotTaken, IsLotWrong}
-use Rattle.tally_contest.specs.internal.Race.{IsFair, IsTie}
-use Rattle.tally_contest.specs.internal.Terms.{Terms, ArePlacedApart, IsProperLot, vote_race}
-use Rattle.tally_contest.proofs.Vectors.{equal_or_apart}
-use Rattle.tally_contest.proofs.Ties.{IsMoved, loses, gains, moved, tie_alike, class_differs}
-use Rattle.tally_contest.proofs.TermsRace.{AreRaces}
+use Rattle.tally_allot_award.specs.internal.Race.{IsFair, IsTie}
+use Rattle.tally_allot_award.specs.internal.Terms.{Terms, ArePlacedApart, IsProperLot, vote_race}
+use Rattle.tally_allot_award.proofs.Vectors.{equal_or_apart}
+use Rattle.tally_allot_award.proofs.Ties.{IsMoved, loses, gains, moved, tie_alike, class_differs}
+use Rattle.tally_allot_award.proofs.TermsRace.{AreRaces}
 
 -- a list is named in the lot and has that place, or is not named and has the setup's
 pub data IsPlaced (n : ℕ) (lot : List ℕ) (l : ℕ) : Type 0 where

@@ -5,8 +5,8 @@ use Rattle.std.specs.Cmp.{both_ways}
 use Rattle.tally_law.specs.Poll.{HasEligible, IsEligible, Poll, votes_of}
 use Rattle.tally_law.specs.Lot.{place_of, is_named}
 use Rattle.tally_law.specs.LotNeed.{IsDecidedByVotes, IsLotWrong, IsNeed}
-use Rattle.tally_contest.specs.internal.Orders.{MayBeTaken}
-use Rattle.tally_contest.specs.internal.Terms.{AreSound, IsProperLot, Terms}
+use Rattle.tally_allot_award.specs.internal.Orders.{MayBeTaken}
+use Rattle.tally_allot_award.specs.internal.Terms.{AreSound, IsProperLot, Terms}
 use Rattle.tally_allot.proofs.AllotmentLaws.{group_of_votes}
 use Rattle.tally_allot.proofs.DecidedOrNeeded.{decided-or_need}
 use Rattle.tally_allot.proofs.LotLaws.{named-marked, order_apart, proper_without_lot}

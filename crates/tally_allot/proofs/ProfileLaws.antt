@@ -11,11 +11,11 @@ use Rattle.tally_law.specs.Lot.{IsOrderOf}
 use Rattle.tally_law.specs.Allotment.{Rule, divisors, hare, IsAllotment, IsAllotmentByVotes}
 use Rattle.tally_law.specs.LotNeed.{IsDecidedByVotes, IsNeed}
 use Rattle.tally_law.specs.Rules.{rule_of, poll_of}
-use Rattle.tally_contest.specs.internal.Terms.{IsRule, IsSound}
-use Rattle.tally_contest.proofs.Vectors.{Exchange, equal_or_exchange, get_or-le-sum}
-use Rattle.tally_contest.proofs.Sums.{sum-is}
-use Rattle.tally_contest.proofs.PollLemmas.{sound_under}
-use Rattle.tally_contest.proofs.TermsRace.{are_races, one_allotment}
+use Rattle.tally_allot_award.specs.internal.Terms.{IsRule, IsSound}
+use Rattle.tally_allot_award.proofs.Vectors.{Exchange, equal_or_exchange, get_or-le-sum}
+use Rattle.tally_allot_award.proofs.Sums.{sum-is}
+use Rattle.tally_allot_award.proofs.PollLemmas.{sound_under}
+use Rattle.tally_allot_award.proofs.TermsRace.{are_races, one_allotment}
 use Rattle.tally_law.specs.Reordering.{IsReordering, numbers_in_order}
 use Rattle.tally_law.specs.LawStatements.{AllotmentsAreUnique, AllotmentsExist, LotsChooseAmongWhatVotesAllow, VotesDecideOrALotIsNeeded, NoLotIsNeededWhereVotesDecide, GroupsAreOfOneNumberOfVotes, EachOrderGivesAChoice, EachChoiceComesFromAnOrder, TheOrderOfTheSetupIsNothingWhereVotesDecide}
 use Rattle.tally_allot.proofs.DivisorRuleLemmas.{rule_by-is}

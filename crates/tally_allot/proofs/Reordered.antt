@@ -9,16 +9,16 @@ use Rattle.std.proofs.lemmas.List.Sorted.{sum_by-IsPermutation, length_permutati
 use Rattle.tally_law.specs.Poll.{Poll, IsEligible, votes_of, eligible_votes}
 use Rattle.tally_law.specs.Allotment.{Rule, divisors, hare, IsAllotment}
 use Rattle.tally_law.specs.LotNeed.{IsDecidedByVotes}
-use Rattle.tally_contest.specs.internal.Race.{Race, IsFair, IsTie}
+use Rattle.tally_allot_award.specs.internal.Race.{Race, IsFair, IsTie}
 use Rattle.tally_law.specs.Reordering.{IsReordering, numbers_in_order}
-use Rattle.tally_contest.specs.internal.Sums.{sum_before}
-use Rattle.tally_contest.specs.internal.Terms.{Terms, IsRule, IsSound, vote_race, placed_race}
-use Rattle.tally_contest.proofs.Vectors.{two-le-sum, Exchange, equal_or_exchange}
-use Rattle.tally_contest.proofs.Race.{one_seat}
+use Rattle.tally_allot_award.specs.internal.Sums.{sum_before}
+use Rattle.tally_allot_award.specs.internal.Terms.{Terms, IsRule, IsSound, vote_race, placed_race}
+use Rattle.tally_allot_award.proofs.Vectors.{two-le-sum, Exchange, equal_or_exchange}
+use Rattle.tally_allot_award.proofs.Race.{one_seat}
 use Rattle.tally_law.specs.Allotment.{IsAllotmentByVotes}
-use Rattle.tally_contest.proofs.Sums.{sum-is, sum_before-same, sum_marked-is, marked_at}
-use Rattle.tally_contest.proofs.Ties.{exchange, exchanged, exchanged_at_l}
-use Rattle.tally_contest.proofs.TermsRace.{AreRaces, are_races, fair_by_votes, from_placed}
+use Rattle.tally_allot_award.proofs.Sums.{sum-is, sum_before-same, sum_marked-is, marked_at}
+use Rattle.tally_allot_award.proofs.Ties.{exchange, exchanged, exchanged_at_l}
+use Rattle.tally_allot_award.proofs.TermsRace.{AreRaces, are_races, fair_by_votes, from_placed}
 use Rattle.tally_allot.proofs.LotLaws.{proper_without_lot}
 
 -- the poll with its lists in another order

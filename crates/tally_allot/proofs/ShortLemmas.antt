@@ -11,9 +11,9 @@ use Rattle.tally_setup.specs.declared.profile.LotRule.{LotRule}
 use Rattle.tally_law.specs.Poll.{Poll, IsEligible, votes_of, SharesOut}
 use Rattle.tally_law.specs.Allotment.{Rule, divisors, IsAllotmentByVotes}
 use Rattle.tally_law.specs.DivisorAllotment.{IsDivisorAllotmentByVotes}
-use Rattle.tally_contest.specs.internal.Terms.{AreDivisors, IsRule, IsSound}
-use Rattle.tally_contest.proofs.Vectors.{sum-cons, equal_or_exchange, Exchange}
-use Rattle.tally_contest.proofs.DivisorRace.{eligible_or_not}
+use Rattle.tally_allot_award.specs.internal.Terms.{AreDivisors, IsRule, IsSound}
+use Rattle.tally_allot_award.proofs.Vectors.{sum-cons, equal_or_exchange, Exchange}
+use Rattle.tally_allot_award.proofs.DivisorRace.{eligible_or_not}
 use Rattle.tally_allot.specs.VotesShort.{with_more_votes, IsSureOfMore, IsVotesShort, IsLeastNumber, HasNoMoreToGain, AreVotesShort}
 use Rattle.tally_allot.proofs.AllotmentLaws.{exists, by_votes}
 use Rattle.tally_allot.proofs.LotLaws.{proper_without_lot}

@@ -2,9 +2,9 @@
 use Rattle.std.proofs.Common.{◌≡◌, ◌≢◌, ℕ, List, sum, refl, sym, subst}
 use Rattle.tally_law.specs.Poll.{HasEligible}
 use Rattle.tally_law.specs.LotNeed.{IsLotTaken, IsAllotmentUnderLot}
-use Rattle.tally_contest.specs.internal.Race.{IsFair}
-use Rattle.tally_contest.specs.internal.Terms.{Terms, AreSound, placed_race}
-use Rattle.tally_contest.proofs.TermsRace.{races, from_placed, to_placed}
+use Rattle.tally_allot_award.specs.internal.Race.{IsFair}
+use Rattle.tally_allot_award.specs.internal.Terms.{Terms, AreSound, placed_race}
+use Rattle.tally_allot_award.proofs.TermsRace.{races, from_placed, to_placed}
 use Rattle.tally_allot.specs.declared.fault.AllotFault.{AllotFault}
 use Rattle.tally_allot.specs.declared.fault.AllotFault.TheVariants.{NoEligible, LotMissing, WrongLot, Memory}
 use Rattle.tally_allot.specs.internal.OnTerms.{IsFaultOn}

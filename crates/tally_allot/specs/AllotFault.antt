@@ -6,7 +6,7 @@ use Rattle.tally_law.specs.LotNeed.{IsNeed, IsDecidedByVotes, IsLotWrong}
 use Rattle.tally_allot.specs.declared.fault.AllotFault.{AllotFault}
 use Rattle.tally_allot.specs.declared.fault.AllotFault.TheVariants.{NoEligible, LotMissing}
 use Rattle.tally_allot.specs.declared.fault.AllotFault.TheVariants.{WrongLot, Memory}
-use Rattle.tally_contest.specs.declared.need.Need.{Need}
+use Rattle.tally_allot_award.specs.declared.need.Need.{Need}
 
 -- What each fault says. Memory may come at any time.
 abbrev pub IsFaultOf : Rule → Poll → ℕ → List ℕ → AllotFault → Type 0

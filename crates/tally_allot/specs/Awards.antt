@@ -4,7 +4,7 @@ use Rattle.std.specs.Prelude.{slice_index_or}
 use Rattle.tally_setup.specs.declared.profile.LotRule.{LotRule}
 use Rattle.tally_law.specs.Allotment.{Rule, divisors, hare}
 use Rattle.tally_allot.specs.declared.award.Award.{Award}
-use Rattle.tally_contest.specs.declared.won.WonSeat.{WonSeat}
+use Rattle.tally_allot_award.specs.declared.won.WonSeat.{WonSeat}
 use Rattle.tally_law.specs.Poll.{Poll, IsEligible, votes_of}
 use Rattle.tally_law.specs.DivisorAllotment.{IsAbove, IsDivisorAllotment}
 

@@ -2,22 +2,22 @@
 
 ghost use Rattle.std.specs.Prelude.{◌≡◌, ◌≤◌, ◌<◌, ◌↔◌, IsTrue, IfOk, IfErr, OnOk, length, sum};
 ghost use Rattle.tally_frac.specs.Limits.{most_lists, most_seats};
-ghost use Rattle.tally_contest.specs.internal.KeptPoll.{kept_poll};
+ghost use Rattle.tally_allot_award.specs.internal.KeptPoll.{kept_poll};
 ghost use Rattle.tally_law.specs.Allotment.{IsAllotment, divisors as by_divisors, hare};
 ghost use Rattle.tally_law.specs.Conditions.{AreLimitsKept};
 ghost use Rattle.tally_law.specs.Poll.{HasEligible};
 ghost use Rattle.tally_allot.specs.AllotFault.{IsFaultOf, IsNeedFaultOf, IsNeedOrNone};
 ghost use Rattle.tally_allot.specs.internal.OnTerms.{IsUnderLotOn};
-ghost use Rattle.tally_contest.specs.internal.Needs.{IsNeedOn};
+ghost use Rattle.tally_allot_award.specs.internal.Needs.{IsNeedOn};
 ghost use Rattle.tally_law.specs.LotNeed.{IsLotTaken, IsAllotmentUnderLot};
 ghost use Rattle.tally_law.specs.Rules.{rule_of, poll_of};
-ghost use Rattle.tally_contest.specs.internal.Terms.{AreSound};
+ghost use Rattle.tally_allot_award.specs.internal.Terms.{AreSound};
 
 use crate::fault::AllotFault;
 use crate::lot::check_lot;
 use crate::under_lot::{award_under_lot, seats_by_remainders};
 use std::alloc::Global;
-use tally_contest::{
+use tally_allot_award::{
     Contest, DivisorContest, HareContest, Need, Poll, contested_seats, has_eligible, is_fair,
     need_of,
 };

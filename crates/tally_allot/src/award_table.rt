@@ -4,7 +4,7 @@ ghost use Rattle.std.specs.Prelude.{◌≡◌, ◌≢◌, ◌≤◌, IfOk, IfErr
 ghost use Rattle.tally_frac.specs.Limits.{most_seats};
 ghost use Rattle.tally_setup.specs.declared.profile.LotRule.{LotRule as rule_of_lots};
 ghost use Rattle.tally_setup.specs.declared.profile.Method.TheVariants.{Hare as by_hare};
-ghost use Rattle.tally_contest.specs.internal.KeptPoll.{kept_poll};
+ghost use Rattle.tally_allot_award.specs.internal.KeptPoll.{kept_poll};
 ghost use Rattle.tally_law.specs.Allotment.{divisors as by_divisors};
 ghost use Rattle.tally_allot.specs.AllotFault.{IsFaultOf};
 ghost use Rattle.tally_allot.specs.Awards as spec;
@@ -12,7 +12,7 @@ ghost use Rattle.tally_allot.specs.Awards.{AreAwards, AreAwardsBy};
 ghost use Rattle.tally_allot.specs.internal.AwardTable.{IsTableOf};
 ghost use Rattle.tally_law.specs.Conditions.{AreLimitsKept};
 ghost use Rattle.tally_law.specs.Rules.{poll_of, rule_of};
-ghost use Rattle.tally_contest.specs.internal.WonSeat.{AreRows, IsRow};
+ghost use Rattle.tally_allot_award.specs.internal.WonSeat.{AreRows, IsRow};
 ghost use Rattle.tally_law.specs.LotNeed.{IsLotTaken};
 ghost use Rattle.tally_law.specs.Poll.{HasEligible};
 
@@ -20,7 +20,7 @@ use crate::award::Award;
 use crate::fault::AllotFault;
 use crate::under_lot::award_under_lot;
 use std::alloc::{AllocError, Global};
-use tally_contest::{AwardedSeats, Poll, WonSeat};
+use tally_allot_award::{AwardedSeats, Poll, WonSeat};
 use tally_frac::Divisors;
 use tally_setup::{LotRule, Profile};
 

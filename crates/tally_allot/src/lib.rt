@@ -21,5 +21,5 @@ pub use fault::AllotFault;
 pub use quota_row::QuotaRow;
 pub use quota_table::quotas;
 pub use short::votes_short;
-pub use tally_contest::Need;
+pub use tally_allot_award::Need;
 pub use tally_frac::ListSet;

@@ -4,10 +4,10 @@ ghost use Rattle.std.specs.Prelude.{◌≢◌, IfErr, OnOk};
 ghost use Rattle.tally_law.specs.Poll.{HasEligible};
 ghost use Rattle.tally_allot.specs.declared.fault.AllotFault.TheVariants.{Memory};
 ghost use Rattle.tally_allot.specs.internal.OnTerms.{IsFaultOn, IsLotTakenOn};
-ghost use Rattle.tally_contest.specs.internal.Terms.{AreFairSeats, AreSound};
+ghost use Rattle.tally_allot_award.specs.internal.Terms.{AreFairSeats, AreSound};
 
 use crate::fault::AllotFault;
-use tally_contest::{Contest, is_order_of, need_of};
+use tally_allot_award::{Contest, is_order_of, need_of};
 
 /// Whether the contest's lot is the one to be taken, seen from seats that the votes allow: none,
 /// where none is needed. Else what is wrong with it.

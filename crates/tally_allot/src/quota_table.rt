@@ -2,9 +2,9 @@
 
 ghost use Rattle.std.specs.Prelude.{◌≡◌, ◌<◌, IfOk, IfErr, OnOk, length};
 ghost use Rattle.tally_setup.specs.declared.profile.Method.TheVariants.{Hare as by_hare};
-ghost use Rattle.tally_contest.specs.internal.KeptPoll.{kept_poll};
-ghost use Rattle.tally_contest.specs.internal.ContestTerms.{hare_terms};
-ghost use Rattle.tally_contest.specs.internal.Terms.{AreSound};
+ghost use Rattle.tally_allot_award.specs.internal.KeptPoll.{kept_poll};
+ghost use Rattle.tally_allot_award.specs.internal.ContestTerms.{hare_terms};
+ghost use Rattle.tally_allot_award.specs.internal.Terms.{AreSound};
 ghost use Rattle.tally_law.specs.Allotment.{hare};
 ghost use Rattle.tally_allot.specs.AllotFault.{IsFaultOf};
 ghost use Rattle.tally_allot.specs.internal.OnTerms.{IsFaultOn, IsLotTakenOn};
@@ -18,7 +18,7 @@ use crate::fault::AllotFault;
 use crate::quota_row::QuotaRow;
 use crate::under_lot::seats_by_remainders;
 use std::alloc::{AllocError, Global};
-use tally_contest::{Contest, HareContest, Poll};
+use tally_allot_award::{Contest, HareContest, Poll};
 use tally_setup::Profile;
 
 /// The whole quotas and remainders of the eligible lists, in order of place, for a profile by

@@ -5,7 +5,7 @@ ghost use Rattle.std.specs.Prelude.{length, slice_index};
 ghost use Rattle.tally_frac.specs.Limits.{greatest_divisor, most_seats, most_votes};
 ghost use Rattle.tally_setup.specs.declared.profile.LotRule.{LotRule as rule_of_lots};
 ghost use Rattle.tally_setup.specs.declared.profile.Method.TheVariants.{Hare as by_hare};
-ghost use Rattle.tally_contest.specs.internal.KeptPoll.{kept_poll};
+ghost use Rattle.tally_allot_award.specs.internal.KeptPoll.{kept_poll};
 ghost use Rattle.tally_law.specs.Allotment.{divisors as by_divisors};
 ghost use Rattle.tally_law.specs.LotNeed.{IsLotTaken};
 ghost use Rattle.tally_law.specs.Poll.{HasEligible};
@@ -20,7 +20,7 @@ ghost use Rattle.tally_allot.specs.VotesShort.{AreVotesShort, AreBelow};
 use crate::allotment::seats_by_divisors;
 use crate::fault::AllotFault;
 use std::alloc::{AllocError, Global};
-use tally_contest::Poll;
+use tally_allot_award::Poll;
 use tally_frac::{Divisors, votes_rank_above};
 use tally_setup::{LotRule, Profile};
 

@@ -4,20 +4,21 @@ ghost use Rattle.std.specs.Prelude.{◌≤◌, IfOk, IfErr, OnOk, length};
 ghost use Rattle.tally_frac.specs.Limits.{most_seats};
 ghost use Rattle.tally_allot.specs.AllotFault.{IsFaultOf};
 ghost use Rattle.tally_allot.specs.internal.OnTerms.{IsAllotmentOn, IsFaultOn, IsLotTakenOn};
-ghost use Rattle.tally_contest.specs.internal.KeptPoll.{kept_poll};
+ghost use Rattle.tally_allot_award.specs.internal.KeptPoll.{kept_poll};
 ghost use Rattle.tally_law.specs.Allotment.{divisors as by_divisors};
-ghost use Rattle.tally_contest.specs.internal.ContestTerms.{divisor_terms, hare_terms};
+ghost use Rattle.tally_allot_award.specs.internal.ContestTerms.{divisor_terms, hare_terms};
 ghost use Rattle.tally_law.specs.LotNeed.{IsLotTaken};
 ghost use Rattle.tally_law.specs.Poll.{HasEligible};
 ghost use Rattle.tally_law.specs.DivisorAllotment.{IsDivisorAllotment};
-ghost use Rattle.tally_contest.specs.internal.Terms.{AreSound, IsProperLot, placed_divisor_race};
-ghost use Rattle.tally_contest.specs.internal.Terms.{placed_race};
-ghost use Rattle.tally_contest.specs.internal.WonSeat.{AreRows, AreWon};
+ghost use Rattle.tally_allot_award.specs.internal.Terms.{AreSound, IsProperLot};
+ghost use Rattle.tally_allot_award.specs.internal.Terms.{placed_divisor_race};
+ghost use Rattle.tally_allot_award.specs.internal.Terms.{placed_race};
+ghost use Rattle.tally_allot_award.specs.internal.WonSeat.{AreRows, AreWon};
 
 use crate::fault::AllotFault;
 use crate::lot::check_lot;
 use std::alloc::Global;
-use tally_contest::{
+use tally_allot_award::{
     AwardedSeats, DivisorContest, HareContest, Poll, award_from_heap, award_remainders,
     has_eligible, may_be_taken,
 };

@@ -5,9 +5,9 @@ use Rattle.serde_json.specs.Data.{Data}
 use Rattle.tally_setup.specs.Constituency.{Constituency, ListEntry, list_codes}
 use Rattle.tally_setup.specs.Setup.{constituency_with, station_with}
 use Rattle.tally_setup.specs.declared.constituency.Station.{Station}
-use Rattle.tally_answer.specs.Answer.{answer_text}
-use Rattle.tally_answer.specs.declared.status.AnswerStatus.TheVariants.{Done}
-use Rattle.tally_answer.specs.declared.status.BodyType.TheVariants.{Text}
+use Rattle.tally_desk_answer.specs.Answer.{answer_text}
+use Rattle.tally_desk_answer.specs.declared.status.AnswerStatus.TheVariants.{Done}
+use Rattle.tally_desk_answer.specs.declared.status.BodyType.TheVariants.{Text}
 use Rattle.tally_report.specs.Fault.{IsRefused, divisors_fault}
 use Rattle.tally_report.specs.Reports.{IsEnoughFor, IsReport, report_fault}
 use Rattle.tally_report.specs.declared.fault.ReportFault.{ReportFault}
@@ -19,7 +19,7 @@ use Rattle.tally_returns.specs.State.{State}
 use Rattle.tally_returns.specs.View.{View}
 use Rattle.tally_returns.specs.declared.ask.Ask.{Ask}
 use Rattle.tally_returns.specs.declared.refusal.Refusal.TheVariants.{NoConstituency, NoStation}
-use Rattle.tally_steps.specs.Outcome.{rule_in}
+use Rattle.tally_machine_law.specs.Outcome.{rule_in}
 use Rattle.tally_keeper.specs.Keeper.{Tries}
 use Rattle.tally_keeper.specs.NamedRows.{NamesRows}
 use Rattle.tally_keeper.specs.Shown.{ShowsReturns}
@@ -27,15 +27,15 @@ use Rattle.tally_keeper.specs.Source.{Delivery}
 use Rattle.tally_keeper.specs.declared.import.ImportCount.{ImportCount}
 use Rattle.tally_keeper.specs.declared.import.NamedRow.{NamedRow}
 use Rattle.tally_keeper.specs.declared.source.ImportFault.{ImportFault}
-use Rattle.tally_records.specs.declared.separator.Sep.{Sep}
+use Rattle.tally_import_records.specs.declared.separator.Sep.{Sep}
 use Rattle.tally_import.specs.ReturnRows.{text_coming}
 use Rattle.tally_returns.specs.declared.station_row.StationRow.{StationRow}
 use Rattle.tally_desk.specs.Reports.{IsReportText, IsReportTextBy}
-use Rattle.tally_overview.specs.Views.{HasPastIf, is_past}
-use Rattle.tally_overview.proofs.ViewLemmas.{same-quotients}
-use Rattle.tally_message.specs.declared.message.Message.{Message}
-use Rattle.tally_asks.specs.Routes.{con_of_target, station_of_target}
-use Rattle.tally_asks.specs.Bodies.{IsBody, IsCommand}
+use Rattle.tally_report_overview.specs.Views.{HasPastIf, is_past}
+use Rattle.tally_report_overview.proofs.ViewLemmas.{same-quotients}
+use Rattle.tally_desk_message.specs.declared.message.Message.{Message}
+use Rattle.tally_desk_routes.specs.Routes.{con_of_target, station_of_target}
+use Rattle.tally_desk_routes.specs.Bodies.{IsBody, IsCommand}
 use Rattle.std.proofs.Common.{Vec, Global}
 use Rattle.tally_desk.specs.internal.Gives.{Gives, OrdersRead}
 use Rattle.tally_desk.specs.declared.named.Subject.TheVariants as on

@@ -2,7 +2,7 @@
 use Rattle.std.proofs.Common.{◌≡◌, ℕ, ◌+◌, Bool, List, [], ◌∷◌, ◌++◌, take, drop, option_to_list, refl, sym, ap, subst, append_assoc, ◌∙◌, arith}
 use Rattle.std.proofs.Math.Seq.{take-add}
 use Rattle.std.proofs.lemmas.List.{append-nil, drop-drop}
-use Rattle.tally_message.specs.Connection.{Connection, Connections}
+use Rattle.tally_desk_message.specs.Connection.{Connection, Connections}
 use Rattle.tally_desk.specs.Serving.{Answering, IsExchange, Serves, one_if}
 use Rattle.tally_desk.specs.internal.Next.{IsNextConnection}
 

@@ -6,11 +6,11 @@ use Rattle.tally_report.specs.Reports.{IsReport, report_fault}
 use Rattle.tally_report.specs.declared.fault.ReportFault.{ReportFault}
 use Rattle.tally_report.specs.declared.fault.ReportFault.TheVariants as fault
 use Rattle.tally_report.specs.declared.report.Report.{Report}
-use Rattle.tally_answer.specs.declared.status.AnswerStatus.TheVariants as status
-use Rattle.tally_answer.specs.declared.status.BodyType.TheVariants as body
-use Rattle.tally_answer.specs.declared.word.Word.TheVariants as word
-use Rattle.tally_answer.specs.Answer.{answer_text}
-use Rattle.tally_answer.specs.Words.{word_text}
+use Rattle.tally_desk_answer.specs.declared.status.AnswerStatus.TheVariants as status
+use Rattle.tally_desk_answer.specs.declared.status.BodyType.TheVariants as body
+use Rattle.tally_desk_answer.specs.declared.word.Word.TheVariants as word
+use Rattle.tally_desk_answer.specs.Answer.{answer_text}
+use Rattle.tally_desk_answer.specs.Words.{word_text}
 
 -- the answer where there is such a fault, or else such a text
 abbrev pub IsReportTextBy : Option ReportFault → (List ℕ → Type 0) → List ℕ → Type 0

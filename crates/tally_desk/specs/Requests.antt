@@ -26,29 +26,29 @@ use Rattle.tally_keeper.specs.declared.import.ImportCount.{ImportCount}
 use Rattle.tally_keeper.specs.declared.import.NamedRow.{NamedRow}
 use Rattle.tally_keeper.specs.declared.source.ImportFault.{ImportFault}
 use Rattle.tally_keeper.specs.declared.source.ImportFault.TheVariants as cause
-use Rattle.tally_records.specs.declared.separator.Sep.{Sep}
+use Rattle.tally_import_records.specs.declared.separator.Sep.{Sep}
 use Rattle.tally_import.specs.Check.{count_text}
 use Rattle.tally_import.specs.ReturnRows.{text_coming}
 use Rattle.tally_import.specs.RowLines.{row_lines}
-use Rattle.tally_overview.specs.CountryText.{country_text}
+use Rattle.tally_report_overview.specs.CountryText.{country_text}
 use Rattle.tally_report.specs.ProgressText.{progress_text}
-use Rattle.tally_overview.specs.ReturnsText.{returns_text}
-use Rattle.tally_overview.specs.StationsText.{stations_text}
+use Rattle.tally_report_overview.specs.ReturnsText.{returns_text}
+use Rattle.tally_report_overview.specs.StationsText.{stations_text}
 use Rattle.tally_report.specs.declared.report.Report.{Report}
-use Rattle.tally_message.specs.declared.message.Message.{Message}
-use Rattle.tally_asks.specs.Routes.{con_of_target, station_of_target}
-use Rattle.tally_asks.specs.Bodies.{IsBody}
-use Rattle.tally_answer.specs.declared.status.AnswerStatus.TheVariants as status
-use Rattle.tally_answer.specs.declared.status.BodyType.TheVariants as body
-use Rattle.tally_answer.specs.declared.word.Word.{Word}
-use Rattle.tally_answer.specs.declared.word.Word.TheVariants as word
-use Rattle.tally_answer.specs.Answer.{answer_text}
-use Rattle.tally_answer.specs.Import.{import_text}
-use Rattle.tally_answer.specs.Outcome.{outcome_text}
-use Rattle.tally_answer.specs.Shown.{shown_con, shown_return}
-use Rattle.tally_answer.specs.Words.{word_text}
+use Rattle.tally_desk_message.specs.declared.message.Message.{Message}
+use Rattle.tally_desk_routes.specs.Routes.{con_of_target, station_of_target}
+use Rattle.tally_desk_routes.specs.Bodies.{IsBody}
+use Rattle.tally_desk_answer.specs.declared.status.AnswerStatus.TheVariants as status
+use Rattle.tally_desk_answer.specs.declared.status.BodyType.TheVariants as body
+use Rattle.tally_desk_answer.specs.declared.word.Word.{Word}
+use Rattle.tally_desk_answer.specs.declared.word.Word.TheVariants as word
+use Rattle.tally_desk_answer.specs.Answer.{answer_text}
+use Rattle.tally_desk_answer.specs.Import.{import_text}
+use Rattle.tally_desk_answer.specs.Outcome.{outcome_text}
+use Rattle.tally_desk_answer.specs.Shown.{shown_con, shown_return}
+use Rattle.tally_desk_answer.specs.Words.{word_text}
 use Rattle.tally_desk.specs.Reports.{IsReportText}
-use Rattle.tally_overview.specs.Views.{ShowsAll}
+use Rattle.tally_report_overview.specs.Views.{ShowsAll}
 
 -- ---- answers of the desk itself, which leave the state
 

@@ -10,15 +10,15 @@ use Rattle.matchit.specs.Router.{RouteOf}
 use Rattle.tally_setup.specs.Constituency.{Constituency}
 use Rattle.tally_returns.specs.State.{State}
 use Rattle.tally_keeper.specs.declared.keeper.Keeper.{Ghosts}
-use Rattle.tally_message.specs.declared.message.Message.{Message}
-use Rattle.tally_message.specs.declared.message.MessageFault.{MessageFault}
-use Rattle.tally_message.specs.declared.message.MessageFault.TheVariants as fault
-use Rattle.tally_asks.specs.declared.routes.Route.{Route}
-use Rattle.tally_asks.specs.declared.routes.Route.TheVariants as route
-use Rattle.tally_asks.specs.Bodies.{con_command, station_command}
-use Rattle.tally_asks.specs.Routes.{IsRouted, route_method, takes_get}
-use Rattle.tally_answer.specs.declared.word.Word.{Word}
-use Rattle.tally_answer.specs.declared.word.Word.TheVariants as word
+use Rattle.tally_desk_message.specs.declared.message.Message.{Message}
+use Rattle.tally_desk_message.specs.declared.message.MessageFault.{MessageFault}
+use Rattle.tally_desk_message.specs.declared.message.MessageFault.TheVariants as fault
+use Rattle.tally_desk_routes.specs.declared.routes.Route.{Route}
+use Rattle.tally_desk_routes.specs.declared.routes.Route.TheVariants as route
+use Rattle.tally_desk_routes.specs.Bodies.{con_command, station_command}
+use Rattle.tally_desk_routes.specs.Routes.{IsRouted, route_method, takes_get}
+use Rattle.tally_desk_answer.specs.declared.word.Word.{Word}
+use Rattle.tally_desk_answer.specs.declared.word.Word.TheVariants as word
 use Rattle.tally_desk.specs.Requests.{MessageAnswer, AtCon, AtStation, ImportsBody, Orders}
 use Rattle.tally_desk.specs.Requests.{PublishesReturns, Reports, Says, ShowsCon, ShowsCountry}
 use Rattle.tally_desk.specs.Requests.{ShowsProgress, ShowsReturn, ShowsStations, TriesBody}

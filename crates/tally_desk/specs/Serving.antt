@@ -3,11 +3,11 @@ use Rattle.std.specs.Prelude.{◌≡◌, ℕ, ◌+◌, Bool, true, false, if◌t
 use Rattle.std.specs.Prelude.{◌++◌, length, take, drop, Option, Some, None, option_to_list, Vec}
 use Rattle.std.specs.Prelude.{Result, Ok, Err}
 use Rattle.std.specs.declared.alloc.Global.{Global}
-use Rattle.tally_message.specs.Connection.{Connection, Connections}
-use Rattle.tally_message.specs.Message.{IsMessageOrFault}
-use Rattle.tally_message.specs.declared.message.Message.{Message}
-use Rattle.tally_message.specs.declared.message.MessageFault.{MessageFault}
-use Rattle.tally_message.specs.declared.message.MessageFault.TheVariants.{Read}
+use Rattle.tally_desk_message.specs.Connection.{Connection, Connections}
+use Rattle.tally_desk_message.specs.Message.{IsMessageOrFault}
+use Rattle.tally_desk_message.specs.declared.message.Message.{Message}
+use Rattle.tally_desk_message.specs.declared.message.MessageFault.{MessageFault}
+use Rattle.tally_desk_message.specs.declared.message.MessageFault.TheVariants.{Read}
 
 -- which bytes are answered to a message or a fault over a content, and the content then
 abbrev pub Answering : Type 0 → Type 1

@@ -6,7 +6,7 @@ ghost use Rattle.tally_returns.specs.declared.refusal.Refusal.TheVariants.{NoCon
 ghost use Rattle.tally_returns.specs.declared.refusal.Refusal.TheVariants.{NoStation};
 ghost use Rattle.tally_returns.specs.declared.refusal.Refusal.{Refusal};
 ghost use Rattle.tally_keeper.specs.StaysKeeper.{StaysKeeper};
-ghost use Rattle.tally_asks.specs.declared.routes.Route.TheVariants as route;
+ghost use Rattle.tally_desk_routes.specs.declared.routes.Route.TheVariants as route;
 ghost use Rattle.tally_desk.specs.internal.Gives.{Answered, GivesOn, OrdersRead};
 ghost use Rattle.tally_desk.specs.internal.Named.{lists_of};
 ghost use Rattle.tally_desk.specs.Requests.{ImportsText, import_word, imported_text};
@@ -14,11 +14,11 @@ ghost use Rattle.tally_desk.specs.Requests.{ImportsText, import_word, imported_t
 use crate::named::{Subject, con_in_target, lists_of, station_in_target};
 use crate::room::Room;
 use std::alloc::Global;
-use tally_answer::Word;
-use tally_asks::{ConCommand, StationCommand, ask_on_con, ask_on_station};
+use tally_desk_answer::Word;
+use tally_desk_message::Message;
+use tally_desk_routes::{ConCommand, StationCommand, ask_on_con, ask_on_station};
 use tally_import::{ReturnRows, Sep};
 use tally_keeper::{ImportCount, ImportFault, Keeper};
-use tally_message::Message;
 use tally_returns::{Ask, Refusal};
 use tally_setup::{Code, Constituency, Setup};
 

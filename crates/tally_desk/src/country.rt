@@ -4,18 +4,18 @@ ghost use Rattle.std.specs.Prelude.{◌≡◌, IfSome};
 ghost use Rattle.std.specs.List.{AllZip};
 ghost use Rattle.tally_returns.specs.View.{FitsView};
 ghost use Rattle.tally_keeper.specs.StaysKeeper.{StaysKeeper};
-ghost use Rattle.tally_overview.specs.CountryText.{country_text};
-ghost use Rattle.tally_answer.specs.Answer.{answer_text};
-ghost use Rattle.tally_answer.specs.declared.status.AnswerStatus.TheVariants as status;
-ghost use Rattle.tally_answer.specs.declared.status.BodyType.TheVariants as body;
+ghost use Rattle.tally_report_overview.specs.CountryText.{country_text};
+ghost use Rattle.tally_desk_answer.specs.Answer.{answer_text};
+ghost use Rattle.tally_desk_answer.specs.declared.status.AnswerStatus.TheVariants as status;
+ghost use Rattle.tally_desk_answer.specs.declared.status.BodyType.TheVariants as body;
 ghost use Rattle.tally_desk.specs.internal.Gives.{GivesBy};
 ghost use Rattle.tally_desk.specs.Requests.{ShowsCountry};
 
 use crate::room::{Room, done_answer};
 use std::alloc::Global;
-use tally_answer::BodyType;
+use tally_desk_answer::BodyType;
 use tally_keeper::Keeper;
-use tally_overview::{all_views, country_report};
+use tally_report_overview::{all_views, country_report};
 use tally_returns::ConView;
 use tally_setup::Setup;
 

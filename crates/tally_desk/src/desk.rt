@@ -1,9 +1,9 @@
 //! Serving connections from a keeper.
 
 ghost use Rattle.std.specs.Prelude.{◌≡◌, ◌+◌, IfSome};
-ghost use Rattle.tally_asks.specs.Routes.{desk_rows};
-ghost use Rattle.tally_answer.specs.Words.{word_text};
-ghost use Rattle.tally_answer.specs.declared.word.Word.TheVariants.{Unavailable};
+ghost use Rattle.tally_desk_routes.specs.Routes.{desk_rows};
+ghost use Rattle.tally_desk_answer.specs.Words.{word_text};
+ghost use Rattle.tally_desk_answer.specs.declared.word.Word.TheVariants.{Unavailable};
 ghost use Rattle.tally_desk.specs.Serving.{IsServing};
 ghost use Rattle.tally_desk.specs.Respond.{Answers, Office, office_of};
 
@@ -13,10 +13,10 @@ use crate::serving::{self, Served};
 use matchit::Router;
 use std::alloc::Global;
 use std::marker::Model;
-use tally_answer::unavailable_text;
-use tally_asks::{Route, desk_router};
+use tally_desk_answer::unavailable_text;
+use tally_desk_message::{Door, Message, MessageFault};
+use tally_desk_routes::{Route, desk_router};
 use tally_keeper::Keeper;
-use tally_message::{Door, Message, MessageFault};
 
 /// The routes of a desk.
 #[derive(Drop)]

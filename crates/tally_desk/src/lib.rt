@@ -16,6 +16,6 @@ mod trial;
 pub use desk::serve;
 pub use responder::Responder;
 pub use serving::Served;
-pub use tally_message::{
+pub use tally_desk_message::{
     Door, DoorFault, MemoryConn, MemoryDoor, Message, MessageFault, NoClock, TcpDoor, read_message,
 };

@@ -6,7 +6,7 @@ ghost use Rattle.tally_setup.specs.Constituency as value;
 ghost use Rattle.tally_desk.specs.Requests.{con_in_target, station_in_target};
 ghost use Rattle.tally_desk.specs.internal.Named.{lists_of};
 
-use tally_asks::{con_of_target, station_of_target};
+use tally_desk_routes::{con_of_target, station_of_target};
 use tally_setup::{Code, ListEntry, Setup};
 
 /// What a command is on, by its code.

@@ -1,8 +1,8 @@
 //! Which answer a message gets.
 
 ghost use Rattle.std.specs.Prelude.{◌≡◌, IfSome, Ok};
-ghost use Rattle.tally_asks.specs.Routes.{desk_rows, takes_get};
-ghost use Rattle.tally_answer.specs.Words.{word_text};
+ghost use Rattle.tally_desk_routes.specs.Routes.{desk_rows, takes_get};
+ghost use Rattle.tally_desk_answer.specs.Words.{word_text};
 ghost use Rattle.tally_keeper.specs.StaysKeeper.{StaysKeeper};
 ghost use Rattle.tally_desk.specs.internal.Gives.{GivesBy, GivesOn};
 ghost use Rattle.tally_desk.specs.Respond.{IsAnswer, fault_word, other_method};
@@ -15,11 +15,11 @@ use crate::stations::show_rows;
 use crate::trial::trial;
 use matchit::Router;
 use std::alloc::Global;
-use tally_answer::Word;
-use tally_asks::{Route, route_of, takes, takes_get};
+use tally_desk_answer::Word;
+use tally_desk_message::{Message, MessageFault};
+use tally_desk_routes::{Route, route_of, takes, takes_get};
 use tally_keeper::Keeper;
-use tally_message::{Message, MessageFault};
-use tally_overview::StationsReport;
+use tally_report_overview::StationsReport;
 
 /// An answer that is a word alone.
 fn say(alloc: Global, word: Word) -> Option<Vec<u8>>

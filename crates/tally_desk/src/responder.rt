@@ -1,12 +1,12 @@
 //! What answers messages.
 
 ghost use Rattle.std.specs.Prelude.{◌≡◌, ℕ, List, Result};
-ghost use Rattle.tally_message.specs.declared.message.Message.{Message};
-ghost use Rattle.tally_message.specs.declared.message.MessageFault.{MessageFault};
+ghost use Rattle.tally_desk_message.specs.declared.message.Message.{Message};
+ghost use Rattle.tally_desk_message.specs.declared.message.MessageFault.{MessageFault};
 ghost use Rattle.tally_desk.specs.Serving.{text_or};
 
 use std::alloc::Global;
-use tally_message::{Message, MessageFault};
+use tally_desk_message::{Message, MessageFault};
 
 /// Answers messages from a keeper.
 pub trait Responder<K> {

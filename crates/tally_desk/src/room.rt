@@ -2,16 +2,16 @@
 
 ghost use Rattle.std.specs.Prelude.{◌≡◌, ◌≤◌, [], Err, IfSome, length, vec_capacity};
 ghost use Rattle.tally_frac.specs.Limits.{most_lists};
-ghost use Rattle.tally_answer.specs.Answer.{answer_text};
-ghost use Rattle.tally_answer.specs.Import.{import_text};
-ghost use Rattle.tally_answer.specs.Outcome.{outcome_text};
-ghost use Rattle.tally_answer.specs.Words.{word_text};
-ghost use Rattle.tally_answer.specs.declared.outcome.TheConstants.{ANSWER_ROOM, BODY_ROOM};
-ghost use Rattle.tally_answer.specs.declared.status.AnswerStatus.TheVariants as status;
+ghost use Rattle.tally_desk_answer.specs.Answer.{answer_text};
+ghost use Rattle.tally_desk_answer.specs.Import.{import_text};
+ghost use Rattle.tally_desk_answer.specs.Outcome.{outcome_text};
+ghost use Rattle.tally_desk_answer.specs.Words.{word_text};
+ghost use Rattle.tally_desk_answer.specs.declared.outcome.TheConstants.{ANSWER_ROOM, BODY_ROOM};
+ghost use Rattle.tally_desk_answer.specs.declared.status.AnswerStatus.TheVariants as status;
 ghost use Rattle.tally_desk.specs.Requests.{refusal_text};
 
 use std::alloc::Global;
-use tally_answer::{
+use tally_desk_answer::{
     ANSWER_ROOM, AnswerStatus, BODY_ROOM, BodyType, Word, answer_of, write_import, write_outcome,
     write_word,
 };

@@ -1,13 +1,13 @@
 //! Serving the connections of a door.
 
 ghost use Rattle.std.specs.Prelude.{◌≡◌, ◌+◌, true, length, nat_le};
-ghost use Rattle.tally_message.specs.Connection.{ChangesCurrent, after_text};
+ghost use Rattle.tally_desk_message.specs.Connection.{ChangesCurrent, after_text};
 ghost use Rattle.tally_desk.specs.Serving.{IsExchange, IsServing, text_or};
 ghost use Rattle.tally_desk.specs.internal.Next.{IsNextServed};
 
 use crate::responder::Responder;
 use std::alloc::Global;
-use tally_message::{Door, MessageFault, read_message, write_all};
+use tally_desk_message::{Door, MessageFault, read_message, write_all};
 
 /// How many connections were answered whole, and how many failed.
 #[derive(Clone, Copy, Debug, PartialEq, Eq)]

@@ -11,10 +11,10 @@ ghost use Rattle.tally_desk.specs.Requests.{AtCon, ShowsRows};
 use crate::named::con_in_target;
 use crate::room::{Room, done_answer};
 use std::alloc::Global;
-use tally_answer::BodyType;
+use tally_desk_answer::BodyType;
+use tally_desk_message::Message;
 use tally_keeper::Keeper;
-use tally_message::Message;
-use tally_overview::{StationsReport, returns_text, stations_text};
+use tally_report_overview::{StationsReport, returns_text, stations_text};
 use tally_returns::{Refusal, StationRow};
 use tally_setup::{Code, Setup};
 

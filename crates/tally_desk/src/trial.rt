@@ -2,7 +2,7 @@
 
 ghost use Rattle.std.specs.Prelude.{◌≡◌, IfOk, IfSome, IsSome, OnErr, string_bytes};
 ghost use Rattle.tally_keeper.specs.StaysKeeper.{StaysKeeper};
-ghost use Rattle.tally_asks.specs.declared.routes.Route.TheVariants as route;
+ghost use Rattle.tally_desk_routes.specs.declared.routes.Route.TheVariants as route;
 ghost use Rattle.tally_desk.specs.internal.Gives.{GivesBy, GivesOn};
 ghost use Rattle.tally_desk.specs.Requests.{TriesText, trial_lines, trial_text};
 
@@ -10,11 +10,11 @@ use crate::command::{con_copy, import_word};
 use crate::named::con_in_target;
 use crate::room::{Room, done_answer};
 use std::alloc::{AllocError, Global};
-use tally_answer::BodyType;
+use tally_desk_answer::BodyType;
+use tally_desk_message::Message;
 use tally_import::room::{COUNT_ROOM, push_count};
 use tally_import::{ReturnRows, Sep, list_codes, push_lines};
 use tally_keeper::{ImportCount, ImportFault, Keeper, NamedRow};
-use tally_message::Message;
 use tally_returns::Refusal;
 use tally_setup::{Code, Constituency};
 

@@ -4,14 +4,14 @@ use Rattle.std.specs.Prelude.{◌≢◌, ◌⊎◌, IfSome, OnOk, if◌then◌el
 use Rattle.std.specs.Io.KnownBytes.{Appends, Keeps}
 use Rattle.tally_keeper.specs.Source.{row_limit}
 use Rattle.tally_import.specs.Header.{header_lists}
-use Rattle.tally_records.specs.Input.{Gave, complete_records}
+use Rattle.tally_import_records.specs.Input.{Gave, complete_records}
 use Rattle.tally_import.specs.Check.{Checked, Checks, Found, check_fault, check_result, records_result, no_header, under_header, result_at_end, text_of}
 use Rattle.tally_import.specs.internal.Rounds.{IsWrittenOf}
-use Rattle.tally_records.specs.declared.end.Stop.{Stop}
-use Rattle.tally_records.specs.declared.end.Stop.TheVariants as stopped
+use Rattle.tally_import_records.specs.declared.end.Stop.{Stop}
+use Rattle.tally_import_records.specs.declared.end.Stop.TheVariants as stopped
 use Rattle.tally_import.specs.declared.check.CheckFault.{CheckFault}
 use Rattle.tally_import.specs.declared.check.CheckFault.TheVariants.{BadHeader, TooLong, Read, Memory, Write}
-use Rattle.tally_records.specs.declared.separator.Sep.{Sep}
+use Rattle.tally_import_records.specs.declared.separator.Sep.{Sep}
 
 -- a fault of writing is found nowhere
 not-write : (records : List (List (List ℕ))) (stop : Option Stop) → ◌≡◌ {A = Result Checked CheckFault} (records_result records stop) (Err Write) → ⊥

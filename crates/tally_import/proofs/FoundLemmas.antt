@@ -7,14 +7,14 @@ use Rattle.std.proofs.lemmas.Bool.Decides.{nat_tests}
 use Rattle.tally_keeper.specs.Source.{row_limit}
 use Rattle.tally_import.specs.Header.{header_lists}
 use Rattle.tally_import.specs.Check.{Checked, Found, check_fault, records_result, result_at_end, under_header, rows_of_records, text_of}
-use Rattle.tally_records.specs.Input.{AreAll}
+use Rattle.tally_import_records.specs.Input.{AreAll}
 use Rattle.tally_import.specs.internal.Progress.{HasTaken}
 use Rattle.tally_import.specs.internal.Rounds.{FindsCheckText, ImportsRecords, ended_text}
 use Rattle.tally_import.specs.declared.import.Import.{Import}
-use Rattle.tally_records.specs.declared.end.Stop.{Stop}
+use Rattle.tally_import_records.specs.declared.end.Stop.{Stop}
 use Rattle.tally_import.specs.declared.check.CheckFault.{CheckFault}
 use Rattle.tally_import.specs.declared.check.CheckFault.TheVariants.{BadHeader, TooLong, Memory}
-use Rattle.tally_records.specs.declared.separator.Sep.{Sep}
+use Rattle.tally_import_records.specs.declared.separator.Sep.{Sep}
 use Rattle.tally_import.proofs.RoundsLemmas.{examined-whole}
 
 pub Found-memory : (sep : Sep) (text left : Option (List ℕ)) (fault : CheckFault) → fault ≡ Memory

@@ -13,21 +13,21 @@ use Rattle.tally_keeper.specs.Source.{Coming, GivesNext, at_end, row_limit}
 use Rattle.tally_keeper.specs.declared.import.Row.{Row}
 use Rattle.tally_keeper.specs.declared.source.ImportFault.{ImportFault}
 use Rattle.tally_keeper.specs.declared.source.ImportFault.TheVariants as cause
-use Rattle.tally_records.specs.Input.{AreAll, complete_records, text_records, text_stop}
-use Rattle.tally_records.specs.Given.{HasGiven, IsReadingOn, sep_of}
+use Rattle.tally_import_records.specs.Input.{AreAll, complete_records, text_records, text_stop}
+use Rattle.tally_import_records.specs.Given.{HasGiven, IsReadingOn, sep_of}
 use Rattle.tally_import.specs.ReturnRows.{Advances, AllRowsCame, GivesRow, IsAtStage, IsNext, IsReadingRows, IsTrueAt, coming_after, bytes_coming, records_coming, import_fault, is_header, fault_without_header, came_by, ending, fault_alone, rows_coming, station_limits_in, still_coming, text_coming}
 use Rattle.tally_import.specs.ReturnRowsValue.{coming_at, own_fault}
 use Rattle.tally_import.specs.Rows.{row_of}
-use Rattle.tally_records.specs.declared.end.Stop.{Stop}
-use Rattle.tally_records.specs.declared.end.Stop.TheVariants.{TooLong, Read}
-use Rattle.tally_records.specs.RecordsValue.{Records}
+use Rattle.tally_import_records.specs.declared.end.Stop.{Stop}
+use Rattle.tally_import_records.specs.declared.end.Stop.TheVariants.{TooLong, Read}
+use Rattle.tally_import_records.specs.RecordsValue.{Records}
 use Rattle.tally_import.specs.declared.return_rows.Rows.{Rows}
 use Rattle.tally_import.specs.declared.return_rows.Stage.{Stage}
 use Rattle.tally_import.specs.declared.return_rows.Stage.TheVariants.{Unread, Reading, Ended}
-use Rattle.tally_records.specs.declared.separator.Sep.{Sep}
+use Rattle.tally_import_records.specs.declared.separator.Sep.{Sep}
 use Rattle.tally_import.proofs.ConstituencyLemmas.{is_some-stations}
-use Rattle.tally_records.proofs.GivenLemmas.{AreAll-text, HasGiven-front}
-use Rattle.tally_records.proofs.PieceLemmas.{drop-nothing}
+use Rattle.tally_import_records.proofs.GivenLemmas.{AreAll-text, HasGiven-front}
+use Rattle.tally_import_records.proofs.PieceLemmas.{drop-nothing}
 
 -- ---- rows of records
 

@@ -2,10 +2,10 @@
 use Rattle.std.proofs.Common.{◌≡◌, ◌++◌, ◌∷◌, ◌∙◌, ℕ, List, [], Bool, true, false, Option, Some, None, Result, Err, length, refl, sym, ap, arith, length-append}
 use Rattle.std.specs.Prelude.{◌≢◌, if◌then◌else◌, nat_lt}
 use Rattle.std.proofs.lemmas.Bool.{ltb-true, lt-ltb}
-use Rattle.tally_records.specs.Input.{complete_records}
-use Rattle.tally_records.specs.declared.end.Stop.{Stop}
-use Rattle.tally_records.specs.declared.separator.Sep.{Sep}
-use Rattle.tally_records.proofs.FrontLemmas.{complete_records-front}
+use Rattle.tally_import_records.specs.Input.{complete_records}
+use Rattle.tally_import_records.specs.declared.end.Stop.{Stop}
+use Rattle.tally_import_records.specs.declared.separator.Sep.{Sep}
+use Rattle.tally_import_records.proofs.FrontLemmas.{complete_records-front}
 use Rattle.tally_keeper.specs.Source.{row_limit}
 use Rattle.tally_import.specs.Check.{Checked, check_fault, result_at_end, under_header, records_result, check_result}
 use Rattle.tally_import.specs.Header.{header_lists}

@@ -17,15 +17,15 @@ use Rattle.tally_keeper.specs.declared.import.FirstRow.{FirstRow}
 use Rattle.tally_keeper.specs.declared.import.NamedRow.{NamedRow}
 use Rattle.tally_keeper.specs.declared.import.Row.{Row}
 use Rattle.tally_import.specs.Header.{header_lists}
-use Rattle.tally_records.specs.Input.{Gave, complete_records}
+use Rattle.tally_import_records.specs.Input.{Gave, complete_records}
 use Rattle.tally_import.specs.RowLines.{row_lines}
 use Rattle.tally_import.specs.Rows.{row_of}
-use Rattle.tally_records.specs.declared.end.Stop.{Stop}
-use Rattle.tally_records.specs.declared.end.Stop.TheVariants as stopped
+use Rattle.tally_import_records.specs.declared.end.Stop.{Stop}
+use Rattle.tally_import_records.specs.declared.end.Stop.TheVariants as stopped
 use Rattle.tally_import.specs.declared.check.CheckFault.{CheckFault}
 use Rattle.tally_import.specs.declared.check.CheckFault.TheVariants.{BadHeader, TooLong, Read}
 use Rattle.tally_import.specs.declared.check.CheckFault.TheVariants.{Memory, Write}
-use Rattle.tally_records.specs.declared.separator.Sep.{Sep}
+use Rattle.tally_import_records.specs.declared.separator.Sep.{Sep}
 
 -- every code is a station, with as many electors as a station may have: 1,000,000
 abbrev pub every_code : ℕ → Stations

@@ -14,15 +14,15 @@ use Rattle.tally_keeper.specs.declared.import.Row.{Row}
 use Rattle.tally_keeper.specs.declared.source.ImportFault.{ImportFault}
 use Rattle.tally_keeper.specs.declared.source.ImportFault.TheVariants as cause
 use Rattle.tally_import.specs.Header.{same_text}
-use Rattle.tally_records.specs.Input.{Gave, complete_records, text_records, text_stop}
-use Rattle.tally_records.specs.Given.{HasGiven, IsReadingOn, WatchAgrees, sep_of}
+use Rattle.tally_import_records.specs.Input.{Gave, complete_records, text_records, text_stop}
+use Rattle.tally_import_records.specs.Given.{HasGiven, IsReadingOn, WatchAgrees, sep_of}
 use Rattle.tally_import.specs.Rows.{row_of}
-use Rattle.tally_records.specs.declared.end.Stop.{Stop}
-use Rattle.tally_records.specs.declared.end.Stop.TheVariants as stopped
+use Rattle.tally_import_records.specs.declared.end.Stop.{Stop}
+use Rattle.tally_import_records.specs.declared.end.Stop.TheVariants as stopped
 use Rattle.tally_import.specs.declared.return_rows.Rows.{Rows}
 use Rattle.tally_import.specs.declared.return_rows.Stage.{Stage}
 use Rattle.tally_import.specs.declared.return_rows.Stage.TheVariants.{Unread, Reading, Ended}
-use Rattle.tally_records.specs.declared.separator.Sep.{Sep}
+use Rattle.tally_import_records.specs.declared.separator.Sep.{Sep}
 
 -- the stations of a constituency
 abbrev pub station_limits_in : Constituency → Stations

@@ -6,7 +6,7 @@ use Rattle.tally_keeper.specs.declared.import.Row.{Row}
 use Rattle.tally_keeper.specs.declared.source.ImportFault.{ImportFault}
 use Rattle.tally_keeper.specs.declared.source.ImportFault.TheVariants as cause
 use Rattle.tally_import.specs.ReturnRows.{AllRowsCame, coming_after, fault_alone, text_coming}
-use Rattle.tally_records.specs.declared.separator.Sep.{Sep}
+use Rattle.tally_import_records.specs.declared.separator.Sep.{Sep}
 
 -- The constituency and the separator, the text that the reader would give and what is left of it,
 -- where they are known, the rows that were given, how many rows came of the text (0 again once the

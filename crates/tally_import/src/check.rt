@@ -7,8 +7,8 @@ ghost use Rattle.tally_frac.specs.Limits.{most_lists};
 ghost use Rattle.tally_import.specs.Check.{Checked, Checks, IsSilent, check_result, no_header};
 ghost use Rattle.tally_import.specs.Check.{text_of};
 ghost use Rattle.tally_import.specs.Header.{header_lists};
-ghost use Rattle.tally_records.specs.Given.{IsReadingOn, WatchAgrees};
-ghost use Rattle.tally_records.specs.Watch.{flag_after_stop, has_failed};
+ghost use Rattle.tally_import_records.specs.Given.{IsReadingOn, WatchAgrees};
+ghost use Rattle.tally_import_records.specs.Watch.{flag_after_stop, has_failed};
 ghost use Rattle.tally_import.specs.declared.check.CheckFault.TheVariants as cause;
 ghost use Rattle.tally_import.specs.internal.Rounds.{AreRecordsAfter, FindsCheckText, FindsAfter};
 ghost use Rattle.tally_import.specs.internal.Progress.{HasTaken};
@@ -21,8 +21,8 @@ use crate::summary::import_text;
 use csv::ByteRecord;
 use std::alloc::{AllocError, Global};
 use std::io::{Read, Write};
+use tally_import_records::{End, Records, Sep, Stop, Watch};
 use tally_keeper::ROW_LIMIT;
-use tally_records::{End, Records, Sep, Stop, Watch};
 use tally_setup::Code;
 
 /// Why a text could not be checked.

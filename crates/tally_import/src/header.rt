@@ -8,7 +8,7 @@ ghost use Rattle.tally_import.specs.internal.FixedNames.{has_fixed_names};
 use csv::ByteRecord;
 use std::alloc::{AllocError, Global};
 use tally_frac::MOST_LISTS;
-use tally_records::field;
+use tally_import_records::field;
 use tally_setup::Code;
 
 /// How many names come before those of the lists.

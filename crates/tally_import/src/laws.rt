@@ -11,8 +11,8 @@ ghost use Rattle.tally_keeper.specs.Source.{IsLodgeOrBad};
 ghost use Rattle.tally_import.specs.Check.{check_fault, check_result};
 
 use crate::check::CheckFault;
+use tally_import_records::{Sep, Stop};
 use tally_keeper::Row;
-use tally_records::{Sep, Stop};
 
 /// A fault that was found in the bytes before a text was stopped is the fault of the whole text,
 /// whatever would have come.

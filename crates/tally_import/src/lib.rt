@@ -17,4 +17,4 @@ pub use check::{CheckFault, check_csv, check_watched};
 pub use lines::{LINE_ROOM, list_codes, push_lines};
 pub use output::{write_text, write_watched};
 pub use return_rows::ReturnRows;
-pub use tally_records::{Sep, Watch};
+pub use tally_import_records::{Sep, Watch};

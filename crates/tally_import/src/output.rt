@@ -2,11 +2,11 @@
 
 ghost use Rattle.std.specs.Prelude.{◌≡◌, ℕ, true, take, Err, OnOk, OnErr};
 ghost use Rattle.std.specs.Io.KnownBytes.{Appends};
-ghost use Rattle.tally_records.specs.Watch.{has_failed};
+ghost use Rattle.tally_import_records.specs.Watch.{has_failed};
 
 use crate::check::CheckFault;
 use std::io::Write;
-use tally_records::Watch;
+use tally_import_records::Watch;
 
 /// Writes a text as a whole and flushes. Where a write fails or takes nothing, the writer holds a
 /// prefix of the text.

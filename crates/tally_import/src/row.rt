@@ -14,8 +14,8 @@ use crate::header::FIXED_NAMES;
 use csv::ByteRecord;
 use std::alloc::{AllocError, Global};
 use std::collections::BTreeSet;
+use tally_import_records::field;
 use tally_keeper::{BadRow, Column, Row};
-use tally_records::field;
 use tally_returns::{Ask, Counts};
 use tally_setup::Code;
 

@@ -9,7 +9,7 @@ use Rattle.tally_returns.specs.declared.ask.Ask.TheVariants.{Lodge}
 use Rattle.tally_returns.specs.declared.refusal.Refusal.{Refusal}
 use Rattle.tally_returns.specs.declared.reply.LodgeReply.{LodgeReply}
 use Rattle.tally_returns.specs.declared.reply.LodgeReply.TheVariants.{Lodged, Same}
-use Rattle.tally_steps.proofs.StayLemmas.{Stay, run-stays, lodge-stays, not_lodged-again}
+use Rattle.tally_machine_law.proofs.StayLemmas.{Stay, run-stays, lodge-stays, not_lodged-again}
 use Rattle.tally_keeper.specs.Events.{answers_of, asks_of}
 use Rattle.tally_keeper.specs.Import.{RowAnswer, row_answer, after_row, answers, returns_after_import, is_lodged}
 use Rattle.tally_keeper.specs.Keeper.{Event, HappensInTurn, Happens, IsImport, whole_import}

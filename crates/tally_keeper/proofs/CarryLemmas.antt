@@ -4,11 +4,11 @@ use Rattle.std.specs.Prelude.{IsSome, IfErr, IfOk, IfSome, OnErr, OnOk, is_some,
 use Rattle.std.specs.FinMap as fin
 use Rattle.tally_setup.specs.Constituency.{Constituency}
 use Rattle.tally_setup.specs.Setup.{constituency_with}
-use Rattle.tally_steps.specs.Step.{ConChange, Decides, after_change, certified_with, con_state_after, con_change, gone_for_good, lot_set, no_change, open_again, IsConStep, answer_seen, con_answer, con_shown, edition_now, reply_seen}
+use Rattle.tally_machine_law.specs.Step.{ConChange, Decides, after_change, certified_with, con_state_after, con_change, gone_for_good, lot_set, no_change, open_again, IsConStep, answer_seen, con_answer, con_shown, edition_now, reply_seen}
 use Rattle.tally_returns.specs.GoneCandidate.{GoneCandidate}
 use Rattle.tally_returns.specs.Named.{con_named}
 use Rattle.tally_returns.specs.PastSeats.{PastSeats}
-use Rattle.tally_steps.specs.Outcome.{IsLawfulView}
+use Rattle.tally_machine_law.specs.Outcome.{IsLawfulView}
 use Rattle.tally_returns.specs.State.{con_state, last_edition}
 use Rattle.tally_returns.specs.View.{View}
 use Rattle.tally_returns.specs.declared.ask.Ask.{Ask}
@@ -19,9 +19,9 @@ use Rattle.tally_returns.specs.declared.refusal.Refusal.TheVariants.{Memory}
 use Rattle.tally_returns.specs.declared.reply.Reply.{Reply}
 use Rattle.tally_returns.specs.declared.reply.Reply.TheVariants.{Con}
 use Rattle.tally_returns.proofs.ClosedLemmas.{constituency_with-code}
-use Rattle.tally_steps.proofs.DecisionLemmas.{edition-within, gone-once}
-use Rattle.tally_steps.proofs.RecordLemmas.{records-last}
-use Rattle.tally_steps.proofs.ViewLemmas.{view-lawful}
+use Rattle.tally_machine_law.proofs.DecisionLemmas.{edition-within, gone-once}
+use Rattle.tally_machine_law.proofs.RecordLemmas.{records-last}
+use Rattle.tally_machine_law.proofs.ViewLemmas.{view-lawful}
 use Rattle.tally_keeper.specs.Kept.{AreEarlier, Kept, state_in, view_in, with_change}
 use Rattle.tally_keeper.specs.internal.Held.{CanCarryOut, CanRise, IsAnsweredOn, IsHeld, carried_reply}
 use Rattle.tally_keeper.proofs.HeldLemmas.{change-state, con-kept, held-change}

@@ -8,7 +8,7 @@ use Rattle.tally_setup.specs.Code.{code_cmp}
 use Rattle.tally_setup.specs.Constituency.{Constituency}
 use Rattle.tally_setup.specs.Limits.{IsSetup}
 use Rattle.tally_setup.specs.Setup.{constituency_with}
-use Rattle.tally_steps.specs.Step.{ConChange, certified_with, con_state_after, gone_for_good, lot_set, open_again}
+use Rattle.tally_machine_law.specs.Step.{ConChange, certified_with, con_state_after, gone_for_good, lot_set, open_again}
 use Rattle.tally_returns.specs.GoneCandidate.{GoneCandidate}
 use Rattle.tally_returns.specs.PastSeats.{PastSeats}
 use Rattle.tally_returns.specs.Progress.{progress_row}

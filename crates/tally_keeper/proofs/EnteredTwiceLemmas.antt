@@ -19,11 +19,11 @@ use Rattle.tally_returns.specs.declared.ask.Ask.TheVariants.{Lodge}
 use Rattle.tally_returns.specs.declared.refusal.Refusal.{Refusal}
 use Rattle.tally_returns.specs.declared.reply.Reply.{Reply}
 use Rattle.tally_returns.specs.declared.returns.Status.TheVariants.{Closed, Queried}
-use Rattle.tally_steps.specs.EnteredTwice.{ActsOn, BringsAt, ForCertifiedReturns, ForClosedReturns, is_first_entry, is_second_entry}
-use Rattle.tally_steps.specs.Runs.{IsRun}
-use Rattle.tally_steps.proofs.EnteredTwiceLemmas.{HasMade, IsMade, IsTurn, brings-first, brings-same, certified-each, has-made, later-brings, none-acts, turn}
-use Rattle.tally_steps.proofs.EnteredTwiceLemmas as steps
-use Rattle.tally_steps.proofs.ReturnStepLemmas.{opening-lawful}
+use Rattle.tally_machine_law.specs.EnteredTwice.{ActsOn, BringsAt, ForCertifiedReturns, ForClosedReturns, is_first_entry, is_second_entry}
+use Rattle.tally_machine_law.specs.Runs.{IsRun}
+use Rattle.tally_machine_law.proofs.EnteredTwiceLemmas.{HasMade, IsMade, IsTurn, brings-first, brings-same, certified-each, has-made, later-brings, none-acts, turn}
+use Rattle.tally_machine_law.proofs.EnteredTwiceLemmas as steps
+use Rattle.tally_machine_law.proofs.ReturnStepLemmas.{opening-lawful}
 use Rattle.tally_keeper.specs.EnteredTwice.{ActsIn, BringsIn, HoldsAt, IsEnteredTwiceIn}
 use Rattle.tally_keeper.specs.Events.{BringsCodes, lodge_answers, lodge_commands}
 use Rattle.tally_keeper.specs.Keeper.{Event, Happens, HappensInTurn, IsTaken, failed_import, request, whole_import}

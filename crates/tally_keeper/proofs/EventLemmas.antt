@@ -8,16 +8,16 @@ use Rattle.tally_setup.specs.Constituency.{Constituency}
 use Rattle.tally_setup.specs.Limits.{IsSetup}
 use Rattle.tally_returns.specs.Named.{BringsCode}
 use Rattle.tally_returns.specs.State.{State}
-use Rattle.tally_steps.specs.LawfulState.{IsLawfulState}
-use Rattle.tally_steps.specs.Runs.{IsRun, is_act, IsSameCommand, kept_elements}
+use Rattle.tally_machine_law.specs.LawfulState.{IsLawfulState}
+use Rattle.tally_machine_law.specs.Runs.{IsRun, is_act, IsSameCommand, kept_elements}
 use Rattle.tally_returns.specs.declared.ask.Ask.{Ask}
 use Rattle.tally_returns.specs.declared.ask.Ask.TheVariants.{Lodge}
 use Rattle.tally_returns.specs.declared.refusal.Refusal.{Refusal}
 use Rattle.tally_returns.specs.declared.reply.LodgeReply.TheVariants.{Lodged, Same}
 use Rattle.tally_returns.specs.declared.reply.Reply.{Reply}
-use Rattle.tally_steps.proofs.ActLemmas.{answered-idle}
-use Rattle.tally_steps.proofs.LawLemmas.{run-lawful}
-use Rattle.tally_steps.proofs.RunLemmas.{second-idle}
+use Rattle.tally_machine_law.proofs.ActLemmas.{answered-idle}
+use Rattle.tally_machine_law.proofs.LawLemmas.{run-lawful}
+use Rattle.tally_machine_law.proofs.RunLemmas.{second-idle}
 use Rattle.tally_keeper.specs.Events.{BringsCodes, acts, answers_of, asks_of, lodge_answers, lodge_commands}
 use Rattle.tally_keeper.specs.Import.{RowAnswer, IsCodedRow, is_lodged}
 use Rattle.tally_keeper.specs.Keeper.{Event, HappensInTurn, Happens, IsTaken, failed_import, request, whole_import}

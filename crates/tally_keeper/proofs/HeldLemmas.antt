@@ -11,17 +11,17 @@ use Rattle.tally_setup.specs.Limits.{IsSetup}
 use Rattle.tally_setup.specs.Setup.{constituency_with, station_with}
 use Rattle.tally_setup.specs.Text.{is_note}
 use Rattle.tally_setup.specs.declared.constituency.Station.{Station}
-use Rattle.tally_steps.specs.Certification.{Certifies, Draws, vacate_result, reopen_result}
+use Rattle.tally_machine_law.specs.Certification.{Certifies, Draws, vacate_result, reopen_result}
 use Rattle.tally_returns.specs.Checks.{check, first_refusal, refused_or}
-use Rattle.tally_steps.specs.Step.{ConChange, Decides, IsView, after_change, certified_with, con_state_after, gone_for_good, lot_set, no_change, open_again, con_answer, reply_seen, state_after, after_put, after_return, con_of_station, change_at_station, change_in_state, is_certified, with_return, without_lot}
+use Rattle.tally_machine_law.specs.Step.{ConChange, Decides, IsView, after_change, certified_with, con_state_after, gone_for_good, lot_set, no_change, open_again, con_answer, reply_seen, state_after, after_put, after_return, con_of_station, change_at_station, change_in_state, is_certified, with_return, without_lot}
 use Rattle.tally_returns.specs.Counts.{VoteCounts}
 use Rattle.tally_returns.specs.Decide.{return_change, limits_of, lodge_change, move_change, put_next}
 use Rattle.tally_returns.specs.GoneCandidate.{GoneCandidate}
-use Rattle.tally_steps.specs.LawfulState.{IsLawfulState}
+use Rattle.tally_machine_law.specs.LawfulState.{IsLawfulState}
 use Rattle.tally_returns.specs.Lodge.{StationLimits, reply_after_checks, after_lodge, counts_checks, is_return_of, lodge, lodge_answer}
 use Rattle.tally_returns.specs.Moves.{close_checks, closed_return, confirm_checks, correct_checks, corrected_return, counts_checks_at, entry_checks, may_close, may_correct, may_query, move_checks, queried_return, query_checks, same_checks}
 use Rattle.tally_returns.specs.Named.{BringsCode, con_named, station_named}
-use Rattle.tally_steps.specs.Outcome.{HasSeats}
+use Rattle.tally_machine_law.specs.Outcome.{HasSeats}
 use Rattle.tally_returns.specs.PastSeats.{PastSeats}
 use Rattle.tally_returns.specs.Return.{StationReturn, Returns}
 use Rattle.tally_returns.specs.State.{State, ConState, con_state, opening, opening_con, stations_of}
@@ -38,13 +38,13 @@ use Rattle.tally_returns.specs.declared.reply.LodgeReply.TheVariants as reply
 use Rattle.tally_returns.specs.declared.reply.Reply.{Reply}
 use Rattle.tally_returns.specs.declared.reply.Reply.TheVariants.{Con, Edition, Vacated}
 use Rattle.tally_returns.proofs.ClosedLemmas.{IsSameAt, apart-untied, closed_now, constituency_with-code, get-kept, get-put, put-elsewhere, same-tied, station-elsewhere, station_with-con, tied-same, view_with-same}
-use Rattle.tally_steps.proofs.ConStateLemmas.{con_state-with_con}
-use Rattle.tally_steps.proofs.ConStepLemmas.{con-step-lawful}
+use Rattle.tally_machine_law.proofs.ConStateLemmas.{con_state-with_con}
+use Rattle.tally_machine_law.proofs.ConStepLemmas.{con-step-lawful}
 use Rattle.tally_returns.proofs.DecideLemmas.{first_refusal-append_first, passed-first, passed-rest}
-use Rattle.tally_steps.proofs.DecisionLemmas.{certified-found, con_of-found, given-by}
-use Rattle.tally_steps.proofs.LawfulViewLemmas.{certified-seats, drawn-open}
-use Rattle.tally_steps.proofs.LifeLemmas.{after_put-returns}
-use Rattle.tally_steps.proofs.ReturnStepLemmas.{open-station, opening-lawful, put-placed, return-step-lawful}
+use Rattle.tally_machine_law.proofs.DecisionLemmas.{certified-found, con_of-found, given-by}
+use Rattle.tally_machine_law.proofs.LawfulViewLemmas.{certified-seats, drawn-open}
+use Rattle.tally_machine_law.proofs.LifeLemmas.{after_put-returns}
+use Rattle.tally_machine_law.proofs.ReturnStepLemmas.{open-station, opening-lawful, put-placed, return-step-lawful}
 use Rattle.tally_keeper.specs.Kept.{Kept, opening_kept, seats_in, state_in, view_in, with_change}
 use Rattle.tally_keeper.specs.internal.Held.{IsHeld, CarriesOutLodge, IsMoved, with_state}
 

@@ -3,8 +3,8 @@ use Rattle.std.proofs.Common.{◌≡◌, ◌↔◌, ◌++◌, List, [], ◌∷�
 use Rattle.tally_setup.specs.Constituency.{Constituency}
 use Rattle.tally_returns.specs.State.{State, stations_of}
 use Rattle.tally_returns.specs.Lodge.{lodge, lodge_answer}
-use Rattle.tally_steps.specs.Step.{reply_seen, lodge_reply}
-use Rattle.tally_steps.specs.Runs.{IsRun}
+use Rattle.tally_machine_law.specs.Step.{reply_seen, lodge_reply}
+use Rattle.tally_machine_law.specs.Runs.{IsRun}
 use Rattle.tally_returns.specs.declared.ask.Ask.{Ask}
 use Rattle.tally_returns.specs.declared.ask.Ask.TheVariants.{Lodge}
 use Rattle.tally_returns.specs.declared.refusal.Refusal.{Refusal}

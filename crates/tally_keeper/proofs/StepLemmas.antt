@@ -12,11 +12,11 @@ use Rattle.tally_returns.specs.Checks.{check, first_refusal, refused_or}
 use Rattle.tally_returns.specs.Counts.{VoteCounts, all_votes, are_counts}
 use Rattle.tally_returns.specs.Decide.{IsUnlessMemory, return_change, limits_of}
 use Rattle.tally_returns.specs.Lawful.{IsLawful}
-use Rattle.tally_steps.specs.LawfulState.{IsLawfulState}
+use Rattle.tally_machine_law.specs.LawfulState.{IsLawfulState}
 use Rattle.tally_returns.specs.Lodge.{StationLimits, Stations, reply_after_checks, counts_checks, is_return_of, reply_at_code, lodge_answer}
 use Rattle.tally_returns.specs.Named.{station_named}
-use Rattle.tally_steps.specs.Decisions.{answer_to_change}
-use Rattle.tally_steps.specs.Step.{Answer, move_reply, state_after, after_put, con_of_station, change_in_state, is_certified, with_return, without_lot}
+use Rattle.tally_machine_law.specs.Decisions.{answer_to_change}
+use Rattle.tally_machine_law.specs.Step.{Answer, move_reply, state_after, after_put, con_of_station, change_in_state, is_certified, with_return, without_lot}
 use Rattle.tally_returns.specs.Return.{StationReturn, Returns, first_return}
 use Rattle.tally_returns.specs.State.{State, con_state, stations_of}
 use Rattle.tally_returns.specs.View.{View}
@@ -33,7 +33,7 @@ use Rattle.tally_returns.proofs.ClosedLemmas.{station_with-con}
 use Rattle.tally_returns.proofs.DecideLemmas.{passed-first, passed-rest}
 use Rattle.tally_keeper.specs.Kept.{Kept, state_in, view_in, with_no_lot}
 use Rattle.tally_keeper.specs.internal.Held.{IsAnsweredInMemory, IsHeld, CarriesOutLodge, IsMoved, is_query, moves_return, with_state}
-use Rattle.tally_steps.proofs.DecisionLemmas.{certified-found, changed-step, con_of-found, decided-named}
+use Rattle.tally_machine_law.proofs.DecisionLemmas.{certified-found, changed-step, con_of-found, decided-named}
 use Rattle.tally_keeper.proofs.HeldLemmas.{lodge-step}
 
 -- ---- what is decided at a station

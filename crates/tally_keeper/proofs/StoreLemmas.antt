@@ -8,11 +8,11 @@ use Rattle.tally_returns.specs.declared.ask.Ask.{Ask}
 use Rattle.tally_returns.specs.declared.refusal.Refusal.{Refusal}
 use Rattle.tally_returns.specs.declared.refusal.Refusal.TheVariants.{Memory, Store}
 use Rattle.tally_returns.specs.declared.reply.Reply.{Reply}
-use Rattle.tally_steps.specs.Kinds.{IsReplyTo}
-use Rattle.tally_steps.specs.LawfulState.{IsLawfulState}
-use Rattle.tally_steps.specs.Step.{IsAnswered, IsStep, answer_seen}
-use Rattle.tally_steps.proofs.KindLemmas.{step-kind}
-use Rattle.tally_steps.proofs.OwnLemmas.{steps-own}
+use Rattle.tally_machine_law.specs.Kinds.{IsReplyTo}
+use Rattle.tally_machine_law.specs.LawfulState.{IsLawfulState}
+use Rattle.tally_machine_law.specs.Step.{IsAnswered, IsStep, answer_seen}
+use Rattle.tally_machine_law.proofs.KindLemmas.{step-kind}
+use Rattle.tally_machine_law.proofs.OwnLemmas.{steps-own}
 use Rattle.tally_keeper.specs.internal.Held.{IsAnsweredInMemory}
 
 -- a keeper in memory answers requests as the machine does, and never Store

@@ -5,8 +5,8 @@ use Rattle.tally_returns.specs.Return.{StationReturn}
 use Rattle.tally_returns.specs.declared.ask.Ask.{Ask}
 use Rattle.tally_returns.specs.declared.refusal.Refusal.{Refusal}
 use Rattle.tally_returns.specs.declared.reply.Reply.{Reply}
-use Rattle.tally_steps.specs.EnteredTwice.{ActsOn, AreTwoEntries, BringsAt}
-use Rattle.tally_steps.specs.EnteredTwice.{is_first_entry, is_second_entry}
+use Rattle.tally_machine_law.specs.EnteredTwice.{ActsOn, AreTwoEntries, BringsAt}
+use Rattle.tally_machine_law.specs.EnteredTwice.{is_first_entry, is_second_entry}
 use Rattle.tally_keeper.specs.Events.{lodge_answers, lodge_commands}
 use Rattle.tally_keeper.specs.Keeper.{Event, request, whole_import, failed_import}
 

@@ -2,7 +2,7 @@
 -- by one.
 use Rattle.std.specs.Prelude.{List, [], ◌∷◌, ◌++◌, Bool, false, Some, None, Result, Ok, Err}
 use Rattle.std.specs.List.{list_any}
-use Rattle.tally_steps.specs.Runs.{is_act}
+use Rattle.tally_machine_law.specs.Runs.{is_act}
 use Rattle.tally_returns.specs.Named.{BringsCode}
 use Rattle.tally_returns.specs.Reply.{as_reply}
 use Rattle.tally_returns.specs.declared.ask.Ask.{Ask}

@@ -3,7 +3,7 @@ use Rattle.std.specs.Prelude.{◌≡◌, ◌≤◌, ◌⊎◌, ◌+◌, All, Lis
 use Rattle.std.specs.Prelude.{Result, Ok, Err, IfSome}
 use Rattle.tally_setup.specs.Constituency.{Constituency}
 use Rattle.tally_returns.specs.State.{State, stations_of}
-use Rattle.tally_steps.specs.Step.{IsAnswered, IsNotAccepted}
+use Rattle.tally_machine_law.specs.Step.{IsAnswered, IsNotAccepted}
 use Rattle.tally_returns.specs.declared.ask.Ask.{Ask}
 use Rattle.tally_returns.specs.declared.refusal.Refusal.{Refusal}
 use Rattle.tally_returns.specs.declared.reply.Reply.{Reply}

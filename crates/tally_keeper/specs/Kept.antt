@@ -3,7 +3,7 @@ use Rattle.std.specs.Prelude.{◌<◌, ℕ, All, List, [], unwrap_or}
 use Rattle.std.specs.FinMap.{FinMap, get, empty, insert}
 use Rattle.tally_setup.specs.Code.{code_cmp}
 use Rattle.tally_setup.specs.Constituency.{Constituency}
-use Rattle.tally_steps.specs.Step.{ConChange, certified_with, open_again, con_state_after}
+use Rattle.tally_machine_law.specs.Step.{ConChange, certified_with, open_again, con_state_after}
 use Rattle.tally_returns.specs.PastSeats.{PastSeats}
 use Rattle.tally_returns.specs.Return.{Returns}
 use Rattle.tally_returns.specs.State.{State, ConState, PastRecords, con_state, opening_cons}

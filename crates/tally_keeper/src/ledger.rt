@@ -6,7 +6,7 @@ ghost use Rattle.std.specs.FinMap.{get, insert, remove};
 ghost use Rattle.std.specs.Option.{option_copied};
 ghost use Rattle.tally_keeper.specs.Kept.{AreEarlier, opening_kept, state_in, view_in, with_change};
 ghost use Rattle.tally_keeper.specs.Kept.{with_no_lot};
-ghost use Rattle.tally_steps.specs.Step.{certified_with, gone_for_good, lot_set, open_again};
+ghost use Rattle.tally_machine_law.specs.Step.{certified_with, gone_for_good, lot_set, open_again};
 ghost use Rattle.tally_returns.specs.Lawful.{IsLawfulAt};
 ghost use Rattle.tally_returns.specs.Progress.{progress};
 ghost use Rattle.tally_returns.specs.State.{con_state};

@@ -1,6 +1,6 @@
 //! What keeps an electoral office's state: the trait of keepers, runs over any of them, and imports
 //! with what is answered of them. `tally_core` has a keeper in memory, `tally_store` one in a
-//! database, `tally_laws` the laws of all keepers.
+//! database, `tally_theorems` the laws of all keepers.
 #![tactic(auto)]
 
 mod fault;

@@ -4,8 +4,8 @@ use Rattle.std.proofs.lemmas.Bool.{cases_lt, false≢true, false_from_ne_true}
 use Rattle.tally_setup.specs.Constituency.{Constituency}
 use Rattle.tally_frac.specs.ListSet.{has_place}
 use Rattle.tally_returns.specs.declared.refusal.Refusal.TheVariants.{LotWrongGroup}
-use Rattle.tally_steps.specs.Certification.{drawn_places, list_place, list_places, names_group, with_place}
-use Rattle.tally_steps.proofs.LotLemmas.{order-from}
+use Rattle.tally_machine_law.specs.Certification.{drawn_places, list_place, list_places, names_group, with_place}
+use Rattle.tally_machine_law.proofs.LotLemmas.{order-from}
 use Rattle.tally_allot.proofs.KeyLemmas.{few_distinct}
 
 -- the places of a group are no more than the lists

@@ -1,8 +1,8 @@
 -- The first of those who stay, found before all candidates are looked at.
 use Rattle.std.proofs.Common.{◌≡◌, ◌≤◌, ◌∙◌, ℕ, zero, suc, ◌+◌, ◌-◌, List, ◌∷◌, [], Bool, true, false, length, take, refl, sym, ap, arith}
 use Rattle.std.proofs.lemmas.List.{length_push, take-append-le, take_all}
-use Rattle.tally_steps.specs.Holders.{holders, is_among, remaining_candidates}
-use Rattle.tally_steps.proofs.HolderLemmas.{staying-more, staying-same}
+use Rattle.tally_machine_law.specs.Holders.{holders, is_among, remaining_candidates}
+use Rattle.tally_machine_law.proofs.HolderLemmas.{staying-more, staying-same}
 
 -- with one candidate more there are as many, and the first are the same
 one_more : (seats n : ℕ) (gone : List ℕ) → seats ≤ length (remaining_candidates n gone) → (take seats (remaining_candidates (n + 1) gone) ≡ take seats (remaining_candidates n gone)) × (seats ≤ length (remaining_candidates (n + 1) gone))

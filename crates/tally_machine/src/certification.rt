@@ -4,11 +4,11 @@ ghost use Rattle.std.specs.Prelude.{◌≡◌, ◌≢◌, ◌≤◌, ℕ, false,
 ghost use Rattle.std.specs.Prelude.{None, length, slice_index_or, string_bytes};
 ghost use Rattle.tally_frac.specs.Limits.{most_lists};
 ghost use Rattle.tally_allot.specs.AllotFault.{IsFaultOf};
-ghost use Rattle.tally_steps.specs.Certification.{Certifies, Draws, IsCertifyRefusal};
-ghost use Rattle.tally_steps.specs.Certification.{IsDrawRefusal, count_checks, drawn_places};
-ghost use Rattle.tally_steps.specs.Certification.{list_places, reopen_result};
+ghost use Rattle.tally_machine_law.specs.Certification.{Certifies, Draws, IsCertifyRefusal};
+ghost use Rattle.tally_machine_law.specs.Certification.{IsDrawRefusal, count_checks, drawn_places};
+ghost use Rattle.tally_machine_law.specs.Certification.{list_places, reopen_result};
 ghost use Rattle.tally_returns.specs.Checks.{first_refusal};
-ghost use Rattle.tally_steps.specs.Outcome.{IsOutcome, allotted, rule_in, poll_in};
+ghost use Rattle.tally_machine_law.specs.Outcome.{IsOutcome, allotted, rule_in, poll_in};
 ghost use Rattle.tally_returns.specs.View.{FitsView};
 ghost use Rattle.tally_returns.specs.declared.refusal.Refusal.TheVariants.{Memory};
 

@@ -1,7 +1,7 @@
 //! What is decided of a command on a constituency.
 
 ghost use Rattle.std.specs.Prelude.{◌≡◌, Some, IfOk, IfErr};
-ghost use Rattle.tally_steps.specs.Step.{IsConDecision, IsConRefusal};
+ghost use Rattle.tally_machine_law.specs.Step.{IsConDecision, IsConRefusal};
 ghost use Rattle.tally_returns.specs.Named.{con_named};
 ghost use Rattle.tally_returns.specs.View.{FitsView};
 

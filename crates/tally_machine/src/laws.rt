@@ -4,10 +4,10 @@ ghost use Rattle.tally_law.specs.LawStatements.{AllotmentsAreUnique, AllotmentsE
 ghost use Rattle.tally_law.specs.LawStatements.{EachOrderGivesAChoice, GroupsAreOfOneNumberOfVotes};
 ghost use Rattle.tally_law.specs.LawStatements.{NoLotIsNeededWhereVotesDecide};
 ghost use Rattle.tally_law.specs.LawStatements.{VotesDecideOrALotIsNeeded};
-ghost use Rattle.tally_steps.specs.Decisions as decision;
-ghost use Rattle.tally_steps.specs.EnteredTwice as entries;
-ghost use Rattle.tally_steps.specs.LawStatements as law;
-ghost use Rattle.tally_steps.specs.Records as records;
+ghost use Rattle.tally_machine_law.specs.Decisions as decision;
+ghost use Rattle.tally_machine_law.specs.EnteredTwice as entries;
+ghost use Rattle.tally_machine_law.specs.LawStatements as law;
+ghost use Rattle.tally_machine_law.specs.Records as records;
 
 use tally_allot::laws as allotment;
 

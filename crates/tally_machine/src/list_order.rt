@@ -3,9 +3,9 @@
 ghost use Rattle.std.specs.Prelude.{◌≡◌, ◌≤◌, ℕ, false, IfOk, option_map, slice_index_or};
 ghost use Rattle.std.specs.List.{list_all};
 ghost use Rattle.tally_frac.specs.ListSet.{has_place};
-ghost use Rattle.tally_steps.specs.Certification.{are_distinct, list_found, list_places};
-ghost use Rattle.tally_steps.specs.Certification.{marked_places_from, names_group};
-ghost use Rattle.tally_steps.specs.Holders.{is_among};
+ghost use Rattle.tally_machine_law.specs.Certification.{are_distinct, list_found, list_places};
+ghost use Rattle.tally_machine_law.specs.Certification.{marked_places_from, names_group};
+ghost use Rattle.tally_machine_law.specs.Holders.{is_among};
 
 use std::alloc::{AllocError, Global};
 use std::marker::Model;
@@ -20,7 +20,7 @@ pub(crate) struct Found {
 }
 
 impl Model for Found {
-    ghost use Rattle.tally_steps.specs.Certification.{ListFound};
+    ghost use Rattle.tally_machine_law.specs.Certification.{ListFound};
 
     ghost Value = { ListFound };
 

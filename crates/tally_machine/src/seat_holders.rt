@@ -1,7 +1,7 @@
 //! Who holds the seats of a list.
 
 ghost use Rattle.std.specs.Prelude.{◌≡◌, IfOk};
-ghost use Rattle.tally_steps.specs.Holders.{holders, newcomer};
+ghost use Rattle.tally_machine_law.specs.Holders.{holders, newcomer};
 
 use std::alloc::{AllocError, Global};
 

@@ -1,8 +1,8 @@
 //! What is decided of a Vacate.
 
 ghost use Rattle.std.specs.Prelude.{◌≡◌, ◌≢◌, ◌≤◌, ◌∷◌, Ok, Err, IfOk, IfErr, length};
-ghost use Rattle.tally_steps.specs.Certification.{gone_of, holders_of, vacate_result};
-ghost use Rattle.tally_steps.specs.Holders.{newcomer};
+ghost use Rattle.tally_machine_law.specs.Certification.{gone_of, holders_of, vacate_result};
+ghost use Rattle.tally_machine_law.specs.Holders.{newcomer};
 ghost use Rattle.tally_returns.specs.View.{FitsView};
 ghost use Rattle.tally_returns.specs.declared.refusal.Refusal.TheVariants.{Memory};
 

@@ -3,14 +3,14 @@
 
 ghost use Rattle.std.specs.Prelude.{◌≡◌, ◌==◌, false, not, length, IfErr, IfOk};
 ghost use Rattle.sqlite.specs.Held.{state};
-ghost use Rattle.tally_commands.specs.Trouble.{IsTroubleOfDatabase};
+ghost use Rattle.tally_office_commands.specs.Trouble.{IsTroubleOfDatabase};
 
 use sqlite::{Alter, Connection, Error, ErrorCode, FileFrom, FileStore, Wary};
 use std::alloc::Global;
 use std::fs::{self, File};
 use std::io::{self, ErrorKind};
 use std::net::{Ipv4Addr, TcpListener};
-use tally_commands::{Offices, Trouble, is_memory};
+use tally_office_commands::{Offices, Trouble, is_memory};
 use tally_store::{CreateFault, Store};
 
 /// The bytes of a page of an office's database. A database of one page has no tables.

@@ -6,7 +6,7 @@ mod databases;
 use databases::Databases;
 use std::process::ExitCode;
 use std::{env, io};
-use tally_program::{perform, report_start};
+use tally_office_program::{perform, report_start};
 
 fn main(rt: HostRuntime) -> ExitCode {
     let status = match run(&rt) {

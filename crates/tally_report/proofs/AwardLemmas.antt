@@ -15,7 +15,7 @@ use Rattle.tally_law.specs.Lot.{IsOrderOf}
 use Rattle.tally_law.specs.LotNeed.{IsLotNeeded, IsLotTaken, IsLotWrong, IsNeed}
 use Rattle.tally_law.specs.Poll.{IsEligible}
 use Rattle.tally_law.specs.Rules.{rule_with}
-use Rattle.tally_steps.specs.Outcome.{HasSeats, IsLawfulView, poll_in, rule_in}
+use Rattle.tally_machine_law.specs.Outcome.{HasSeats, IsLawfulView, poll_in, rule_in}
 use Rattle.tally_returns.specs.View.{View}
 use Rattle.tally_setup.specs.Constituency.{Constituency}
 use Rattle.tally_setup.specs.Threshold.{base_of, is_eligible}

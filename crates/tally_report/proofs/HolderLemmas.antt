@@ -3,7 +3,7 @@ use Rattle.std.proofs.Common.{◌≡◌, ◌≤◌, ◌<◌, ◌∙◌, ℕ, zer
 use Rattle.std.specs.Prelude.{not, take, if◌then◌else◌}
 use Rattle.std.specs.List.{filter, range_with_len, repeat}
 use Rattle.std.proofs.lemmas.List.{append-nil}
-use Rattle.tally_steps.specs.Holders.{holders, is_among, remaining_candidates}
+use Rattle.tally_machine_law.specs.Holders.{holders, is_among, remaining_candidates}
 
 kept : (keep : Bool) (a n i : ℕ) (rest : List ℕ) → ((j : ℕ) → j < length rest → (a + 1 ≤ get_or rest j 0) × (get_or rest j 0 < a + 1 + n))
     → i < length (if keep then a ∷ rest else rest) → (a ≤ get_or (if keep then a ∷ rest else rest) i 0) × (get_or (if keep then a ∷ rest else rest) i 0 < a + suc n)

@@ -7,7 +7,7 @@ use Rattle.std.proofs.lemmas.List.{append-nil}
 use Rattle.std.proofs.lemmas.List.Sums.{sum_by-cons}
 use Rattle.tally_law.specs.Allotment.{IsAllotment, Rule, divisors, hare}
 use Rattle.tally_law.specs.Poll.{Poll}
-use Rattle.tally_steps.specs.Outcome.{HasSeats, IsLawfulView, poll_in, rule_in}
+use Rattle.tally_machine_law.specs.Outcome.{HasSeats, IsLawfulView, poll_in, rule_in}
 use Rattle.tally_returns.specs.View.{View}
 use Rattle.tally_setup.specs.Constituency.{Constituency, ListEntry}
 use Rattle.tally_report.specs.Columns.{code_width, left_cell, line_end}

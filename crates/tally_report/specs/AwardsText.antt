@@ -10,7 +10,7 @@ use Rattle.tally_setup.specs.Constituency.{Constituency, list_codes}
 use Rattle.tally_allot.specs.Awards.{AreAwardsBy}
 use Rattle.tally_allot.specs.declared.award.Award.{Award}
 use Rattle.tally_returns.specs.View.{View}
-use Rattle.tally_steps.specs.Outcome.{poll_in, rule_in}
+use Rattle.tally_machine_law.specs.Outcome.{poll_in, rule_in}
 use Rattle.tally_report.specs.Columns.{code_width, heading, left_cell, line_end, lines_from, number}
 
 -- the code of the list at a place, from 0

@@ -10,8 +10,8 @@ use Rattle.std.specs.Prelude.{codes}
 use Rattle.std.specs.List.{flat_map, repeat}
 use Rattle.tally_setup.specs.Constituency.{Constituency, ListEntry}
 use Rattle.tally_returns.specs.View.{View}
-use Rattle.tally_steps.specs.Certification.{gone_of}
-use Rattle.tally_steps.specs.Holders.{holders}
+use Rattle.tally_machine_law.specs.Certification.{gone_of}
+use Rattle.tally_machine_law.specs.Holders.{holders}
 use Rattle.tally_report.specs.Columns.{code_width, heading, left_cell, line_end, list_lines, number}
 use Rattle.tally_report.specs.Columns.{right_cell}
 

@@ -12,7 +12,7 @@ use Rattle.tally_setup.specs.Constituency.{Constituency, ListEntry}
 use Rattle.tally_law.specs.HareAllotment.{whole_quotas, remainder}
 use Rattle.tally_law.specs.Poll.{Poll, eligible_votes, votes_of}
 use Rattle.tally_returns.specs.View.{View}
-use Rattle.tally_steps.specs.Outcome.{poll_in}
+use Rattle.tally_machine_law.specs.Outcome.{poll_in}
 use Rattle.tally_report.specs.Columns.{code_width, heading, left_cell, line_end, list_lines, number}
 
 -- the line of the list at a place, which holds so many seats

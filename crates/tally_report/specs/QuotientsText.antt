@@ -10,7 +10,7 @@ use Rattle.std.specs.List.{flat_map, range_with_len}
 use Rattle.tally_setup.specs.Constituency.{Constituency, ListEntry}
 use Rattle.tally_law.specs.Allotment.{Rule, divisors, hare}
 use Rattle.tally_returns.specs.View.{View}
-use Rattle.tally_steps.specs.Outcome.{rule_in}
+use Rattle.tally_machine_law.specs.Outcome.{rule_in}
 use Rattle.tally_report.specs.Columns.{code_width, heading, is_eligible_at, left_cell, line_end}
 use Rattle.tally_report.specs.Columns.{list_lines, number}
 

@@ -3,7 +3,7 @@ use Rattle.std.specs.Prelude.{◌≡◌, ℕ, Bool, true, false, if◌then◌els
 use Rattle.std.specs.Prelude.{None, bytes_eq, codes}
 use Rattle.tally_setup.specs.Constituency.{Constituency}
 use Rattle.tally_returns.specs.View.{View}
-use Rattle.tally_steps.specs.Outcome.{IsLawfulView}
+use Rattle.tally_machine_law.specs.Outcome.{IsLawfulView}
 use Rattle.tally_report.specs.AwardsText.{IsAwardsText}
 use Rattle.tally_report.specs.Fault.{divisors_fault, quotas_fault, seats_fault}
 use Rattle.tally_report.specs.HoldersText.{holders_text}

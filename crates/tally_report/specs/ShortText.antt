@@ -8,7 +8,7 @@ use Rattle.std.specs.Prelude.{◌≡◌, ℕ, ◌++◌, Option, Some, None, List
 use Rattle.std.specs.Prelude.{slice_index_or, if◌then◌else◌, codes}
 use Rattle.tally_setup.specs.Constituency.{Constituency, ListEntry}
 use Rattle.tally_allot.specs.VotesShort.{AreVotesShort}
-use Rattle.tally_steps.specs.Outcome.{poll_in, rule_in}
+use Rattle.tally_machine_law.specs.Outcome.{poll_in, rule_in}
 use Rattle.tally_returns.specs.View.{View}
 use Rattle.tally_report.specs.Columns.{code_width, heading, is_eligible_at, left_cell, line_end}
 use Rattle.tally_report.specs.Columns.{list_lines, number, right_cell}

@@ -47,8 +47,8 @@ tally_columns list votes base eligible =
     ++ list.name
     ++ line_end
 
-abbrev pub tally_line : Constituency → View → ℕ → ListEntry → List ℕ
-tally_line con view place list =
+abbrev pub tally_office_line : Constituency → View → ℕ → ListEntry → List ℕ
+tally_office_line con view place list =
     tally_columns list (slice_index view.votes place)
     (base_of con.profile.base view.votes view.blank) (is_eligible_at con view place)
 
@@ -58,4 +58,4 @@ tally_text con view =
     ++ codes "stations " ++ decimal view.stations ++ codes " closed " ++ decimal view.closed
     ++ line_end
     ++ valid_line view
-    ++ list_lines (tally_line con view) con
+    ++ list_lines (tally_office_line con view) con

@@ -5,7 +5,7 @@ ghost use Rattle.std.specs.Prelude.{slice_index_or, string_bytes};
 ghost use Rattle.tally_setup.specs.declared.profile.Method.TheVariants.{Hare as by_hare};
 ghost use Rattle.tally_allot.specs.Awards.{AreAwardsBy};
 ghost use Rattle.tally_allot.specs.declared.award.Award.{Award as award_type};
-ghost use Rattle.tally_steps.specs.Outcome.{IsLawfulView, poll_in, rule_in};
+ghost use Rattle.tally_machine_law.specs.Outcome.{IsLawfulView, poll_in, rule_in};
 ghost use Rattle.tally_returns.specs.View.{FitsView};
 ghost use Rattle.tally_report.specs.Fault.{IsRefused, divisors_fault};
 ghost use Rattle.tally_report.specs.Columns.{lines_from};

@@ -3,7 +3,7 @@
 ghost use Rattle.std.specs.Prelude.{◌≡◌, ℕ, ◌<◌, ◌≤◌, ◌++◌, IfOk, OnOk, [], length, map, replicate};
 ghost use Rattle.std.specs.Prelude.{slice_index, slice_index_or, string_bytes};
 ghost use Rattle.std.specs.List.{flat_map, repeat};
-ghost use Rattle.tally_steps.specs.Holders.{holders};
+ghost use Rattle.tally_machine_law.specs.Holders.{holders};
 ghost use Rattle.tally_returns.specs.View.{FitsView};
 ghost use Rattle.tally_report.specs.Fault.{IsRefused, seats_fault};
 ghost use Rattle.tally_report.specs.Columns.{list_lines};

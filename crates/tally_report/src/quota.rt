@@ -1,7 +1,7 @@
 //! Quotas and remainders.
 
 ghost use Rattle.std.specs.Prelude.{◌≡◌, ◌<◌, ◌++◌, IfOk, OnOk, length, string_bytes};
-ghost use Rattle.tally_contest.specs.internal.KeptPoll.{kept_poll};
+ghost use Rattle.tally_allot_award.specs.internal.KeptPoll.{kept_poll};
 ghost use Rattle.tally_law.specs.Poll.{IsEligible};
 ghost use Rattle.tally_returns.specs.View.{FitsView};
 ghost use Rattle.tally_report.specs.Fault.{IsRefused, quotas_fault};
@@ -11,7 +11,7 @@ ghost use Rattle.tally_report.specs.QuotaText.{quota_columns, quota_line, quota_
 use crate::column::{CODE_WIDTH, push_heading, push_left, push_number};
 use crate::fault::ReportFault;
 use std::alloc::{AllocError, Global};
-use tally_contest::{HareContest, Poll};
+use tally_allot_award::{HareContest, Poll};
 use tally_returns::ConView;
 use tally_setup::{Constituency, ListEntry};
 

@@ -3,7 +3,7 @@
 ghost use Rattle.std.specs.Prelude.{max, ◌≡◌, ◌≤◌, ◌++◌, IfOk, IfErr, OnOk, length, string_bytes};
 ghost use Rattle.std.specs.List.{flat_map, range_with_len};
 ghost use Rattle.tally_frac.specs.Limits.{last_divisor, most_seats, most_votes};
-ghost use Rattle.tally_steps.specs.Outcome.{IsLawfulView};
+ghost use Rattle.tally_machine_law.specs.Outcome.{IsLawfulView};
 ghost use Rattle.tally_returns.specs.View.{FitsView};
 ghost use Rattle.tally_report.specs.Fault.{IsRefused, divisors_fault};
 ghost use Rattle.tally_report.specs.Columns.{list_lines};

@@ -4,7 +4,7 @@ ghost use Rattle.std.specs.Prelude.{◌≡◌, ◌≢◌, true, ◌++◌, IfOk, 
 ghost use Rattle.std.specs.Prelude.{slice_index_or, string_bytes};
 ghost use Rattle.tally_setup.specs.Threshold.{eligible_lists};
 ghost use Rattle.tally_setup.specs.declared.profile.Method.TheVariants.{Hare as by_hare};
-ghost use Rattle.tally_steps.specs.Outcome.{IsLawfulView};
+ghost use Rattle.tally_machine_law.specs.Outcome.{IsLawfulView};
 ghost use Rattle.tally_returns.specs.View.{FitsView};
 ghost use Rattle.tally_report.specs.Fault.{IsRefused, divisors_fault};
 ghost use Rattle.tally_report.specs.Columns.{list_lines};

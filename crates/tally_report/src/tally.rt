@@ -5,7 +5,7 @@ ghost use Rattle.tally_frac.specs.Limits.{most_votes};
 ghost use Rattle.tally_setup.specs.Threshold.{IsWithinVotes, eligible_lists};
 ghost use Rattle.tally_returns.specs.View.{FitsView};
 ghost use Rattle.tally_report.specs.Columns.{list_lines, right_cell};
-ghost use Rattle.tally_report.specs.TallyText.{hundredths, share, tally_columns, tally_line};
+ghost use Rattle.tally_report.specs.TallyText.{hundredths, share, tally_columns, tally_office_line};
 ghost use Rattle.tally_report.specs.TallyText.{tally_text, valid_line};
 ghost use Rattle.tally_report.specs.declared.fault.ReportFault.TheVariants.{Memory};
 
@@ -52,7 +52,7 @@ fn push_lists(
     requires view { FitsView con.now view.now }
     requires marks { marks.now ≡ eligible_lists con.now.profile view.now.votes view.now.blank }
     ensures { OnOk result (string_bytes text.new
-        ≡ string_bytes text.old ++ list_lines (tally_line con.now view.now) con.now) }
+        ≡ string_bytes text.old ++ list_lines (tally_office_line con.now view.now) con.now) }
 {
     let base = base_of(con.profile.base, &view.votes, view.blank);
     for (place, list) in con.lists.iter().enumerate() {

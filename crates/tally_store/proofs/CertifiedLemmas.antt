@@ -6,24 +6,24 @@ use Rattle.std.specs.List.{flat_map}
 use Rattle.std.specs.Option.{option_to_list}
 use Rattle.std.proofs.lemmas.List.{append-nil}
 use Rattle.sqlite.specs.State.{State as Seen}
-use Rattle.tally_schema.specs.Rows.{AreRowsOf, has_key}
-use Rattle.tally_schema.proofs.RowsLemmas.{rows_of_key}
+use Rattle.tally_store_schema.specs.Rows.{AreRowsOf, has_key}
+use Rattle.tally_store_schema.proofs.RowsLemmas.{rows_of_key}
 use Rattle.tally_setup.specs.Constituency.{Constituency}
 use Rattle.tally_setup.specs.Limits.{IsSetup}
 use Rattle.tally_setup.specs.Setup.{constituency_with}
 use Rattle.tally_returns.specs.State.{ConState, State, con_state, opening_con}
 use Rattle.tally_returns.specs.View.{View, view_of}
-use Rattle.tally_steps.specs.LawStatements.{CertificatesAreRight}
-use Rattle.tally_steps.specs.LawfulState.{IsLawfulState}
-use Rattle.tally_steps.specs.Step.{IsView}
-use Rattle.tally_steps.proofs.ViewLemmas.{constituency-code}
-use Rattle.tally_schema.specs.declared.table.KeyedTable.TheVariants.{Seats}
-use Rattle.tally_schema.specs.Office.{rows_in, tree_of}
-use Rattle.tally_tables.specs.Cells.{item_row, numbers_with_places, seat_rows}
+use Rattle.tally_machine_law.specs.LawStatements.{CertificatesAreRight}
+use Rattle.tally_machine_law.specs.LawfulState.{IsLawfulState}
+use Rattle.tally_machine_law.specs.Step.{IsView}
+use Rattle.tally_machine_law.proofs.ViewLemmas.{constituency-code}
+use Rattle.tally_store_schema.specs.declared.table.KeyedTable.TheVariants.{Seats}
+use Rattle.tally_store_schema.specs.Office.{rows_in, tree_of}
+use Rattle.tally_store_rows.specs.Cells.{item_row, numbers_with_places, seat_rows}
 use Rattle.tally_store.specs.Certified.{HasCertificates}
 use Rattle.tally_store.specs.Content.{content_of}
-use Rattle.tally_opening.specs.Office.{IsOffice}
-use Rattle.tally_opening.proofs.ShownLemmas.{items_keyed}
+use Rattle.tally_store_open.specs.Office.{IsOffice}
+use Rattle.tally_store_open.proofs.ShownLemmas.{items_keyed}
 
 found-some : (found : Option ConState) → is_some found ≡ true → found ≡ Some (unwrap_or found opening_con)
 found-some None is = cc

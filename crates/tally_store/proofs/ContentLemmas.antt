@@ -13,18 +13,18 @@ use Rattle.tally_setup.specs.Limits.{IsSetup}
 use Rattle.tally_returns.specs.Return.{Returns}
 use Rattle.tally_returns.specs.State.{ConState, GoneCandidates, PastRecords, State, opening}
 use Rattle.tally_returns.specs.View.{gone_candidate, gone_candidates, past_record, past_records, view_with}
-use Rattle.tally_steps.specs.LawfulState.{IsLawfulState, IsUnderPlaces}
-use Rattle.tally_steps.specs.LawStatements.{ViewsAreLawful}
-use Rattle.tally_schema.specs.Rows.{text_cmp}
-use Rattle.tally_schema.specs.declared.table.KeyedTable.TheVariants.{Returns as Heads, Counts, Cons, Lots, Seats, Gone, Totals, Past}
-use Rattle.tally_opening.specs.OfficeRows.{AreOfficeRows}
-use Rattle.tally_opening.proofs.StateLemmas.{IsHeld, all_held, under_held, view_entry, view_is, views_of}
-use Rattle.tally_opening.proofs.VerdictLemmas.{known_state, must_read, must_view}
+use Rattle.tally_machine_law.specs.LawfulState.{IsLawfulState, IsUnderPlaces}
+use Rattle.tally_machine_law.specs.LawStatements.{ViewsAreLawful}
+use Rattle.tally_store_schema.specs.Rows.{text_cmp}
+use Rattle.tally_store_schema.specs.declared.table.KeyedTable.TheVariants.{Returns as Heads, Counts, Cons, Lots, Seats, Gone, Totals, Past}
+use Rattle.tally_store_open.specs.OfficeRows.{AreOfficeRows}
+use Rattle.tally_store_open.proofs.StateLemmas.{IsHeld, all_held, under_held, view_entry, view_is, views_of}
+use Rattle.tally_store_open.proofs.VerdictLemmas.{known_state, must_read, must_view}
 use Rattle.tally_store.specs.Content.{con_entry, con_seen, cons_read, content_of, gone_entry, office_rows, past_entry, state_read, state_with, with_returns}
-use Rattle.tally_opening.specs.internal.Opening.{ShowsOffice}
-use Rattle.tally_opening.specs.Office.{IsOffice}
+use Rattle.tally_store_open.specs.internal.Opening.{ShowsOffice}
+use Rattle.tally_store_open.specs.Office.{IsOffice}
 use Rattle.tally_store.proofs.SortedLemmas.{sorted_shows}
-use Rattle.tally_opening.proofs.TableLemmas.{rows_of_tables}
+use Rattle.tally_store_open.proofs.TableLemmas.{rows_of_tables}
 
 -- ---- from what is seen of a constituency back to what it has come to
 

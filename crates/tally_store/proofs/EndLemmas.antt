@@ -10,17 +10,17 @@ use Rattle.tally_returns.specs.State.{State}
 use Rattle.tally_returns.specs.declared.ask.Ask.{Ask}
 use Rattle.tally_returns.specs.declared.refusal.Refusal.{Refusal}
 use Rattle.tally_returns.specs.declared.reply.Reply.{Reply}
-use Rattle.tally_steps.specs.LawfulState.{IsLawfulState}
-use Rattle.tally_steps.specs.Step.{IsNotAccepted}
+use Rattle.tally_machine_law.specs.LawfulState.{IsLawfulState}
+use Rattle.tally_machine_law.specs.Step.{IsNotAccepted}
 use Rattle.tally_keeper.specs.Shown.{IsOwnRefusal}
-use Rattle.tally_requests.specs.internal.Known.{AreKnown, ForgetsNone, Known}
-use Rattle.tally_requests.specs.internal.Requests.{IsCarriedOut}
-use Rattle.tally_schema.specs.Office.{IsInside}
-use Rattle.tally_tables.specs.TablesOfState.{AreTables}
-use Rattle.tally_opening.specs.Create.{IsAsBefore}
-use Rattle.tally_opening.specs.Office.{HasState, IsOffice}
-use Rattle.tally_opening.proofs.EndingLemmas.{Began, rolled_back}
-use Rattle.tally_opening.proofs.UnwrittenLemmas.{LeavesCommit}
+use Rattle.tally_store_commands.specs.internal.Known.{AreKnown, ForgetsNone, Known}
+use Rattle.tally_store_commands.specs.internal.Requests.{IsCarriedOut}
+use Rattle.tally_store_schema.specs.Office.{IsInside}
+use Rattle.tally_store_rows.specs.TablesOfState.{AreTables}
+use Rattle.tally_store_open.specs.Create.{IsAsBefore}
+use Rattle.tally_store_open.specs.Office.{HasState, IsOffice}
+use Rattle.tally_store_open.proofs.EndingLemmas.{Began, rolled_back}
+use Rattle.tally_store_open.proofs.UnwrittenLemmas.{LeavesCommit}
 use Rattle.tally_store.specs.Crash.{LeavesAfter, WritesNothing}
 use Rattle.tally_store.specs.Store.{IsOfLawfulState}
 use Rattle.tally_store.specs.internal.Served.{IsKnownOf}

@@ -11,8 +11,8 @@ use Rattle.sqlite.specs.State.{State as Seen}
 use Rattle.sqlite_keyed.proofs.ListLemmas.{all_weaker}
 use Rattle.sqlite_value.specs.declared.value.Value.TheVariants.{Int, Text}
 use Rattle.sqlite_value.specs.Order.{Row}
-use Rattle.tally_schema.specs.Rows.{has_key}
-use Rattle.tally_schema.proofs.RowsLemmas.{keys_rise, rows_of_key}
+use Rattle.tally_store_schema.specs.Rows.{has_key}
+use Rattle.tally_store_schema.proofs.RowsLemmas.{keys_rise, rows_of_key}
 use Rattle.tally_setup.specs.Constituency.{Constituency}
 use Rattle.tally_setup.specs.Limits.{IsSetup}
 use Rattle.tally_setup.specs.Setup.{constituency_with, station_with}
@@ -24,16 +24,16 @@ use Rattle.tally_returns.specs.State.{State}
 use Rattle.tally_returns.specs.declared.returns.Status.{Status}
 use Rattle.tally_returns.specs.declared.returns.Status.TheVariants.{Received, Queried, Corrected, Closed}
 use Rattle.tally_returns.proofs.ClosedLemmas.{constituency_with-own, station_with-con}
-use Rattle.tally_steps.specs.EnteredTwice.{ForClosedReturns}
-use Rattle.tally_steps.specs.LawfulState.{IsLawfulState}
+use Rattle.tally_machine_law.specs.EnteredTwice.{ForClosedReturns}
+use Rattle.tally_machine_law.specs.LawfulState.{IsLawfulState}
 use Rattle.tally_keeper.specs.EnteredTwice.{IsEnteredTwiceIn}
 use Rattle.tally_keeper.specs.Keeper.{Event}
-use Rattle.tally_opening.proofs.EntriesLemmas.{each_found}
-use Rattle.tally_schema.specs.declared.table.KeyedTable.TheVariants.{Returns, Counts}
-use Rattle.tally_schema.specs.Office.{rows_in}
-use Rattle.tally_tables.specs.Cells.{constituency_of, count_rows, items_of, return_row, return_rows, status_number}
-use Rattle.tally_opening.specs.Office.{IsOffice}
-use Rattle.tally_opening.proofs.ShownLemmas.{items_keyed}
+use Rattle.tally_store_open.proofs.EntriesLemmas.{each_found}
+use Rattle.tally_store_schema.specs.declared.table.KeyedTable.TheVariants.{Returns, Counts}
+use Rattle.tally_store_schema.specs.Office.{rows_in}
+use Rattle.tally_store_rows.specs.Cells.{constituency_of, count_rows, items_of, return_row, return_rows, status_number}
+use Rattle.tally_store_open.specs.Office.{IsOffice}
+use Rattle.tally_store_open.proofs.ShownLemmas.{items_keyed}
 use Rattle.tally_store.specs.EnteredTwice.{HasRowsEnteredTwice, IsClosedRow, IsRowEnteredTwice}
 
 closed-number : (status : Status) → status_number status ≡ status_number Closed → status ≡ Closed

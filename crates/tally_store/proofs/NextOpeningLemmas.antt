@@ -23,14 +23,14 @@ use Rattle.tally_rules.specs.Fault.{IsFaultIn, without_place}
 use Rattle.tally_rules.specs.Reading.{setup_of_text}
 use Rattle.tally_rules.specs.declared.fault.SetupFault.{SetupFault}
 use Rattle.tally_rules.specs.declared.fault.SetupFault.TheVariants as setup_fault
-use Rattle.tally_schema.specs.Made.{has_former_tables, has_table}
-use Rattle.tally_schema.specs.Tables.{former_schema, office_schema}
-use Rattle.tally_steps.specs.LawfulState.{IsLawfulState}
-use Rattle.tally_tables.specs.TablesOfState.{AreTables, version}
-use Rattle.tally_opening.specs.Office.{HasOfficeSchema, IsWholeOffice}
-use Rattle.tally_opening.specs.Open.{AreFormerTables, AreFound, AreOfOneState, HasSetup, IsOfKnownVersion, IsOpenFault}
-use Rattle.tally_opening.proofs.OpenedLemmas.{forms_differ, one_row, one_setup}
-use Rattle.tally_opening.proofs.WholeLemmas.{listed}
+use Rattle.tally_store_schema.specs.Made.{has_former_tables, has_table}
+use Rattle.tally_store_schema.specs.Tables.{former_schema, office_schema}
+use Rattle.tally_machine_law.specs.LawfulState.{IsLawfulState}
+use Rattle.tally_store_rows.specs.TablesOfState.{AreTables, version}
+use Rattle.tally_store_open.specs.Office.{HasOfficeSchema, IsWholeOffice}
+use Rattle.tally_store_open.specs.Open.{AreFormerTables, AreFound, AreOfOneState, HasSetup, IsOfKnownVersion, IsOpenFault}
+use Rattle.tally_store_open.proofs.OpenedLemmas.{forms_differ, one_row, one_setup}
+use Rattle.tally_store_open.proofs.WholeLemmas.{listed}
 use Rattle.tally_store.specs.Crash.{IsKept}
 use Rattle.tally_store.specs.NextOpening.{FindsContent, FindsWhatIsLeft, OpensAs, OpensWholeOffice}
 

@@ -11,7 +11,7 @@ use Rattle.sqlite.specs.declared.transaction.Transaction.{Transaction}
 use Rattle.sqlite.specs.State.{State as Seen, HasCleanDisk, IsUnchanged, KeepsCounts, Shows, Survives}
 use Rattle.sqlite_trees.specs.declared.store.Store.{Ghosts}
 use Rattle.sqlite_trees.specs.Tree.{Trees}
-use Rattle.tally_schema.specs.Rows.{HaveDistinctRowids}
+use Rattle.tally_store_schema.specs.Rows.{HaveDistinctRowids}
 use Rattle.tally_setup.specs.Constituency.{Constituency}
 use Rattle.tally_setup.specs.Limits.{IsSetup}
 use Rattle.tally_returns.specs.Named.{BringsCode}
@@ -24,11 +24,11 @@ use Rattle.tally_returns.specs.declared.ask.Ask.{Ask}
 use Rattle.tally_returns.specs.declared.refusal.Refusal.{Refusal}
 use Rattle.tally_returns.specs.declared.refusal.Refusal.TheVariants as refusal
 use Rattle.tally_returns.specs.declared.reply.Reply.{Reply}
-use Rattle.tally_steps.specs.LawStatements.{ViewsAreLawful}
-use Rattle.tally_steps.specs.LawfulState.{IsLawfulState}
-use Rattle.tally_steps.specs.Step.{IsAnswered, IsNotAccepted}
-use Rattle.tally_steps.proofs.LawLemmas.{answered-lawful}
-use Rattle.tally_opening.specs.Numbers.{HasNumbers}
+use Rattle.tally_machine_law.specs.LawStatements.{ViewsAreLawful}
+use Rattle.tally_machine_law.specs.LawfulState.{IsLawfulState}
+use Rattle.tally_machine_law.specs.Step.{IsAnswered, IsNotAccepted}
+use Rattle.tally_machine_law.proofs.LawLemmas.{answered-lawful}
+use Rattle.tally_store_open.specs.Numbers.{HasNumbers}
 use Rattle.tally_keeper.specs.Events.{BringsCodes}
 use Rattle.tally_keeper.specs.Keeper.{Event, Happens, Imports, IsImportFault, IsImportOf, failed_import, request, whole_import}
 use Rattle.tally_keeper.specs.Source.{Delivery}
@@ -36,24 +36,24 @@ use Rattle.tally_keeper.specs.declared.import.ImportCount.{ImportCount}
 use Rattle.tally_keeper.specs.declared.source.ImportFault.{ImportFault}
 use Rattle.tally_keeper.proofs.EventLemmas.{happen-lawful}
 use Rattle.tally_keeper.proofs.TreeLemmas.{get-tree}
-use Rattle.tally_requests.specs.internal.Inside.{IsLawfulInside, StaysInState}
-use Rattle.tally_requests.specs.internal.Known.{AreKnown, Known, known_of}
-use Rattle.tally_requests.specs.internal.Requests.{IsCarriedOut, IsImported, IsImportedKnown, IsInState}
-use Rattle.tally_schema.specs.internal.Inside.{StaysInside}
-use Rattle.tally_schema.specs.declared.table.KeyedTable.{KeyedTable}
-use Rattle.tally_schema.specs.Office.{IsInside, tree_of}
-use Rattle.tally_tables.specs.TablesOfState.{AreTables}
-use Rattle.tally_tables.specs.Views.{statuses_of}
-use Rattle.tally_tables.specs.declared.views.Statuses.{Statuses}
+use Rattle.tally_store_commands.specs.internal.Inside.{IsLawfulInside, StaysInState}
+use Rattle.tally_store_commands.specs.internal.Known.{AreKnown, Known, known_of}
+use Rattle.tally_store_commands.specs.internal.Requests.{IsCarriedOut, IsImported, IsImportedKnown, IsInState}
+use Rattle.tally_store_schema.specs.internal.Inside.{StaysInside}
+use Rattle.tally_store_schema.specs.declared.table.KeyedTable.{KeyedTable}
+use Rattle.tally_store_schema.specs.Office.{IsInside, tree_of}
+use Rattle.tally_store_rows.specs.TablesOfState.{AreTables}
+use Rattle.tally_store_rows.specs.Views.{statuses_of}
+use Rattle.tally_store_rows.specs.declared.views.Statuses.{Statuses}
 use Rattle.tally_store.specs.Content.{content_of}
 use Rattle.tally_store.specs.Crash.{AreTablesAfter, AreTablesImported, LeavesImported, WritesNothing}
-use Rattle.tally_opening.specs.Create.{IsAsBefore}
+use Rattle.tally_store_open.specs.Create.{IsAsBefore}
 use Rattle.tally_store.specs.internal.Requests.{Does, DoesImport, EndsImport, IsDone, IsAllDone, IsAllKnown, IsImportDone, IsNothing, KnowsAfter, KnowsImported}
-use Rattle.tally_opening.specs.Office.{HasState, IsOffice}
-use Rattle.tally_opening.proofs.UnwrittenLemmas.{LeavesCommit}
+use Rattle.tally_store_open.specs.Office.{HasState, IsOffice}
+use Rattle.tally_store_open.proofs.UnwrittenLemmas.{LeavesCommit}
 use Rattle.tally_store.specs.Store.{IsStored, KeepsText}
 use Rattle.tally_store.specs.internal.Served.{IsServed}
-use Rattle.tally_opening.proofs.WholeLemmas.{whole_inside}
+use Rattle.tally_store_open.proofs.WholeLemmas.{whole_inside}
 use Rattle.tally_store.proofs.ContentLemmas.{content_is, content_shut}
 
 -- ---- a read before the rest

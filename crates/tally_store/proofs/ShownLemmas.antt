@@ -11,19 +11,19 @@ use Rattle.tally_returns.specs.State.{State}
 use Rattle.tally_returns.specs.View.{View}
 use Rattle.tally_returns.specs.declared.ask.Ask.TheVariants.{ShowCon}
 use Rattle.tally_returns.specs.declared.refusal.Refusal.{Refusal}
-use Rattle.tally_steps.specs.LawStatements.{ViewsAreLawful}
-use Rattle.tally_steps.specs.LawfulState.{IsLawfulState}
-use Rattle.tally_steps.specs.Step.{IsNotAccepted}
-use Rattle.tally_steps.proofs.LawLemmas.{answered-lawful}
+use Rattle.tally_machine_law.specs.LawStatements.{ViewsAreLawful}
+use Rattle.tally_machine_law.specs.LawfulState.{IsLawfulState}
+use Rattle.tally_machine_law.specs.Step.{IsNotAccepted}
+use Rattle.tally_machine_law.proofs.LawLemmas.{answered-lawful}
 use Rattle.tally_keeper.specs.Keeper.{Happens, request}
 use Rattle.tally_keeper.specs.Shown.{AnswersShowCon, con_with}
-use Rattle.tally_requests.specs.internal.Known.{AreKnown, Known}
-use Rattle.tally_requests.specs.internal.Requests.{IsCarriedOut}
-use Rattle.tally_requests.specs.internal.Shown.{IsShownIn}
-use Rattle.tally_requests.proofs.KnownLemmas.{con-returns}
-use Rattle.tally_schema.specs.Office.{IsInside}
-use Rattle.tally_tables.specs.TablesOfState.{AreTables}
-use Rattle.tally_opening.specs.Office.{HasState, IsOffice}
+use Rattle.tally_store_commands.specs.internal.Known.{AreKnown, Known}
+use Rattle.tally_store_commands.specs.internal.Requests.{IsCarriedOut}
+use Rattle.tally_store_commands.specs.internal.Shown.{IsShownIn}
+use Rattle.tally_store_commands.proofs.KnownLemmas.{con-returns}
+use Rattle.tally_store_schema.specs.Office.{IsInside}
+use Rattle.tally_store_rows.specs.TablesOfState.{AreTables}
+use Rattle.tally_store_open.specs.Office.{HasState, IsOffice}
 use Rattle.tally_store.specs.Content.{content_of}
 use Rattle.tally_store.specs.Store.{IsStored, KeepsText}
 use Rattle.tally_store.specs.internal.Served.{IsServed}

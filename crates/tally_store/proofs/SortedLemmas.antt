@@ -10,8 +10,8 @@ use Rattle.sqlite_keyed.proofs.SortLemmas.{IsPermutation-sort_by, sorted_unique}
 use Rattle.sqlite_trees.specs.Tree.{IsAscending}
 use Rattle.sqlite_value.proofs.OrderLemmas.{row_cmp_total}
 use Rattle.sqlite.specs.State.{State as Seen}
-use Rattle.tally_schema.specs.declared.table.KeyedTable.{KeyedTable}
-use Rattle.tally_schema.specs.Office.{ShowsTable, key_cells, rows_in}
+use Rattle.tally_store_schema.specs.declared.table.KeyedTable.{KeyedTable}
+use Rattle.tally_store_schema.specs.Office.{ShowsTable, key_cells, rows_in}
 use Rattle.tally_store.specs.Content.{by_key, sorted_rows}
 
 module _ {X : Type 0} (cmp : X → X → Ordering) (total : IsTotalOrder cmp) where

@@ -11,16 +11,16 @@ use Rattle.tally_returns.specs.State.{State}
 use Rattle.tally_returns.specs.declared.refusal.Refusal.{Refusal}
 use Rattle.tally_returns.specs.declared.refusal.Refusal.TheVariants.{NoConstituency}
 use Rattle.tally_returns.specs.declared.station_row.StationRow.{StationRow}
-use Rattle.tally_steps.specs.LawStatements.{ViewsAreLawful}
-use Rattle.tally_steps.specs.LawfulState.{IsLawfulState}
+use Rattle.tally_machine_law.specs.LawStatements.{ViewsAreLawful}
+use Rattle.tally_machine_law.specs.LawfulState.{IsLawfulState}
 use Rattle.tally_keeper.specs.Shown.{IsReturnsRefusal, ShowsReturns}
-use Rattle.tally_requests.specs.internal.Known.{AreKnown, Known}
-use Rattle.tally_requests.specs.internal.Requests.{IsInState}
-use Rattle.tally_requests.specs.internal.Stations.{FindsStations}
-use Rattle.tally_requests.proofs.LodgedLemmas.{still}
-use Rattle.tally_schema.specs.Office.{IsInside}
-use Rattle.tally_opening.specs.Create.{IsAsBefore}
-use Rattle.tally_opening.specs.Office.{HasState, IsOffice}
+use Rattle.tally_store_commands.specs.internal.Known.{AreKnown, Known}
+use Rattle.tally_store_commands.specs.internal.Requests.{IsInState}
+use Rattle.tally_store_commands.specs.internal.Stations.{FindsStations}
+use Rattle.tally_store_commands.proofs.LodgedLemmas.{still}
+use Rattle.tally_store_schema.specs.Office.{IsInside}
+use Rattle.tally_store_open.specs.Create.{IsAsBefore}
+use Rattle.tally_store_open.specs.Office.{HasState, IsOffice}
 use Rattle.tally_store.specs.Content.{content_of}
 use Rattle.tally_store.specs.Crash.{LeavesSame, LooksWithoutWriting, WritesNothing}
 use Rattle.tally_store.specs.Store.{IsStored, KeepsText}

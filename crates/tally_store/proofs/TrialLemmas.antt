@@ -6,23 +6,23 @@ use Rattle.sqlite.specs.declared.error.Error.{Error}
 use Rattle.sqlite.proofs.StateLemmas.{survives_then}
 use Rattle.tally_setup.specs.Constituency.{Constituency}
 use Rattle.tally_returns.specs.State.{State}
-use Rattle.tally_steps.specs.LawStatements.{ViewsAreLawful}
+use Rattle.tally_machine_law.specs.LawStatements.{ViewsAreLawful}
 use Rattle.tally_keeper.specs.Keeper.{IsImportFault, Tries}
 use Rattle.tally_keeper.specs.NamedRows.{NamesRows}
 use Rattle.tally_keeper.specs.Source.{Delivery}
 use Rattle.tally_keeper.specs.declared.import.ImportCount.{ImportCount}
 use Rattle.tally_keeper.specs.declared.import.NamedRow.{NamedRow}
 use Rattle.tally_keeper.specs.declared.source.ImportFault.{ImportFault}
-use Rattle.tally_requests.specs.internal.Inside.{IsLawfulInside}
-use Rattle.tally_requests.specs.internal.Known.{Known}
-use Rattle.tally_schema.specs.Office.{IsInside}
-use Rattle.tally_tables.specs.TablesOfState.{AreTables}
-use Rattle.tally_opening.specs.Crash.{IsUnwritten}
-use Rattle.tally_opening.specs.Create.{IsAsBefore}
-use Rattle.tally_opening.specs.Office.{HasState, IsOffice}
-use Rattle.tally_opening.specs.internal.Ending.{EndsUnchanged, IsSettled}
-use Rattle.tally_opening.proofs.EndingLemmas.{Began, rolled_back}
-use Rattle.tally_opening.proofs.UnwrittenLemmas.{LeavesCommit}
+use Rattle.tally_store_commands.specs.internal.Inside.{IsLawfulInside}
+use Rattle.tally_store_commands.specs.internal.Known.{Known}
+use Rattle.tally_store_schema.specs.Office.{IsInside}
+use Rattle.tally_store_rows.specs.TablesOfState.{AreTables}
+use Rattle.tally_store_open.specs.Crash.{IsUnwritten}
+use Rattle.tally_store_open.specs.Create.{IsAsBefore}
+use Rattle.tally_store_open.specs.Office.{HasState, IsOffice}
+use Rattle.tally_store_open.specs.internal.Ending.{EndsUnchanged, IsSettled}
+use Rattle.tally_store_open.proofs.EndingLemmas.{Began, rolled_back}
+use Rattle.tally_store_open.proofs.UnwrittenLemmas.{LeavesCommit}
 use Rattle.tally_store.specs.Content.{content_of}
 use Rattle.tally_store.specs.Store.{IsOfLawfulState, IsStored, KeepsText}
 use Rattle.tally_store.specs.internal.Served.{IsServed}

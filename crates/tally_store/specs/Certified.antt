@@ -1,18 +1,18 @@
 -- What the database of an office has of a certified constituency.
 use Rattle.std.specs.Prelude.{◌≡◌, ℕ, true, List, map, filter, Some, IsPermutation}
 use Rattle.sqlite.specs.State.{State as Seen}
-use Rattle.tally_schema.specs.Rows.{has_key}
+use Rattle.tally_store_schema.specs.Rows.{has_key}
 use Rattle.tally_setup.specs.Constituency.{Constituency}
 use Rattle.tally_setup.specs.Setup.{constituency_with}
 use Rattle.tally_returns.specs.State.{State, con_state}
 use Rattle.tally_returns.specs.View.{View}
-use Rattle.tally_steps.specs.LawfulState.{IsLawfulState}
-use Rattle.tally_steps.specs.Outcome.{IsCertificate}
-use Rattle.tally_steps.specs.Step.{IsView}
-use Rattle.tally_schema.specs.declared.table.KeyedTable.TheVariants.{Seats}
-use Rattle.tally_schema.specs.Office.{rows_in}
-use Rattle.tally_tables.specs.Cells.{item_row, numbers_with_places}
-use Rattle.tally_opening.specs.Office.{IsOffice}
+use Rattle.tally_machine_law.specs.LawfulState.{IsLawfulState}
+use Rattle.tally_machine_law.specs.Outcome.{IsCertificate}
+use Rattle.tally_machine_law.specs.Step.{IsView}
+use Rattle.tally_store_schema.specs.declared.table.KeyedTable.TheVariants.{Seats}
+use Rattle.tally_store_schema.specs.Office.{rows_in}
+use Rattle.tally_store_rows.specs.Cells.{item_row, numbers_with_places}
+use Rattle.tally_store_open.specs.Office.{IsOffice}
 use Rattle.tally_store.specs.Content.{content_of}
 
 -- The rows of `seats` of this constituency, in any order: one for each list, with the seats of a

@@ -13,14 +13,15 @@ use Rattle.tally_returns.specs.Return.{StationReturn}
 use Rattle.tally_returns.specs.State.{ConState, State, opening}
 use Rattle.tally_returns.specs.View.{View}
 use Rattle.tally_keeper.specs.Kept.{Kept, opening_kept, view_in}
-use Rattle.tally_schema.specs.declared.table.KeyedTable.{KeyedTable}
-use Rattle.tally_schema.specs.declared.table.KeyedTable.TheVariants.{Returns, Counts, Cons}
-use Rattle.tally_schema.specs.declared.table.KeyedTable.TheVariants.{Lots, Seats, Gone, Totals}
-use Rattle.tally_schema.specs.declared.table.KeyedTable.TheVariants.{Past}
-use Rattle.tally_schema.specs.Office.{key_cells, rows_in}
-use Rattle.tally_tables.specs.Reading.{entries_in}
-use Rattle.tally_tables.specs.Views.{views_from}
-use Rattle.tally_opening.specs.OfficeRows.{RowsInOrder}
+use Rattle.tally_store_schema.specs.declared.table.KeyedTable.{KeyedTable}
+use Rattle.tally_store_schema.specs.declared.table.KeyedTable.TheVariants.{Returns, Counts, Cons}
+use Rattle.tally_store_schema.specs.declared.table.KeyedTable.TheVariants.{Lots, Seats, Gone}
+use Rattle.tally_store_schema.specs.declared.table.KeyedTable.TheVariants.{Totals}
+use Rattle.tally_store_schema.specs.declared.table.KeyedTable.TheVariants.{Past}
+use Rattle.tally_store_schema.specs.Office.{key_cells, rows_in}
+use Rattle.tally_store_rows.specs.Reading.{entries_in}
+use Rattle.tally_store_rows.specs.Views.{views_from}
+use Rattle.tally_store_open.specs.OfficeRows.{RowsInOrder}
 
 -- the order of rows by the columns of their key
 abbrev pub by_key : KeyedTable → Row → Row → Ordering

@@ -4,9 +4,9 @@ use Rattle.std.specs.Prelude.{◌≡◌, List, ℕ, IsTrue, Some, false}
 use Rattle.sqlite.specs.State.{State as Seen, HasCleanDisk}
 use Rattle.tally_setup.specs.Constituency.{Constituency}
 use Rattle.tally_returns.specs.State.{opening}
-use Rattle.tally_opening.specs.Create.{IsAsBefore}
-use Rattle.tally_opening.specs.Office.{HasState}
-use Rattle.tally_opening.specs.Open.{IsOpened}
+use Rattle.tally_store_open.specs.Create.{IsAsBefore}
+use Rattle.tally_store_open.specs.Office.{HasState}
+use Rattle.tally_store_open.specs.Open.{IsOpened}
 use Rattle.tally_store.specs.Content.{content_of}
 
 -- The connection is open, and the database is that of the opening state, which is the content.

@@ -5,7 +5,7 @@ use Rattle.sqlite.specs.Held.{state}
 use Rattle.sqlite.specs.State.{State as Seen, HasCleanDisk}
 use Rattle.sqlite_value.specs.declared.value.Value.TheVariants.{Int, Text}
 use Rattle.sqlite_value.specs.Order.{Row, column}
-use Rattle.tally_schema.specs.Rows.{has_key}
+use Rattle.tally_store_schema.specs.Rows.{has_key}
 use Rattle.tally_setup.specs.Constituency.{Constituency}
 use Rattle.tally_setup.specs.Setup.{constituency_with}
 use Rattle.tally_setup.specs.declared.constituency.Entry.TheVariants.{Double}
@@ -14,9 +14,9 @@ use Rattle.tally_returns.specs.State.{opening}
 use Rattle.tally_returns.specs.declared.returns.Status.TheVariants.{Closed}
 use Rattle.tally_keeper.specs.EnteredTwice.{IsEnteredTwiceIn}
 use Rattle.tally_keeper.specs.Keeper.{Event, HappensInTurn}
-use Rattle.tally_schema.specs.declared.table.KeyedTable.TheVariants.{Returns, Counts}
-use Rattle.tally_schema.specs.Office.{rows_in}
-use Rattle.tally_tables.specs.Cells.{count_rows, return_row, status_number}
+use Rattle.tally_store_schema.specs.declared.table.KeyedTable.TheVariants.{Returns, Counts}
+use Rattle.tally_store_schema.specs.Office.{rows_in}
+use Rattle.tally_store_rows.specs.Cells.{count_rows, return_row, status_number}
 use Rattle.tally_store.specs.Keeping.{content_in}
 use Rattle.tally_store.specs.Store.{Stored}
 

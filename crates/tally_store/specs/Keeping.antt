@@ -17,7 +17,7 @@ use Rattle.tally_keeper.specs.Stays.{StaysBy}
 use Rattle.tally_keeper.specs.declared.import.ImportCount.{ImportCount}
 use Rattle.tally_keeper.specs.declared.import.NamedRow.{NamedRow}
 use Rattle.tally_keeper.specs.declared.source.ImportFault.{ImportFault}
-use Rattle.tally_opening.specs.Office.{IsOffice}
+use Rattle.tally_store_open.specs.Office.{IsOffice}
 use Rattle.tally_store.specs.Certified.{HasCertificates}
 use Rattle.tally_store.specs.Content.{content_of}
 use Rattle.tally_store.specs.Crash.{IsKept, LeavesAfter, LeavesImported, LeavesSame}

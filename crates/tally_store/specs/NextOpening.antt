@@ -13,9 +13,9 @@ use Rattle.tally_keeper.specs.declared.fault.OpenFault.{OpenFault}
 use Rattle.tally_keeper.specs.declared.fault.OpenFault.TheVariants.{Memory, Store}
 use Rattle.tally_returns.specs.State.{State}
 use Rattle.tally_setup.specs.Constituency.{Constituency}
-use Rattle.tally_steps.specs.LawfulState.{IsLawfulState}
-use Rattle.tally_opening.specs.Office.{HasOfficeSchema, IsWholeOffice}
-use Rattle.tally_opening.specs.Open.{AreOfOneState, IsOpenFault}
+use Rattle.tally_machine_law.specs.LawfulState.{IsLawfulState}
+use Rattle.tally_store_open.specs.Office.{HasOfficeSchema, IsWholeOffice}
+use Rattle.tally_store_open.specs.Open.{AreOfOneState, IsOpenFault}
 use Rattle.tally_store.specs.Content.{content_of}
 
 -- An opening can find nothing else in this database: the one state whose tables they are is this

@@ -7,8 +7,8 @@ use Rattle.tally_setup.specs.Constituency.{Constituency}
 use Rattle.tally_setup.specs.Limits.{IsSetup}
 use Rattle.tally_setup.specs.contracts.setup.Setup.{the_row as setup_row}
 use Rattle.tally_returns.specs.State.{State}
-use Rattle.tally_steps.specs.LawfulState.{IsLawfulState}
-use Rattle.tally_opening.specs.Office.{HasState, IsOffice}
+use Rattle.tally_machine_law.specs.LawfulState.{IsLawfulState}
+use Rattle.tally_store_open.specs.Office.{HasState, IsOffice}
 
 -- a connection to the tables of an office, and the constituencies of its setup
 pub record Stored (S : Type 0) : Type 0 where

@@ -1,5 +1,5 @@
 //! The office's state in a database: a keeper over it, its requests and imports, and what holds of
-//! every such keeper. `tally_opening` has the making of one and the opening.
+//! every such keeper. `tally_store_open` has the making of one and the opening.
 #![tactic(auto)]
 
 mod keeper;

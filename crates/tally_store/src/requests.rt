@@ -7,12 +7,12 @@ ghost use Rattle.sqlite.specs.Held.{state};
 ghost use Rattle.tally_keeper.specs.Delivery.{delivery};
 ghost use Rattle.tally_keeper.specs.Keeper.{IsImportFault, IsOwnFault};
 ghost use Rattle.tally_keeper.specs.Source.{GaveAll};
-ghost use Rattle.tally_opening.specs.Crash.{IsUnwritten};
-ghost use Rattle.tally_opening.specs.internal.Ending.{EndsUnchanged};
+ghost use Rattle.tally_store_open.specs.Crash.{IsUnwritten};
+ghost use Rattle.tally_store_open.specs.internal.Ending.{EndsUnchanged};
 ghost use Rattle.tally_keeper.specs.Shown.{IsReturnsRefusal, con_with};
-ghost use Rattle.tally_steps.specs.Kinds.{IsReplyTo};
-ghost use Rattle.tally_steps.specs.Runs.{is_act};
-ghost use Rattle.tally_steps.specs.Step.{IsNotAccepted};
+ghost use Rattle.tally_machine_law.specs.Kinds.{IsReplyTo};
+ghost use Rattle.tally_machine_law.specs.Runs.{is_act};
+ghost use Rattle.tally_machine_law.specs.Step.{IsNotAccepted};
 ghost use Rattle.tally_setup.specs.Constituency as value;
 ghost use Rattle.tally_setup.specs.Setup.{constituency_with};
 ghost use Rattle.tally_returns.specs.Named.{BringsCode};
@@ -20,9 +20,9 @@ ghost use Rattle.tally_returns.specs.View.{FitsView};
 ghost use Rattle.tally_returns.specs.declared.ask.Ask.TheVariants.{ShowCon};
 ghost use Rattle.tally_store.specs.Crash.{LeavesAsBefore, LeavesSame, LooksWithoutWriting};
 ghost use Rattle.tally_store.specs.Crash.{WritesOnlyLodgedRows};
-ghost use Rattle.tally_requests.specs.internal.Inside.{StaysInState};
-ghost use Rattle.tally_requests.specs.internal.Known.{ForgetsNone, known_of};
-ghost use Rattle.tally_requests.specs.internal.Requests.{LodgesRows, NamesImported};
+ghost use Rattle.tally_store_commands.specs.internal.Inside.{StaysInState};
+ghost use Rattle.tally_store_commands.specs.internal.Known.{ForgetsNone, known_of};
+ghost use Rattle.tally_store_commands.specs.internal.Requests.{LodgesRows, NamesImported};
 ghost use Rattle.tally_store.specs.internal.Requests.{Does, DoesImport, DoesName, DoesShow};
 ghost use Rattle.tally_store.specs.internal.Requests.{DoesShowReturns, DoesTry};
 ghost use Rattle.tally_store.specs.internal.Requests.{EndsFrom, EndsImport, EndsRequest};
@@ -36,13 +36,13 @@ use sqlite::{Alter, Connection, Error, ErrorCode, Transaction};
 use std::alloc::Global;
 use std::collections::BTreeMap;
 use tally_keeper::{ImportCount, ImportFault, NamedRow, RowSource};
-use tally_requests::{
+use tally_returns::{Ask, ConView, Refusal, Reply, StationRow};
+use tally_setup::{Code, Setup};
+use tally_store_commands::{
     answer_in, import_fault_of, see_open, show_con_in, show_returns_in, take_rows,
 };
-use tally_returns::{Ask, ConView, Refusal, Reply, StationRow};
-use tally_schema::is_memory;
-use tally_setup::{Code, Setup};
-use tally_tables::Statuses;
+use tally_store_rows::Statuses;
+use tally_store_schema::is_memory;
 
 /// Answers a request by the database and carries it out there. Where the request is not accepted,
 /// the database is as it was, unless a disk that failed has shut the connection. What is known then

@@ -4,13 +4,13 @@ ghost use Rattle.std.specs.Prelude.{◌≡◌, false, Ok, IfOk, IfErr, OnOk};
 ghost use Rattle.sqlite.specs.State.{HasCleanDisk, Survives};
 ghost use Rattle.sqlite.specs.Held.{state};
 ghost use Rattle.tally_rules.specs.Reading.{setup_of_text};
-ghost use Rattle.tally_opening.specs.Crash.{CountsNothing, IsUnwrittenToday};
-ghost use Rattle.tally_opening.specs.Crash.{LeavesOpening, LeavesTakenOver};
-ghost use Rattle.tally_opening.specs.Create.{IsCreateFault, no_schema};
-ghost use Rattle.tally_opening.specs.Open.{IsOpenFault, IsSetupOf};
+ghost use Rattle.tally_store_open.specs.Crash.{CountsNothing, IsUnwrittenToday};
+ghost use Rattle.tally_store_open.specs.Crash.{LeavesOpening, LeavesTakenOver};
+ghost use Rattle.tally_store_open.specs.Create.{IsCreateFault, no_schema};
+ghost use Rattle.tally_store_open.specs.Open.{IsOpenFault, IsSetupOf};
 ghost use Rattle.tally_store.specs.Create.{HasOpeningTables, IsGivenBack, ShowsFound};
 ghost use Rattle.tally_store.specs.internal.Making.{ShowsState};
-ghost use Rattle.tally_requests.specs.internal.Known.{known_of};
+ghost use Rattle.tally_store_commands.specs.internal.Known.{known_of};
 ghost use Rattle.tally_store.specs.Keeping.{conn_left};
 ghost use Rattle.tally_store.specs.Store.{IsStored};
 ghost use Rattle.tally_store.specs.internal.Making.{IsOfKnownState};
@@ -21,9 +21,9 @@ use std::collections::BTreeMap;
 use std::marker::Model;
 use tally_keeper::{CreateFault, OpenFault};
 use tally_machine::laws;
-use tally_opening::{create_in, open_in};
 use tally_setup::{Code, Setup};
-use tally_tables::Statuses;
+use tally_store_open::{create_in, open_in};
+use tally_store_rows::Statuses;
 
 /// Keeps the office's state in a database: a connection that is in no transaction, the setup whose
 /// text the database has, and what is known of how many returns of a constituency are in each
@@ -39,7 +39,7 @@ pub struct Store<S: Alter> {
 
 impl<S: Alter> Model for Store<S> {
     ghost use Rattle.sqlite.specs.Held.{state};
-    ghost use Rattle.tally_requests.specs.internal.Known.{known_of};
+    ghost use Rattle.tally_store_commands.specs.internal.Known.{known_of};
     ghost use Rattle.tally_store.specs.Store.{Stored, stored_code};
     ghost use Rattle.tally_store.specs.internal.Served.{IsServed};
 

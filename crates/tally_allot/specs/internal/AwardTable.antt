@@ -2,12 +2,12 @@
 use Rattle.std.specs.Prelude.{ℕ, List}
 use Rattle.tally_allot.specs.Awards.{AreAwards}
 use Rattle.tally_allot.specs.declared.award.Award.{Award}
-use Rattle.tally_contest.specs.declared.won.WonSeat.{WonSeat}
+use Rattle.tally_allot_award.specs.declared.won.WonSeat.{WonSeat}
 use Rattle.tally_law.specs.DivisorAllotment.{IsDivisorAllotment}
 use Rattle.tally_law.specs.Poll.{Poll}
-use Rattle.tally_contest.specs.internal.Terms.{IsProperLot, placed_divisor_race}
+use Rattle.tally_allot_award.specs.internal.Terms.{IsProperLot, placed_divisor_race}
 use Rattle.tally_setup.specs.declared.profile.LotRule.{LotRule}
-use Rattle.tally_contest.specs.internal.WonSeat.{AreWon}
+use Rattle.tally_allot_award.specs.internal.WonSeat.{AreWon}
 
 -- Under whichever proper lot the seats are the allotment and were won so, these are its awards.
 abbrev pub IsTableOf : (ℕ → ℕ) → ℕ → LotRule → Poll → List ℕ → List WonSeat → List Award → Type 0

@@ -3,7 +3,7 @@
 use Rattle.std.specs.Prelude.{ℕ, List}
 use Rattle.tally_law.specs.Allotment.{IsAllotment}
 use Rattle.tally_law.specs.LotNeed.{IsAllotmentUnderLot, IsLotTaken}
-use Rattle.tally_contest.specs.internal.Terms.{Terms}
+use Rattle.tally_allot_award.specs.internal.Terms.{Terms}
 use Rattle.tally_allot.specs.AllotFault.{IsFaultOf}
 use Rattle.tally_allot.specs.declared.fault.AllotFault.{AllotFault}
 

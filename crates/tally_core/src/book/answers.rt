@@ -6,7 +6,7 @@ ghost use Rattle.tally_keeper.specs.internal.Held.{IsMoved, is_query, lodge_answ
 ghost use Rattle.tally_keeper.specs.internal.Held.{moves_return};
 ghost use Rattle.tally_keeper.specs.Kept.{state_in, with_no_lot};
 ghost use Rattle.tally_returns.specs.Named.{station_named};
-ghost use Rattle.tally_steps.specs.Step.{answer, reply_seen};
+ghost use Rattle.tally_machine_law.specs.Step.{answer, reply_seen};
 ghost use Rattle.tally_setup.specs.Setup.{constituency_with};
 ghost use Rattle.tally_returns.specs.declared.ask.Ask.TheVariants.{ShowReturn};
 ghost use Rattle.tally_returns.specs.declared.refusal.Refusal.TheVariants.{Memory};

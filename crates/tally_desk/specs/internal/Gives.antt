@@ -9,9 +9,9 @@ use Rattle.tally_returns.specs.declared.refusal.Refusal.{Refusal}
 use Rattle.tally_returns.specs.declared.reply.Reply.{Reply}
 use Rattle.tally_returns.specs.declared.reply.Reply.TheVariants as reply
 use Rattle.tally_keeper.specs.declared.keeper.Keeper.{Ghosts}
-use Rattle.tally_message.specs.declared.message.Message.{Message}
-use Rattle.tally_asks.specs.declared.routes.Route.{Route}
-use Rattle.tally_answer.specs.declared.word.Word.TheVariants as word
+use Rattle.tally_desk_message.specs.declared.message.Message.{Message}
+use Rattle.tally_desk_routes.specs.declared.routes.Route.{Route}
+use Rattle.tally_desk_answer.specs.declared.word.Word.TheVariants as word
 use Rattle.tally_desk.specs.Requests.{MessageAnswer, Commands, Says}
 use Rattle.tally_desk.specs.Respond.{IsAnswerOn}
 

@@ -1,6 +1,6 @@
 -- The next connection of a door.
 use Rattle.std.specs.Prelude.{◌≡◌, Bool, false, List, [], ◌∷◌, Option, Some, None}
-use Rattle.tally_message.specs.Connection.{Connection, Connections, connections}
+use Rattle.tally_desk_message.specs.Connection.{Connection, Connections, connections}
 use Rattle.tally_desk.specs.Serving.{Answering, IsExchange, connections_taken_up}
 
 -- The next connection was taken and answered; or there is none, which counts as failed and changes

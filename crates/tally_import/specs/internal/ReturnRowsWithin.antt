@@ -6,12 +6,12 @@ use Rattle.tally_setup.specs.Constituency.{Constituency, list_codes}
 use Rattle.tally_keeper.specs.Source.{IsWithinRowLimit, row_limit}
 use Rattle.tally_keeper.specs.declared.source.ImportFault.{ImportFault}
 use Rattle.tally_keeper.specs.declared.source.ImportFault.TheVariants as cause
-use Rattle.tally_records.specs.Input.{size_limit, text_records}
+use Rattle.tally_import_records.specs.Input.{size_limit, text_records}
 use Rattle.tally_import.specs.ReturnRows.{records_coming, import_fault, is_header, fault_alone}
 use Rattle.tally_import.specs.ReturnRows.{rows_coming, text_coming}
 use Rattle.tally_import.specs.ReturnRowsValue.{ReturnRows, rows_to_come, coming_at, own_fault}
-use Rattle.tally_records.specs.declared.end.Stop.TheVariants as stopped
-use Rattle.tally_records.specs.declared.separator.Sep.{Sep}
+use Rattle.tally_import_records.specs.declared.end.Stop.TheVariants as stopped
+use Rattle.tally_import_records.specs.declared.separator.Sep.{Sep}
 
 few : {X Y : Type 0} (f : X → Y) (n : ℕ) (xs : List X) → length (map f (take n xs)) ≤ n
 few f zero xs = omega arith

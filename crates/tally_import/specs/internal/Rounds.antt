@@ -5,15 +5,15 @@ use Rattle.std.specs.declared.alloc.Global.{Global}
 use Rattle.tally_keeper.specs.Source.{row_limit}
 use Rattle.tally_import.specs.Check.{Checked, Found, check_fault, rows_of_records, text_of}
 use Rattle.tally_import.specs.internal.Progress.{HasTaken}
-use Rattle.tally_records.specs.Input.{AreAll}
-use Rattle.tally_records.specs.Given.{HasGiven, sep_of}
-use Rattle.tally_records.specs.declared.end.Stop.{Stop}
-use Rattle.tally_records.specs.RecordsValue.{Records}
+use Rattle.tally_import_records.specs.Input.{AreAll}
+use Rattle.tally_import_records.specs.Given.{HasGiven, sep_of}
+use Rattle.tally_import_records.specs.declared.end.Stop.{Stop}
+use Rattle.tally_import_records.specs.RecordsValue.{Records}
 use Rattle.tally_import.specs.declared.check.CheckFault.{CheckFault}
 use Rattle.tally_import.specs.declared.check.CheckFault.TheVariants.{BadHeader, TooLong, Read}
 use Rattle.tally_import.specs.declared.check.CheckFault.TheVariants.{Memory, Write}
 use Rattle.tally_import.specs.declared.import.Import.{Import}
-use Rattle.tally_records.specs.declared.separator.Sep.{Sep}
+use Rattle.tally_import_records.specs.declared.separator.Sep.{Sep}
 
 -- the fault of a text that was stopped, and none of one that came to its end
 abbrev pub ended_text : Option Stop → Result (Unit {0}) CheckFault

@@ -10,11 +10,12 @@ use Rattle.tally_setup.specs.Constituency.{Constituency}
 use Rattle.tally_setup.specs.Limits.{IsSetup}
 use Rattle.tally_setup.specs.Setup.{constituency_with}
 use Rattle.tally_setup.specs.contracts.setup.Setup.{the_row as setup_row}
-use Rattle.tally_steps.specs.Step.{ConChange, IsView, con_change, gone_for_good, Answer}
-use Rattle.tally_steps.specs.Step.{answer_seen, edition_now, vacated, IsConStep, IsStep, reply_seen}
-use Rattle.tally_steps.specs.Step.{lodge_reply, move_reply, after_return, change_in_state}
+use Rattle.tally_machine_law.specs.Step.{ConChange, IsView, con_change, gone_for_good, Answer}
+use Rattle.tally_machine_law.specs.Step.{answer_seen, edition_now, vacated, IsConStep, IsStep}
+use Rattle.tally_machine_law.specs.Step.{reply_seen}
+use Rattle.tally_machine_law.specs.Step.{lodge_reply, move_reply, after_return, change_in_state}
 use Rattle.tally_returns.specs.Counts.{VoteCounts}
-use Rattle.tally_steps.specs.LawfulState.{IsLawfulState}
+use Rattle.tally_machine_law.specs.LawfulState.{IsLawfulState}
 use Rattle.tally_returns.specs.Lodge.{lodge, lodge_answer}
 use Rattle.tally_returns.specs.Return.{Returns}
 use Rattle.tally_returns.specs.State.{State, con_state, stations_of}

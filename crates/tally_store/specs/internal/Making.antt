@@ -3,10 +3,10 @@ use Rattle.std.specs.Prelude.{◌≡◌, List, IsTrue, Some}
 use Rattle.sqlite.specs.State.{State as Seen, HasCleanDisk}
 use Rattle.tally_setup.specs.Constituency.{Constituency}
 use Rattle.tally_returns.specs.State.{State}
-use Rattle.tally_steps.specs.LawfulState.{IsLawfulState}
-use Rattle.tally_opening.specs.Office.{IsOffice}
+use Rattle.tally_machine_law.specs.LawfulState.{IsLawfulState}
+use Rattle.tally_store_open.specs.Office.{IsOffice}
 use Rattle.tally_store.specs.Content.{content_of}
-use Rattle.tally_requests.specs.internal.Known.{AreKnown, Known}
+use Rattle.tally_store_commands.specs.internal.Known.{AreKnown, Known}
 
 -- While the connection is open, the content is each lawful state of which the database is.
 abbrev pub ShowsState : List Constituency → Seen → Type 0

@@ -8,8 +8,8 @@ use Rattle.sqlite.specs.State.{Survives}
 use Rattle.sqlite.specs.declared.error.Error.{Error}
 use Rattle.sqlite_trees.specs.Tree.{Trees}
 use Rattle.tally_setup.specs.Constituency.{Constituency}
-use Rattle.tally_steps.specs.LawfulState.{IsLawfulState}
-use Rattle.tally_steps.specs.Step.{IsAnswered}
+use Rattle.tally_machine_law.specs.LawfulState.{IsLawfulState}
+use Rattle.tally_machine_law.specs.Step.{IsAnswered}
 use Rattle.tally_returns.specs.State.{State}
 use Rattle.tally_returns.specs.PastSeats.{PastSeats}
 use Rattle.tally_returns.specs.View.{View}
@@ -26,8 +26,8 @@ use Rattle.tally_keeper.specs.Source.{Delivery}
 use Rattle.tally_keeper.specs.declared.import.ImportCount.{ImportCount}
 use Rattle.tally_keeper.specs.declared.import.NamedRow.{NamedRow}
 use Rattle.tally_keeper.specs.declared.source.ImportFault.{ImportFault}
-use Rattle.tally_requests.specs.internal.Known.{AreKnown, Known}
-use Rattle.tally_opening.specs.Office.{HasState}
+use Rattle.tally_store_commands.specs.internal.Known.{AreKnown, Known}
+use Rattle.tally_store_open.specs.Office.{HasState}
 use Rattle.tally_store.specs.Crash.{LeavesAfter, LeavesImported}
 
 -- What a call keeps that works in a transaction of its own, whatever it answers: none is open after

@@ -3,9 +3,9 @@ use Rattle.std.specs.Prelude.{List, ℕ, IsTrue}
 use Rattle.sqlite.specs.State.{State as Seen, HasCleanDisk}
 use Rattle.tally_setup.specs.Constituency.{Constituency}
 use Rattle.tally_returns.specs.State.{State}
-use Rattle.tally_steps.specs.LawfulState.{IsLawfulState}
-use Rattle.tally_requests.specs.internal.Known.{AreKnown, Known}
-use Rattle.tally_opening.specs.Office.{HasState}
+use Rattle.tally_machine_law.specs.LawfulState.{IsLawfulState}
+use Rattle.tally_store_commands.specs.internal.Known.{AreKnown, Known}
+use Rattle.tally_store_open.specs.Office.{HasState}
 use Rattle.tally_store.specs.Store.{IsStored}
 
 -- While the connection is open, what is known of constituencies is true of every lawful state whose

@@ -2,7 +2,7 @@ use Rattle.std.proofs.Common.{IfOk, OnOk, IfErr}
 use Rattle.tally_law.specs.Allotment.{IsAllotment}
 use Rattle.tally_law.specs.LotNeed.{IsLotTaken}
 use Rattle.tally_allot.specs.AllotFault.{IsFaultOf}
-use Rattle.tally_contest.proofs.PollLemmas.{carried}
+use Rattle.tally_allot_award.proofs.PollLemmas.{carried}
 use Rattle.tally_allot.proofs.DivisorRuleLemmas.{named}
 use Rattle.tally_allot.proofs.allotment.allot.Goals as goal
 

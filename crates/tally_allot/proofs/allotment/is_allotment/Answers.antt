@@ -1,6 +1,6 @@
 use Rattle.std.proofs.Common.{◌↔◌, IsTrue}
 use Rattle.tally_law.specs.LotNeed.{IsAllotmentUnderLot}
-use Rattle.tally_contest.proofs.PollLemmas.{carried}
+use Rattle.tally_allot_award.proofs.PollLemmas.{carried}
 use Rattle.tally_allot.proofs.DivisorRuleLemmas.{named}
 use Rattle.tally_allot.proofs.allotment.is_allotment.Goals as goal
 

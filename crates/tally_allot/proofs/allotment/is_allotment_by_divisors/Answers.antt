@@ -1,5 +1,5 @@
 use Rattle.std.proofs.Common.{◌↔◌, IsTrue, subst}
-use Rattle.tally_contest.specs.internal.Terms.{Terms}
+use Rattle.tally_allot_award.specs.internal.Terms.{Terms}
 use Rattle.tally_law.specs.LotNeed.{IsAllotmentUnderLot}
 use Rattle.tally_allot.proofs.allotment.is_allotment_by_divisors.Goals as goal
 

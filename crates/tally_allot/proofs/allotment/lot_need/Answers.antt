@@ -1,7 +1,7 @@
 use Rattle.std.proofs.Common.{IfOk, OnOk, IfErr}
 use Rattle.tally_law.specs.Poll.{HasEligible}
 use Rattle.tally_allot.specs.AllotFault.{IsNeedOrNone, IsNeedFaultOf}
-use Rattle.tally_contest.proofs.PollLemmas.{carried}
+use Rattle.tally_allot_award.proofs.PollLemmas.{carried}
 use Rattle.tally_allot.proofs.DivisorRuleLemmas.{named}
 use Rattle.tally_allot.proofs.allotment.lot_need.Goals as goal
 

@@ -1,6 +1,6 @@
 use Rattle.std.proofs.Common.{IfOk, IfErr, OnOk, subst}
 use Rattle.tally_law.specs.Poll.{HasEligible}
-use Rattle.tally_contest.specs.internal.Terms.{Terms}
+use Rattle.tally_allot_award.specs.internal.Terms.{Terms}
 use Rattle.tally_allot.specs.AllotFault.{IsNeedOrNone, IsNeedFaultOf}
 use Rattle.tally_allot.proofs.allotment.need_by_divisors.Goals as goal
 

@@ -2,7 +2,7 @@ use Rattle.std.proofs.Common.{IfOk, IfErr, OnOk, subst}
 use Rattle.tally_law.specs.Allotment.{IsAllotment}
 use Rattle.tally_law.specs.LotNeed.{IsLotTaken}
 use Rattle.tally_law.specs.Poll.{HasEligible}
-use Rattle.tally_contest.specs.internal.Terms.{Terms}
+use Rattle.tally_allot_award.specs.internal.Terms.{Terms}
 use Rattle.tally_allot.specs.AllotFault.{IsFaultOf}
 use Rattle.tally_allot.proofs.allotment.seats_by_quotas.Goals as goal
 

@@ -3,7 +3,7 @@ use Rattle.tally_law.specs.LotNeed.{IsLotTaken}
 use Rattle.tally_law.specs.Poll.{HasEligible}
 use Rattle.tally_allot.specs.AllotFault.{IsFaultOf}
 use Rattle.tally_allot.specs.Awards.{AreAwardsBy}
-use Rattle.tally_contest.proofs.PollLemmas.{carried}
+use Rattle.tally_allot_award.proofs.PollLemmas.{carried}
 use Rattle.tally_allot.proofs.DivisorRuleLemmas.{named}
 use Rattle.tally_allot.proofs.award_table.awards.Goals as goal
 

@@ -2,10 +2,10 @@ use Rattle.std.proofs.Common.{◌≡◌, ◌<◌, ◌++◌, ◌∷◌, [], List,
 use Rattle.std.proofs.lemmas.List.{map-append, take_all, take_more}
 use Rattle.tally_allot.specs.declared.award.Award.{Award}
 use Rattle.tally_allot.specs.Awards.{AreAwardsOf, award_of}
-use Rattle.tally_contest.specs.declared.won.WonSeat.{WonSeat}
-use Rattle.tally_contest.specs.internal.KeptPoll.{kept_poll}
-use Rattle.tally_contest.specs.internal.Terms.{AreDivisors}
-use Rattle.tally_contest.proofs.PollLemmas.{sound_under}
+use Rattle.tally_allot_award.specs.declared.won.WonSeat.{WonSeat}
+use Rattle.tally_allot_award.specs.internal.KeptPoll.{kept_poll}
+use Rattle.tally_allot_award.specs.internal.Terms.{AreDivisors}
+use Rattle.tally_allot_award.proofs.PollLemmas.{sound_under}
 use Rattle.tally_allot.proofs.AwardLemmas.{awards_of_won}
 use Rattle.tally_allot.proofs.award_table.awards_of.Goals as goal
 

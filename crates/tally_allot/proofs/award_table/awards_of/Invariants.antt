@@ -1,6 +1,6 @@
 use Rattle.std.proofs.Common.{◌≡◌, map, take}
 use Rattle.tally_allot.specs.Awards.{award_of}
-use Rattle.tally_contest.specs.internal.KeptPoll.{kept_poll}
+use Rattle.tally_allot_award.specs.internal.KeptPoll.{kept_poll}
 use Rattle.tally_allot.proofs.award_table.awards_of.Given as goal
 
 abbrev pub invariant-loop-row : goal.invariant-loop-row

@@ -2,7 +2,7 @@ use Rattle.std.proofs.Common.{IfOk, IfErr, OnOk, subst}
 use Rattle.tally_law.specs.Allotment.{hare}
 use Rattle.tally_law.specs.LotNeed.{IsLotTaken}
 use Rattle.tally_law.specs.Poll.{Poll, HasEligible}
-use Rattle.tally_contest.specs.internal.Terms.{Terms}
+use Rattle.tally_allot_award.specs.internal.Terms.{Terms}
 use Rattle.tally_allot.specs.AllotFault.{IsFaultOf}
 use Rattle.tally_allot.specs.QuotaRows.{AreQuotaRows}
 use Rattle.tally_allot.proofs.quota_table.quotas.Goals as goal

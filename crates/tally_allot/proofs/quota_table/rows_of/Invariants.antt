@@ -1,5 +1,5 @@
 use Rattle.std.proofs.Common.{◌≡◌}
-use Rattle.tally_contest.specs.internal.KeptPoll.{kept_poll}
+use Rattle.tally_allot_award.specs.internal.KeptPoll.{kept_poll}
 use Rattle.tally_allot.specs.QuotaRows.{quota_rows}
 use Rattle.tally_allot.proofs.quota_table.rows_of.Given as goal
 

@@ -1,6 +1,6 @@
 use Rattle.std.proofs.Common.{subst, arith}
-use Rattle.tally_contest.specs.internal.KeptPoll.{kept_poll}
-use Rattle.tally_contest.specs.internal.Terms.{AreDivisors}
+use Rattle.tally_allot_award.specs.internal.KeptPoll.{kept_poll}
+use Rattle.tally_allot_award.specs.internal.Terms.{AreDivisors}
 use Rattle.tally_allot.specs.internal.ShortSteps.{IsLowestOther}
 use Rattle.tally_allot.proofs.ShortLemmas.{lower_takes, above_same}
 use Rattle.tally_allot.proofs.short.lower_of.Goals as goal

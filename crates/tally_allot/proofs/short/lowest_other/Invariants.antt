@@ -1,4 +1,4 @@
-use Rattle.tally_contest.specs.internal.KeptPoll.{kept_poll}
+use Rattle.tally_allot_award.specs.internal.KeptPoll.{kept_poll}
 use Rattle.tally_allot.specs.internal.ShortSteps.{IsLowestOther}
 use Rattle.tally_allot.proofs.short.lowest_other.Given as goal
 

@@ -2,12 +2,12 @@ use Rattle.std.proofs.Common.{◌≡◌, ℕ, ◌+◌, ◌-◌, ◌*◌, ◌<◌
 use Rattle.std.proofs.lemmas.Bool.{false≢true}
 use Rattle.tally_frac.specs.Limits.{greatest_divisor, last_divisor, most_seats}
 use Rattle.tally_setup.specs.declared.profile.LotRule.TheVariants.{Fixed}
-use Rattle.tally_contest.specs.internal.KeptPoll.{kept_poll}
+use Rattle.tally_allot_award.specs.internal.KeptPoll.{kept_poll}
 use Rattle.tally_law.specs.Allotment.{divisors}
 use Rattle.tally_law.specs.Poll.{Poll, IsEligible}
-use Rattle.tally_contest.specs.internal.Terms.{AreDivisors}
-use Rattle.tally_contest.proofs.PollLemmas.{sound_under}
-use Rattle.tally_contest.proofs.Vectors.{get_or-le-sum}
+use Rattle.tally_allot_award.specs.internal.Terms.{AreDivisors}
+use Rattle.tally_allot_award.proofs.PollLemmas.{sound_under}
+use Rattle.tally_allot_award.proofs.Vectors.{get_or-le-sum}
 use Rattle.tally_allot.specs.internal.ShortSteps.{IsLowestOther, IsNumberOf}
 use Rattle.tally_allot.proofs.ShortLemmas.{other_holds, more_is, number_is, fewest_same}
 use Rattle.tally_allot.proofs.short.number_of.Goals as goal

@@ -1,5 +1,5 @@
 use Rattle.std.proofs.Common.{◌≡◌, ℕ, ◌+◌, List, Option, length, sym, subst, arith}
-use Rattle.tally_contest.specs.internal.KeptPoll.{kept_poll}
+use Rattle.tally_allot_award.specs.internal.KeptPoll.{kept_poll}
 use Rattle.tally_law.specs.Allotment.{divisors}
 use Rattle.tally_law.specs.Poll.{Poll}
 use Rattle.tally_allot.specs.internal.ShortSteps.{AreAnswers}

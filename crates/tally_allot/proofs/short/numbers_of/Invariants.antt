@@ -1,5 +1,5 @@
 use Rattle.tally_setup.specs.declared.profile.LotRule.{LotRule}
-use Rattle.tally_contest.specs.internal.KeptPoll.{kept_poll}
+use Rattle.tally_allot_award.specs.internal.KeptPoll.{kept_poll}
 use Rattle.tally_law.specs.Allotment.{divisors}
 use Rattle.tally_allot.specs.internal.ShortSteps.{AreAnswers}
 use Rattle.tally_allot.proofs.short.numbers_of.Given as goal

@@ -1,10 +1,10 @@
 use Rattle.std.proofs.Common.{◌≡◌, length, sym, subst}
-use Rattle.tally_contest.specs.internal.KeptPoll.{kept_poll}
+use Rattle.tally_allot_award.specs.internal.KeptPoll.{kept_poll}
 use Rattle.tally_law.specs.Allotment.{divisors}
 use Rattle.tally_law.specs.Poll.{Poll}
-use Rattle.tally_contest.specs.internal.Terms.{AreDivisors}
-use Rattle.tally_contest.proofs.PollLemmas.{sound_under}
-use Rattle.tally_contest.proofs.DivisorRace.{by_votes_from_allotment}
+use Rattle.tally_allot_award.specs.internal.Terms.{AreDivisors}
+use Rattle.tally_allot_award.proofs.PollLemmas.{sound_under}
+use Rattle.tally_allot_award.proofs.DivisorRace.{by_votes_from_allotment}
 use Rattle.tally_allot.specs.internal.ShortSteps.{AreAnswers, IsByVotes}
 use Rattle.tally_allot.proofs.ShortLemmas.{without_unit}
 use Rattle.tally_allot.proofs.short.short_by.Goals as goal

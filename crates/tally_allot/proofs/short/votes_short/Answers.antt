@@ -3,7 +3,7 @@ use Rattle.tally_frac.specs.internal.DivisorLaws.{divisors-rise_slowly}
 use Rattle.tally_law.specs.LotNeed.{IsLotTaken}
 use Rattle.tally_law.specs.Poll.{HasEligible}
 use Rattle.tally_law.specs.Rules.{rule_of, poll_of}
-use Rattle.tally_contest.proofs.PollLemmas.{carried}
+use Rattle.tally_allot_award.proofs.PollLemmas.{carried}
 use Rattle.tally_allot.specs.AllotFault.{IsFaultOf}
 use Rattle.tally_allot.specs.internal.ShortSteps.{AreAnswersOf}
 use Rattle.tally_allot.proofs.DivisorRuleLemmas.{named}

@@ -1,9 +1,9 @@
 use Rattle.std.proofs.Common.{ℕ, List, refl, sym, subst}
 use Rattle.std.proofs.lemmas.Bool.{false≢true}
-use Rattle.tally_contest.specs.internal.ContestTerms.{divisor_terms}
-use Rattle.tally_contest.specs.internal.KeptPoll.{kept_poll}
-use Rattle.tally_contest.specs.internal.Terms.{AreFairSeats}
-use Rattle.tally_contest.proofs.TermsRace.{races, from_placed}
+use Rattle.tally_allot_award.specs.internal.ContestTerms.{divisor_terms}
+use Rattle.tally_allot_award.specs.internal.KeptPoll.{kept_poll}
+use Rattle.tally_allot_award.specs.internal.Terms.{AreFairSeats}
+use Rattle.tally_allot_award.proofs.TermsRace.{races, from_placed}
 use Rattle.tally_allot.proofs.AwardLemmas.{rows_of_won}
 use Rattle.tally_allot.proofs.KeyLemmas.{have_keys, few_in_lot}
 use Rattle.tally_allot.proofs.OrderLemmas.{proper_if_may, wrong_unless_may}

@@ -2,8 +2,8 @@ use Rattle.std.proofs.Common.{IfOk, IfErr, OnOk, length, subst}
 use Rattle.tally_law.specs.Allotment.{IsAllotment}
 use Rattle.tally_law.specs.LotNeed.{IsLotTaken}
 use Rattle.tally_law.specs.Poll.{HasEligible}
-use Rattle.tally_contest.specs.internal.Terms.{Terms, IsProperLot, placed_race}
-use Rattle.tally_contest.specs.internal.WonSeat.{AreRows, AreWon}
+use Rattle.tally_allot_award.specs.internal.Terms.{Terms, IsProperLot, placed_race}
+use Rattle.tally_allot_award.specs.internal.WonSeat.{AreRows, AreWon}
 use Rattle.tally_allot.specs.AllotFault.{IsFaultOf}
 use Rattle.tally_allot.proofs.under_lot.award_under_lot.Goals as goal
 

@@ -1,8 +1,8 @@
 use Rattle.std.proofs.Common.{ℕ, List, refl, sym, subst}
 use Rattle.std.proofs.lemmas.Bool.{false≢true}
-use Rattle.tally_contest.specs.internal.Terms.{AreFairSeats}
-use Rattle.tally_contest.specs.internal.ContestTerms.{hare_terms}
-use Rattle.tally_contest.proofs.TermsRace.{races, from_placed}
+use Rattle.tally_allot_award.specs.internal.Terms.{AreFairSeats}
+use Rattle.tally_allot_award.specs.internal.ContestTerms.{hare_terms}
+use Rattle.tally_allot_award.proofs.TermsRace.{races, from_placed}
 use Rattle.tally_allot.proofs.LotLaws.{proper_if_taken}
 use Rattle.tally_allot.proofs.under_lot.seats_by_remainders.Goals as goal
 

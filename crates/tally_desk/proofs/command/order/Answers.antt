@@ -1,6 +1,6 @@
 use Rattle.std.proofs.Common.{◌∙◌, Option, ap, sym, subst}
 use Rattle.tally_returns.specs.declared.ask.Ask.{Ask}
-use Rattle.tally_answer.specs.Outcome.{outcome_text}
+use Rattle.tally_desk_answer.specs.Outcome.{outcome_text}
 use Rattle.tally_desk.specs.internal.Gives.{OrdersRead}
 use Rattle.tally_desk.specs.internal.Named.{lists_of}
 use Rattle.tally_desk.specs.Requests.{Commands}

@@ -1,4 +1,4 @@
-use Rattle.tally_asks.specs.Bodies.{con_command}
+use Rattle.tally_desk_routes.specs.Bodies.{con_command}
 use Rattle.tally_desk.specs.Requests.{Orders}
 use Rattle.tally_desk.proofs.DeskLemmas.{con-answer, con-ordered}
 use Rattle.tally_desk.proofs.command.order_on_con.Goals as goal

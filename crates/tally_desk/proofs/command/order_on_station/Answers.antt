@@ -1,4 +1,4 @@
-use Rattle.tally_asks.specs.Bodies.{station_command}
+use Rattle.tally_desk_routes.specs.Bodies.{station_command}
 use Rattle.tally_desk.specs.Requests.{Orders}
 use Rattle.tally_desk.proofs.DeskLemmas.{station-answer, station-ordered}
 use Rattle.tally_desk.proofs.command.order_on_station.Goals as goal

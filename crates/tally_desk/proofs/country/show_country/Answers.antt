@@ -1,12 +1,12 @@
 use Rattle.std.proofs.Common.{◌≡◌, ◌∙◌, List, Ok, ap, subst}
-use Rattle.tally_answer.specs.Answer.{answer_text}
-use Rattle.tally_answer.specs.declared.status.AnswerStatus.TheVariants.{Done}
-use Rattle.tally_answer.specs.declared.status.BodyType.TheVariants.{Text}
-use Rattle.tally_overview.specs.CountryText.{country_text}
+use Rattle.tally_desk_answer.specs.Answer.{answer_text}
+use Rattle.tally_desk_answer.specs.declared.status.AnswerStatus.TheVariants.{Done}
+use Rattle.tally_desk_answer.specs.declared.status.BodyType.TheVariants.{Text}
+use Rattle.tally_report_overview.specs.CountryText.{country_text}
 use Rattle.tally_returns.specs.View.{View}
 use Rattle.tally_setup.specs.Constituency.{Constituency}
 use Rattle.tally_desk.specs.Requests.{ShowsCountry}
-use Rattle.tally_overview.specs.Views.{ShowsAll}
+use Rattle.tally_report_overview.specs.Views.{ShowsAll}
 use Rattle.tally_desk.proofs.DeskLemmas.{gives}
 use Rattle.tally_desk.proofs.country.show_country.Goals as goal
 

@@ -1,5 +1,5 @@
 use Rattle.std.proofs.Common.{◌≡◌, ◌+◌, ◌++◌, List, Some, option_to_list, take, drop}
-use Rattle.tally_message.specs.Connection.{Connection, Connections}
+use Rattle.tally_desk_message.specs.Connection.{Connection, Connections}
 use Rattle.tally_desk.specs.Serving.{Serves}
 use Rattle.tally_desk.proofs.serving.serve.Given as goal
 

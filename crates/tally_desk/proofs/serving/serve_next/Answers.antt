@@ -1,5 +1,5 @@
 use Rattle.std.proofs.Common.{◌≡◌, ◌++◌, List, [], Some, None, option_to_list, false, sym, subst, refl}
-use Rattle.tally_message.specs.Connection.{Connection, connections}
+use Rattle.tally_desk_message.specs.Connection.{Connection, connections}
 use Rattle.tally_desk.specs.Serving.{IsExchange}
 use Rattle.tally_desk.specs.internal.Next.{IsNextConnection}
 use Rattle.tally_desk.proofs.serving.serve_next.Goals as goal

@@ -1,9 +1,9 @@
 use Rattle.std.proofs.Common.{◌≡◌, ◌∙◌, ℕ, List, IfSome, subst, sym}
 use Rattle.serde_json.specs.Written.{compact_text}
-use Rattle.tally_answer.specs.Answer.{answer_text}
-use Rattle.tally_answer.specs.Shown.{shown_con}
-use Rattle.tally_answer.specs.declared.status.AnswerStatus.TheVariants.{Done}
-use Rattle.tally_answer.specs.declared.status.BodyType.TheVariants.{Json}
+use Rattle.tally_desk_answer.specs.Answer.{answer_text}
+use Rattle.tally_desk_answer.specs.Shown.{shown_con}
+use Rattle.tally_desk_answer.specs.declared.status.AnswerStatus.TheVariants.{Done}
+use Rattle.tally_desk_answer.specs.declared.status.BodyType.TheVariants.{Json}
 use Rattle.tally_desk.proofs.DeskLemmas.{of-found}
 use Rattle.tally_desk.proofs.show.con_shown.Goals as goal
 

@@ -1,7 +1,7 @@
 use Rattle.std.proofs.Common.{◌≡◌, List, ℕ, IfSome, string_bytes, subst, sym}
-use Rattle.tally_answer.specs.Answer.{answer_text}
-use Rattle.tally_answer.specs.declared.status.AnswerStatus.TheVariants.{Done}
-use Rattle.tally_answer.specs.declared.status.BodyType.TheVariants.{Text}
+use Rattle.tally_desk_answer.specs.Answer.{answer_text}
+use Rattle.tally_desk_answer.specs.declared.status.AnswerStatus.TheVariants.{Done}
+use Rattle.tally_desk_answer.specs.declared.status.BodyType.TheVariants.{Text}
 use Rattle.tally_desk.proofs.DeskLemmas.{granted, report-answered}
 use Rattle.tally_desk.proofs.show.report_shown.Goals as goal
 

@@ -1,9 +1,9 @@
 use Rattle.std.proofs.Common.{◌≡◌, ◌∙◌, ℕ, List, IfSome, ap, subst}
 use Rattle.serde_json.specs.Written.{compact_text}
-use Rattle.tally_answer.specs.Shown.{shown_return}
-use Rattle.tally_answer.specs.Answer.{answer_text}
-use Rattle.tally_answer.specs.declared.status.AnswerStatus.TheVariants.{Done}
-use Rattle.tally_answer.specs.declared.status.BodyType.TheVariants.{Json}
+use Rattle.tally_desk_answer.specs.Shown.{shown_return}
+use Rattle.tally_desk_answer.specs.Answer.{answer_text}
+use Rattle.tally_desk_answer.specs.declared.status.AnswerStatus.TheVariants.{Done}
+use Rattle.tally_desk_answer.specs.declared.status.BodyType.TheVariants.{Json}
 use Rattle.tally_desk.proofs.show.return_answer.Goals as goal
 
 pub returns-in-Ok : goal.returns-in-Ok

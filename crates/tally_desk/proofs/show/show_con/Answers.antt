@@ -1,9 +1,9 @@
 use Rattle.std.proofs.Common.{◌≡◌, ◌∙◌, Some, List, Ok, Err, subst, sym}
 use Rattle.serde_json.specs.Written.{compact_text}
-use Rattle.tally_answer.specs.Answer.{answer_text}
-use Rattle.tally_answer.specs.Shown.{shown_con}
-use Rattle.tally_answer.specs.declared.status.AnswerStatus.TheVariants as status
-use Rattle.tally_answer.specs.declared.status.BodyType.TheVariants as body
+use Rattle.tally_desk_answer.specs.Answer.{answer_text}
+use Rattle.tally_desk_answer.specs.Shown.{shown_con}
+use Rattle.tally_desk_answer.specs.declared.status.AnswerStatus.TheVariants as status
+use Rattle.tally_desk_answer.specs.declared.status.BodyType.TheVariants as body
 use Rattle.tally_setup.specs.Constituency.{Constituency}
 use Rattle.tally_setup.specs.Setup.{constituency_with}
 use Rattle.tally_returns.specs.declared.reply.Reply.TheVariants as reply
@@ -11,7 +11,7 @@ use Rattle.tally_keeper.specs.Shown.{AnswersShowCon}
 use Rattle.tally_desk.specs.Requests as desk
 use Rattle.tally_desk.specs.Requests.{AtCon}
 use Rattle.tally_desk.proofs.DeskLemmas.{gives, con-answer}
-use Rattle.tally_overview.proofs.ViewLemmas.{kept-shown}
+use Rattle.tally_report_overview.proofs.ViewLemmas.{kept-shown}
 use Rattle.tally_desk.proofs.show.show_con.Goals as goal
 
 pub returns-in-Err-clause-gives : goal.returns-in-Err-clause-gives

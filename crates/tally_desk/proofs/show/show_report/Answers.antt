@@ -3,7 +3,7 @@ use Rattle.tally_report.specs.Reports.{IsEnoughFor}
 use Rattle.tally_setup.specs.Constituency.{Constituency}
 use Rattle.tally_setup.specs.Setup.{constituency_with}
 use Rattle.tally_returns.specs.declared.reply.Reply.TheVariants as reply
-use Rattle.tally_overview.specs.Views.{ShowsFor}
+use Rattle.tally_report_overview.specs.Views.{ShowsFor}
 use Rattle.tally_desk.specs.Reports.{IsReportText}
 use Rattle.tally_desk.specs.Requests.{AtCon, Reports}
 use Rattle.tally_desk.proofs.DeskLemmas.{gives, con-answer, text-whole}

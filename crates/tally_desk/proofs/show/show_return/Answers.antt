@@ -1,9 +1,9 @@
 use Rattle.std.proofs.Common.{◌≡◌, Ok, Err, subst}
 use Rattle.serde_json.specs.Written.{compact_text}
-use Rattle.tally_answer.specs.Answer.{answer_text}
-use Rattle.tally_answer.specs.Shown.{shown_return}
-use Rattle.tally_answer.specs.declared.status.AnswerStatus.TheVariants as status
-use Rattle.tally_answer.specs.declared.status.BodyType.TheVariants as body
+use Rattle.tally_desk_answer.specs.Answer.{answer_text}
+use Rattle.tally_desk_answer.specs.Shown.{shown_return}
+use Rattle.tally_desk_answer.specs.declared.status.AnswerStatus.TheVariants as status
+use Rattle.tally_desk_answer.specs.declared.status.BodyType.TheVariants as body
 use Rattle.tally_keeper.specs.Keeper.{Happens, request}
 use Rattle.tally_returns.specs.declared.ask.Ask.TheVariants.{ShowReturn}
 use Rattle.tally_returns.specs.declared.reply.Reply.TheVariants as reply

@@ -1,7 +1,7 @@
 use Rattle.std.proofs.Common.{◌≡◌, ◌∙◌, ℕ, List, IfSome, subst}
-use Rattle.tally_answer.specs.Answer.{answer_text}
-use Rattle.tally_answer.specs.declared.status.AnswerStatus.TheVariants.{Done}
-use Rattle.tally_answer.specs.declared.status.BodyType.TheVariants.{Text}
+use Rattle.tally_desk_answer.specs.Answer.{answer_text}
+use Rattle.tally_desk_answer.specs.declared.status.AnswerStatus.TheVariants.{Done}
+use Rattle.tally_desk_answer.specs.declared.status.BodyType.TheVariants.{Text}
 use Rattle.tally_desk.proofs.trial.trial_answer.Goals as goal
 
 pub returns-in-Ok-trial_lines-clause-text : goal.returns-in-Ok-trial_lines-clause-text

@@ -2,13 +2,13 @@ use Rattle.std.proofs.Common.{◌≡◌, ◌+◌, ◌++◌, ◌∷◌, ◌∙◌
 use Rattle.std.proofs.lemmas.List.{append-nil}
 use Rattle.csv.specs.Records.{fields_of}
 use Rattle.tally_import.specs.Check.{rows_of_records}
-use Rattle.tally_records.specs.Input.{AreAll}
-use Rattle.tally_records.specs.Given.{HasGiven, sep_of}
-use Rattle.tally_records.specs.Watch.{WatchAgreesAtEnd}
+use Rattle.tally_import_records.specs.Input.{AreAll}
+use Rattle.tally_import_records.specs.Given.{HasGiven, sep_of}
+use Rattle.tally_import_records.specs.Watch.{WatchAgreesAtEnd}
 use Rattle.tally_import.specs.internal.Rounds.{AreRecordsAfter, ImportsRecords}
 use Rattle.tally_import.proofs.FoundLemmas.{Imports-ended}
 use Rattle.tally_import.proofs.RoundsLemmas.{more-taken, taken-next}
-use Rattle.tally_records.proofs.WorkLemmas.{HasGiven-partly}
+use Rattle.tally_import_records.proofs.WorkLemmas.{HasGiven-partly}
 use Rattle.tally_import.proofs.check.check_rows.Goals as goal
 
 pub loop-end-init : goal.loop-end-init

@@ -1,7 +1,7 @@
 use Rattle.std.proofs.Common.{◌≡◌, ◌≤◌, ◌-◌, ◌++◌, Bool, List, ℕ, Option, length}
 use Rattle.tally_keeper.specs.Source.{row_limit}
 use Rattle.tally_import.specs.Check.{rows_of_records}
-use Rattle.tally_records.specs.Given.{HasGiven, IsReadingOn, WatchAgrees, sep_of}
+use Rattle.tally_import_records.specs.Given.{HasGiven, IsReadingOn, WatchAgrees, sep_of}
 use Rattle.tally_import.specs.internal.Progress.{HasTaken}
 use Rattle.tally_import.proofs.check.check_rows.Given as goal
 

@@ -2,13 +2,13 @@ use Rattle.std.proofs.Common.{◌≡◌, ◌∙◌, ◌∷◌, [], None, Some, s
 use Rattle.std.specs.Prelude.{IfSome, option_map}
 use Rattle.csv.specs.Records.{fields_of}
 use Rattle.tally_import.specs.Header.{header_lists}
-use Rattle.tally_records.specs.Given.{sep_of}
-use Rattle.tally_records.specs.Input.{AreAll}
+use Rattle.tally_import_records.specs.Given.{sep_of}
+use Rattle.tally_import_records.specs.Input.{AreAll}
 use Rattle.tally_import.specs.internal.Rounds.{FindsCheckText}
 use Rattle.tally_import.specs.declared.check.CheckFault.TheVariants.{BadHeader}
 use Rattle.tally_import.proofs.FoundLemmas.{Found-fault, no-lists}
 use Rattle.tally_import.proofs.HeaderLemmas.{header-few}
-use Rattle.tally_records.proofs.WorkLemmas.{HasGiven-partly}
+use Rattle.tally_import_records.proofs.WorkLemmas.{HasGiven-partly}
 use Rattle.tally_import.proofs.check.text_of_records.Goals as goal
 
 pub text_under_header-requires-clause-few : goal.text_under_header-requires-clause-few

@@ -1,10 +1,10 @@
 use Rattle.std.proofs.Common.{◌∷◌, ◌∙◌, [], Ok, length, subst, sym}
 use Rattle.tally_import.specs.Check.{rows_of_records}
-use Rattle.tally_records.specs.Given.{sep_of}
+use Rattle.tally_import_records.specs.Given.{sep_of}
 use Rattle.tally_import.specs.internal.Progress.{HasTaken}
 use Rattle.tally_import.specs.internal.Rounds.{AreRecordsAfter, ImportsRecords}
 use Rattle.tally_import.proofs.FoundLemmas.{Found-rows, Found-text}
-use Rattle.tally_records.proofs.WorkLemmas.{IfOk-then}
+use Rattle.tally_import_records.proofs.WorkLemmas.{IfOk-then}
 use Rattle.tally_import.proofs.check.text_under_header.Goals as goal
 
 pub check_rows-requires-clause-none : goal.check_rows-requires-clause-none

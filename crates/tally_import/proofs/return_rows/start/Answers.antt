@@ -4,8 +4,8 @@ use Rattle.std.specs.Str.{bytes_eq}
 use Rattle.csv.specs.Records.{fields_of}
 use Rattle.tally_setup.specs.Constituency.{list_codes, station_codes}
 use Rattle.tally_keeper.specs.declared.source.ImportFault.TheVariants as cause
-use Rattle.tally_records.specs.Input.{AreAll}
-use Rattle.tally_records.specs.Given.{WatchAgrees}
+use Rattle.tally_import_records.specs.Input.{AreAll}
+use Rattle.tally_import_records.specs.Given.{WatchAgrees}
 use Rattle.tally_import.specs.ReturnRows.{IsNext, is_header, text_coming}
 use Rattle.tally_import.specs.declared.return_rows.Rows.{Rows}
 use Rattle.tally_import.proofs.ReturnRowsLemmas.{rows-opened, header-stop, header-bad, header-read}

@@ -1,11 +1,11 @@
 use Rattle.tally_allot.specs.AllotFault.{IsFaultOf}
 use Rattle.tally_allot.specs.declared.fault.AllotFault.{AllotFault}
 use Rattle.std.proofs.Common.{◌∙◌, Err, subst, sym}
-use Rattle.tally_steps.specs.Certification.{seats_by_outcome, count_checks}
-use Rattle.tally_steps.specs.Outcome.{poll_in, rule_in}
+use Rattle.tally_machine_law.specs.Certification.{seats_by_outcome, count_checks}
+use Rattle.tally_machine_law.specs.Outcome.{poll_in, rule_in}
 use Rattle.tally_returns.specs.Checks.{first_refusal}
 use Rattle.tally_returns.specs.declared.refusal.Refusal.TheVariants.{LotMissing, Store}
-use Rattle.tally_steps.proofs.CertificationLemmas.{certifies, certifies-missing, reported-by_outcome}
+use Rattle.tally_machine_law.proofs.CertificationLemmas.{certifies, certifies-missing, reported-by_outcome}
 use Rattle.tally_machine.proofs.certification.certify.Goals as goal
 
 pub returns-in-Ok-clause-seats : goal.returns-in-Ok-clause-seats

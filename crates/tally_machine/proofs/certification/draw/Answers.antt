@@ -3,12 +3,12 @@ use Rattle.std.specs.Prelude.{vec_len}
 use Rattle.std.proofs.lemmas.Bool.{eqb-true, eqb-false}
 use Rattle.tally_allot.specs.AllotFault.{IsFaultOf}
 use Rattle.tally_allot.specs.declared.fault.AllotFault.{AllotFault}
-use Rattle.tally_steps.specs.Certification.{ByOutcome, Draws, IsDrawRefusal, count_checks, lot_in_view, lot_where_recorded, drawn_places, list_places}
-use Rattle.tally_steps.specs.Outcome.{IsOutcome, lot_missing, nobody, poll_in, rule_in}
+use Rattle.tally_machine_law.specs.Certification.{ByOutcome, Draws, IsDrawRefusal, count_checks, lot_in_view, lot_where_recorded, drawn_places, list_places}
+use Rattle.tally_machine_law.specs.Outcome.{IsOutcome, lot_missing, nobody, poll_in, rule_in}
 use Rattle.tally_returns.specs.Checks.{first_refusal}
 use Rattle.tally_returns.specs.View.{View}
 use Rattle.tally_returns.specs.declared.refusal.Refusal.TheVariants.{LotNotNeeded, LotStands, Memory, NoEligible}
-use Rattle.tally_steps.proofs.CertificationLemmas.{draws-decided, draws-missing, draws-stands, group-within, none_long, not_refused, on_fault, on_ok, reported-by_outcome}
+use Rattle.tally_machine_law.proofs.CertificationLemmas.{draws-decided, draws-missing, draws-stands, group-within, none_long, not_refused, on_fault, on_ok, reported-by_outcome}
 use Rattle.tally_machine.proofs.certification.draw.Goals as goal
 
 pub returns-in-Ok-clause-refused : goal.returns-in-Ok-clause-refused

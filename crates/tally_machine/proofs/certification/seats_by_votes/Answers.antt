@@ -8,9 +8,9 @@ use Rattle.tally_law.specs.Poll.{HasEligible}
 use Rattle.tally_allot.specs.AllotFault.{IsFaultOf}
 use Rattle.tally_law.specs.LotNeed.{IsLotTaken}
 use Rattle.tally_law.specs.Rules.{rule_of, poll_of}
-use Rattle.tally_steps.specs.Outcome.{poll_in, rule_in}
+use Rattle.tally_machine_law.specs.Outcome.{poll_in, rule_in}
 use Rattle.tally_returns.specs.View.{View}
-use Rattle.tally_steps.proofs.CertificationLemmas.{all_three, carried, fits-limits}
+use Rattle.tally_machine_law.proofs.CertificationLemmas.{all_three, carried, fits-limits}
 use Rattle.tally_machine.proofs.certification.seats_by_votes.Goals as goal
 
 pub allot-requires : goal.allot-requires

@@ -1,6 +1,6 @@
 use Rattle.std.proofs.Common.{◌≡◌, Ok, Err, IfErr, List, ℕ, refl, sym, ap, subst, string_bytes, rules}
-use Rattle.tally_steps.specs.Certification.{Draws, IsDrawRefusal, reopen_result, vacate_result}
-use Rattle.tally_steps.specs.Step.{Decides, IsConRefusal, certified_with, change_of_result, gone_for_good, lot_set, open_again}
+use Rattle.tally_machine_law.specs.Certification.{Draws, IsDrawRefusal, reopen_result, vacate_result}
+use Rattle.tally_machine_law.specs.Step.{Decides, IsConRefusal, certified_with, change_of_result, gone_for_good, lot_set, open_again}
 use Rattle.tally_returns.specs.declared.ask.Ask.{Ask}
 use Rattle.tally_machine.proofs.con_commands.decide_con.Goals as goal
 

@@ -1,4 +1,4 @@
-use Rattle.tally_steps.proofs.LawLemmas.{certificate-of_run, certificate-of_view, view-one}
+use Rattle.tally_machine_law.proofs.LawLemmas.{certificate-of_run, certificate-of_view, view-one}
 use Rattle.tally_machine.proofs.laws.a_certificate_is_of_closed_votes.Goals as goal
 
 pub returns-clause-of_run : goal.returns-clause-of_run

@@ -1,6 +1,6 @@
-use Rattle.tally_steps.proofs.CertificationLemmas.{lot-right}
-use Rattle.tally_steps.proofs.LawLemmas.{view-stands}
-use Rattle.tally_steps.proofs.ViewLemmas.{view-lawful}
+use Rattle.tally_machine_law.proofs.CertificationLemmas.{lot-right}
+use Rattle.tally_machine_law.proofs.LawLemmas.{view-stands}
+use Rattle.tally_machine_law.proofs.ViewLemmas.{view-lawful}
 use Rattle.tally_machine.proofs.laws.a_constituency_has_a_view.Goals as goal
 
 pub returns-clause-exists : goal.returns-clause-exists

@@ -1,5 +1,5 @@
-use Rattle.tally_steps.proofs.DecisionLemmas.{decisions-steps, edition-within, gone-once, unknown-constituency}
-use Rattle.tally_steps.proofs.RecordLemmas.{records-last}
+use Rattle.tally_machine_law.proofs.DecisionLemmas.{decisions-steps, edition-within, gone-once, unknown-constituency}
+use Rattle.tally_machine_law.proofs.RecordLemmas.{records-last}
 use Rattle.tally_machine.proofs.laws.a_decision_on_a_constituency_is_a_step.Goals as goal
 
 pub returns-clause-decided : goal.returns-clause-decided

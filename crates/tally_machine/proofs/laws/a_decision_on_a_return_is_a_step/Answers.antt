@@ -1,4 +1,4 @@
-use Rattle.tally_steps.proofs.DecisionLemmas.{changes-steps, limits-same, refusals-steps, unknown-station}
+use Rattle.tally_machine_law.proofs.DecisionLemmas.{changes-steps, limits-same, refusals-steps, unknown-station}
 use Rattle.tally_machine.proofs.laws.a_decision_on_a_return_is_a_step.Goals as goal
 
 pub returns-clause-limits : goal.returns-clause-limits

@@ -1,4 +1,4 @@
-use Rattle.tally_steps.proofs.LawLemmas.{missing-reported, reported-is_need}
+use Rattle.tally_machine_law.proofs.LawLemmas.{missing-reported, reported-is_need}
 use Rattle.tally_machine.proofs.laws.a_missing_lot_is_reported.Goals as goal
 
 pub returns-clause-missing : goal.returns-clause-missing

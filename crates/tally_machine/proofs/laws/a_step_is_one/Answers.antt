@@ -1,6 +1,6 @@
-use Rattle.tally_steps.proofs.KindLemmas.{step-kind}
-use Rattle.tally_steps.proofs.OneLemmas.{step-one}
-use Rattle.tally_steps.proofs.OwnLemmas.{steps-own}
+use Rattle.tally_machine_law.proofs.KindLemmas.{step-kind}
+use Rattle.tally_machine_law.proofs.OneLemmas.{step-one}
+use Rattle.tally_machine_law.proofs.OwnLemmas.{steps-own}
 use Rattle.tally_machine.proofs.laws.a_step_is_one.Goals as goal
 
 pub returns-clause-one : goal.returns-clause-one

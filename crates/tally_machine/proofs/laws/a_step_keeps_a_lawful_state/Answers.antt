@@ -1,5 +1,5 @@
-use Rattle.tally_steps.proofs.LawLemmas.{run-lawful, step-lawful}
-use Rattle.tally_steps.proofs.ReturnStepLemmas.{opening-lawful}
+use Rattle.tally_machine_law.proofs.LawLemmas.{run-lawful, step-lawful}
+use Rattle.tally_machine_law.proofs.ReturnStepLemmas.{opening-lawful}
 use Rattle.tally_machine.proofs.laws.a_step_keeps_a_lawful_state.Goals as goal
 
 pub returns-clause-opening : goal.returns-clause-opening

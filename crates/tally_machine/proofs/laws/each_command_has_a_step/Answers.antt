@@ -1,4 +1,4 @@
-use Rattle.tally_steps.proofs.DecidedLemmas.{command-decided, step-stands}
+use Rattle.tally_machine_law.proofs.DecidedLemmas.{command-decided, step-stands}
 use Rattle.tally_machine.proofs.laws.each_command_has_a_step.Goals as goal
 
 pub returns-clause-decided : goal.returns-clause-decided

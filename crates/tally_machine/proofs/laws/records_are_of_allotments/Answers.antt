@@ -1,4 +1,4 @@
-use Rattle.tally_steps.proofs.RecordLemmas.{records-of-allotments, records-of-run}
+use Rattle.tally_machine_law.proofs.RecordLemmas.{records-of-allotments, records-of-run}
 use Rattle.tally_machine.proofs.laws.records_are_of_allotments.Goals as goal
 
 pub returns-clause-step : goal.returns-clause-step

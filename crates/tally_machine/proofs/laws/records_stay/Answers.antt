@@ -1,4 +1,4 @@
-use Rattle.tally_steps.proofs.RecordLemmas.{records-stay, records-stay-run}
+use Rattle.tally_machine_law.proofs.RecordLemmas.{records-stay, records-stay-run}
 use Rattle.tally_machine.proofs.laws.records_stay.Goals as goal
 
 pub returns-clause-step : goal.returns-clause-step

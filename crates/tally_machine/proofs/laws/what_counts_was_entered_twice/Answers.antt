@@ -1,4 +1,4 @@
-use Rattle.tally_steps.proofs.EnteredTwiceLemmas.{certified-twice, closed-twice, one-enters_nothing}
+use Rattle.tally_machine_law.proofs.EnteredTwiceLemmas.{certified-twice, closed-twice, one-enters_nothing}
 use Rattle.tally_machine.proofs.laws.what_counts_was_entered_twice.Goals as goal
 
 pub returns-clause-closed : goal.returns-clause-closed

@@ -1,4 +1,4 @@
-use Rattle.tally_steps.proofs.ActLemmas.{answered-idle}
+use Rattle.tally_machine_law.proofs.ActLemmas.{answered-idle}
 use Rattle.tally_machine.proofs.laws.what_does_not_act_changes_nothing.Goals as goal
 
 pub returns : goal.returns

@@ -1,5 +1,5 @@
 use Rattle.std.proofs.Common.{◌≡◌, drop}
-use Rattle.tally_steps.specs.Certification.{are_distinct}
+use Rattle.tally_machine_law.specs.Certification.{are_distinct}
 use Rattle.tally_machine.proofs.list_order.are_distinct.Given as goal
 
 -- the places so far occur nowhere after them

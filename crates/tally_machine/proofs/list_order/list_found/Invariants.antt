@@ -1,5 +1,5 @@
 use Rattle.std.proofs.Common.{◌≡◌, ◌+◌, drop}
-use Rattle.tally_steps.specs.Certification.{list_found, list_found_from}
+use Rattle.tally_machine_law.specs.Certification.{list_found, list_found_from}
 use Rattle.tally_machine.proofs.list_order.list_found.Given as goal
 
 -- the lists so far have other codes

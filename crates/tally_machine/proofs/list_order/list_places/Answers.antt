@@ -2,8 +2,8 @@ use Rattle.std.proofs.Common.{◌≡◌, ◌∙◌, suc, ◌+◌, ◌++◌, ◌�
 use Rattle.std.specs.Prelude.{option_map}
 use Rattle.std.proofs.Math.Seq.{drop-cons}
 use Rattle.std.proofs.lemmas.List.{take_more}
-use Rattle.tally_steps.specs.Certification.{ListFound, list_place, list_places}
-use Rattle.tally_steps.proofs.LotLemmas.{list_places-more, list_places-none}
+use Rattle.tally_machine_law.specs.Certification.{ListFound, list_place, list_places}
+use Rattle.tally_machine_law.proofs.LotLemmas.{list_places-more, list_places-none}
 use Rattle.tally_machine.proofs.list_order.list_places.Goals as goal
 
 pub returns-in_default : goal.returns-in_default

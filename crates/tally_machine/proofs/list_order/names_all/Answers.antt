@@ -1,8 +1,8 @@
 use Rattle.std.proofs.Common.{◌≡◌, ◌≤◌, ◌<◌, ◌⊎◌, ◌∙◌, ℕ, suc, ◌+◌, true, false, get_or, inl, inr, sym, ap, arith}
 use Rattle.std.proofs.lemmas.Bool.{cases_lt, false≢true}
 use Rattle.tally_frac.specs.ListSet.{has_place}
-use Rattle.tally_steps.specs.Holders.{is_among}
-use Rattle.tally_steps.proofs.LotLemmas.{all_marked-fails, all_marked-from, among-turned}
+use Rattle.tally_machine_law.specs.Holders.{is_among}
+use Rattle.tally_machine_law.proofs.LotLemmas.{all_marked-fails, all_marked-from, among-turned}
 use Rattle.tally_machine.proofs.list_order.names_all.Goals as goal
 
 pub returns-then-not-contains : goal.returns-then-not-contains

@@ -1,5 +1,5 @@
 use Rattle.std.proofs.Common.{◌≡◌, ℕ, ◌+◌, ◌<◌, true, false, get_or}
-use Rattle.tally_steps.specs.Holders.{is_among}
+use Rattle.tally_machine_law.specs.Holders.{is_among}
 use Rattle.tally_machine.proofs.list_order.names_all.Given as goal
 
 -- the lists so far are named, or not of the group

@@ -1,8 +1,8 @@
 use Rattle.std.proofs.Common.{◌≡◌, ◌∙◌, ℕ, ◌+◌, List, ◌∷◌, ◌++◌, [], length, sym, ap, arith}
 use Rattle.std.proofs.lemmas.List.{length_push, take_all}
-use Rattle.tally_steps.specs.Holders.{is_among, remaining_candidates}
-use Rattle.tally_steps.proofs.HolderLemmas.{staying-more, staying-same}
-use Rattle.tally_steps.proofs.LotLemmas.{among-turned}
+use Rattle.tally_machine_law.specs.Holders.{is_among, remaining_candidates}
+use Rattle.tally_machine_law.proofs.HolderLemmas.{staying-more, staying-same}
+use Rattle.tally_machine_law.proofs.LotLemmas.{among-turned}
 use Rattle.tally_machine.proofs.HolderLemmas.{all_seats}
 use Rattle.tally_machine.proofs.seat_holders.holders.Goals as goal
 use Rattle.tally_machine.proofs.seat_holders.holders.Goals.{then-not-contains+in_ok-push, else-not-contains}

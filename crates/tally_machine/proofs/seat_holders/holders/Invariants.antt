@@ -1,5 +1,5 @@
 use Rattle.std.proofs.Common.{◌≡◌, ◌≤◌, length}
-use Rattle.tally_steps.specs.Holders.{remaining_candidates}
+use Rattle.tally_machine_law.specs.Holders.{remaining_candidates}
 use Rattle.tally_machine.proofs.seat_holders.holders.Given as goal
 
 abbrev pub invariant-loop-candidate : goal.invariant-loop-candidate

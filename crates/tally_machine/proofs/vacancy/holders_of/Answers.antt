@@ -1,11 +1,11 @@
 use Rattle.std.proofs.Common.{◌≡◌, ◌-◌, ◌∙◌, ℕ, List, length, refl, ap, arith}
 use Rattle.std.specs.Prelude.{slice_index}
 use Rattle.std.proofs.lemmas.List.{get_or_read}
-use Rattle.tally_steps.specs.Certification.{ListFound, holders_of}
-use Rattle.tally_steps.specs.Holders.{holders}
+use Rattle.tally_machine_law.specs.Certification.{ListFound, holders_of}
+use Rattle.tally_machine_law.specs.Holders.{holders}
 use Rattle.tally_returns.specs.View.{View}
-use Rattle.tally_steps.proofs.CertificationLemmas.{on_ok}
-use Rattle.tally_steps.proofs.VacancyLemmas.{holders-found}
+use Rattle.tally_machine_law.proofs.CertificationLemmas.{on_ok}
+use Rattle.tally_machine_law.proofs.VacancyLemmas.{holders-found}
 use Rattle.tally_machine.proofs.vacancy.holders_of.Goals as goal
 
 pub returns : goal.returns

@@ -1,6 +1,6 @@
 use Rattle.std.proofs.Common.{◌≡◌, ◌||◌, ◌++◌, ◌∷◌, ◌∙◌, ℕ, Bool, true, false, List, [], ap, arith, refl}
 use Rattle.std.specs.Prelude.{nat_eq}
-use Rattle.tally_steps.specs.Holders.{is_among}
+use Rattle.tally_machine_law.specs.Holders.{is_among}
 use Rattle.tally_machine.proofs.vacancy.next_holder.Goals as goal
 
 or_turned : (a b c : Bool) → (a || (b || c)) ≡ (b || (a || c))

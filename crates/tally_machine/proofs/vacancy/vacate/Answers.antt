@@ -1,9 +1,9 @@
 use Rattle.std.proofs.Common.{◌≡◌, ◌∙◌, ◌∷◌, ℕ, List, true, false, Ok, sym, ap, arith}
-use Rattle.tally_steps.specs.Certification.{ListFound, gone_of, has_candidate, holders_of}
-use Rattle.tally_steps.specs.Holders.{is_among, newcomer}
+use Rattle.tally_machine_law.specs.Certification.{ListFound, gone_of, has_candidate, holders_of}
+use Rattle.tally_machine_law.specs.Holders.{is_among, newcomer}
 use Rattle.tally_returns.specs.View.{View}
-use Rattle.tally_steps.proofs.LotLemmas.{among-turned}
-use Rattle.tally_steps.proofs.VacancyLemmas.{candidate-is, found-place, found-seats, vacates-gone, vacates-no_holder, vacates-seat}
+use Rattle.tally_machine_law.proofs.LotLemmas.{among-turned}
+use Rattle.tally_machine_law.proofs.VacancyLemmas.{candidate-is, found-place, found-seats, vacates-gone, vacates-no_holder, vacates-seat}
 use Rattle.tally_machine.proofs.vacancy.vacate.Goals as goal
 
 pub returns-then-contains-clause-refused : goal.returns-then-contains-clause-refused

@@ -1,6 +1,6 @@
 use Rattle.std.proofs.Common.{◌≡◌, ◌∙◌, ℕ, length, ap, arith, string_bytes}
 use Rattle.std.proofs.lemmas.List.{length-map}
-use Rattle.tally_steps.specs.Holders.{holders}
+use Rattle.tally_machine_law.specs.Holders.{holders}
 use Rattle.tally_setup.specs.Constituency.{ListEntry}
 use Rattle.tally_report.proofs.HolderLemmas.{holder-within}
 use Rattle.tally_report.proofs.holders.push_seats.Goals as goal

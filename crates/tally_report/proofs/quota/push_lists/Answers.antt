@@ -1,5 +1,5 @@
 use Rattle.std.proofs.Common.{◌∙◌, ◌++◌, string_bytes, ap}
-use Rattle.tally_contest.specs.internal.KeptPoll.{kept_poll}
+use Rattle.tally_allot_award.specs.internal.KeptPoll.{kept_poll}
 use Rattle.tally_setup.specs.Constituency.{Constituency}
 use Rattle.tally_report.specs.Columns.{list_lines}
 use Rattle.tally_report.specs.QuotaText.{quota_line}

@@ -1,7 +1,7 @@
 use Rattle.std.proofs.Common.{rules, ◌≤◌, ◌∙◌, ℕ, List, ap, arith}
 use Rattle.tally_allot.specs.AllotFault.{IsFaultOf}
 use Rattle.tally_law.specs.Rules.{poll_of, rule_of}
-use Rattle.tally_steps.specs.Outcome.{poll_in, rule_in}
+use Rattle.tally_machine_law.specs.Outcome.{poll_in, rule_in}
 use Rattle.tally_returns.specs.View.{View}
 use Rattle.tally_setup.specs.declared.profile.Profile.{Profile}
 use Rattle.tally_setup.specs.Constituency.{Constituency}

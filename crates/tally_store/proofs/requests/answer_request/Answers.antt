@@ -3,10 +3,10 @@ use Rattle.std.proofs.lemmas.Result.{IfOk-at_ok, IfOk-weaker}
 use Rattle.sqlite.specs.State.{IsUnchanged}
 use Rattle.sqlite.specs.Held.{state}
 use Rattle.tally_returns.specs.State.{State}
-use Rattle.tally_requests.specs.internal.Known.{AreKnown, known_of}
-use Rattle.tally_steps.specs.Kinds.{IsReplyTo}
-use Rattle.tally_steps.specs.Runs.{is_act}
-use Rattle.tally_steps.specs.Step.{IsAnswered}
+use Rattle.tally_store_commands.specs.internal.Known.{AreKnown, known_of}
+use Rattle.tally_machine_law.specs.Kinds.{IsReplyTo}
+use Rattle.tally_machine_law.specs.Runs.{is_act}
+use Rattle.tally_machine_law.specs.Step.{IsAnswered}
 use Rattle.tally_store.specs.internal.Requests.{EndsTransaction}
 use Rattle.tally_store.proofs.EndLemmas.{Asked, answer_is, done, ends_request, forgets, knows, shut, unwritten}
 use Rattle.tally_store.proofs.requests.answer_request.Given.{Over}

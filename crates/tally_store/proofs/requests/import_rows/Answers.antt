@@ -4,17 +4,17 @@ use Rattle.sqlite.proofs.StateLemmas.{survives_then}
 use Rattle.sqlite.specs.State.{HasCleanDisk, IsUnchanged}
 use Rattle.sqlite.specs.Held.{state}
 use Rattle.tally_returns.specs.State.{State}
-use Rattle.tally_steps.specs.LawfulState.{IsLawfulState}
-use Rattle.tally_schema.specs.Office.{IsInside}
-use Rattle.tally_tables.specs.TablesOfState.{AreTables}
+use Rattle.tally_machine_law.specs.LawfulState.{IsLawfulState}
+use Rattle.tally_store_schema.specs.Office.{IsInside}
+use Rattle.tally_store_rows.specs.TablesOfState.{AreTables}
 use Rattle.tally_keeper.specs.Delivery.{delivery}
 use Rattle.tally_keeper.proofs.TakenLemmas.{own-last}
-use Rattle.tally_requests.specs.internal.Known.{known_of}
+use Rattle.tally_store_commands.specs.internal.Known.{known_of}
 use Rattle.tally_store.specs.Crash.{LeavesImported}
-use Rattle.tally_opening.specs.Office.{HasState}
+use Rattle.tally_store_open.specs.Office.{HasState}
 use Rattle.tally_store.proofs.RequestLemmas.{all_committed, all_known, empty-nothing, import_ends, open_failed, state_back, survives_commit, tables_imported, unwritten_commit}
-use Rattle.tally_schema.proofs.StaysLemmas.{clean_first}
-use Rattle.tally_opening.proofs.EndingLemmas.{Began, failed, rolled_back}
+use Rattle.tally_store_schema.proofs.StaysLemmas.{clean_first}
+use Rattle.tally_store_open.proofs.EndingLemmas.{Began, failed, rolled_back}
 use Rattle.tally_store.proofs.requests.import_rows.Goals as goal
 
 pub returns-in-Ok-commit : goal.returns-in-Ok-commit

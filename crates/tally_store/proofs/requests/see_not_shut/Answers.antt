@@ -1,7 +1,7 @@
 use Rattle.std.proofs.Common.{[], IsTrue, rules}
 use Rattle.sqlite.specs.State.{HasCleanDisk}
 use Rattle.sqlite.specs.Held.{state}
-use Rattle.tally_opening.specs.Create.{IsAsBefore}
+use Rattle.tally_store_open.specs.Create.{IsAsBefore}
 use Rattle.tally_store.proofs.TrialLemmas.{not_prepared}
 use Rattle.tally_store.proofs.requests.see_not_shut.Goals as goal
 

@@ -2,7 +2,7 @@ use Rattle.std.proofs.Common.{◌≡◌, [], OnOk, Some, ap, refl, rules, subst}
 use Rattle.sqlite.specs.State.{IsUnchanged}
 use Rattle.sqlite.specs.Held.{state}
 use Rattle.tally_keeper.specs.Shown.{con_with}
-use Rattle.tally_requests.specs.internal.Known.{AreKnown, known_of}
+use Rattle.tally_store_commands.specs.internal.Known.{AreKnown, known_of}
 use Rattle.tally_returns.specs.View.{FitsView}
 use Rattle.tally_returns.specs.declared.ask.Ask.TheVariants.{ShowCon}
 use Rattle.tally_setup.specs.Constituency.{Constituency}

@@ -2,7 +2,7 @@ use Rattle.std.proofs.Common.{◌≡◌, OnOk, ap, inl, inr, rules, subst}
 use Rattle.sqlite.specs.State.{IsUnchanged}
 use Rattle.sqlite.specs.Held.{state}
 use Rattle.tally_keeper.specs.Shown.{IsReturnsRefusal}
-use Rattle.tally_requests.specs.internal.Known.{AreKnown, known_of}
+use Rattle.tally_store_commands.specs.internal.Known.{AreKnown, known_of}
 use Rattle.tally_store.specs.internal.Requests.{EndsTransaction}
 use Rattle.tally_store.proofs.EndLemmas.{Ended, known_still, refusal_is, refused, refused_or_unwritten, refused_shut}
 use Rattle.tally_store.proofs.StationLemmas.{IsShownStill, ends_look, known_got, looks, refused_got, shows_stations, stations_got}

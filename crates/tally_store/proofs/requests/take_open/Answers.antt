@@ -6,9 +6,9 @@ use Rattle.sqlite.specs.State.{HasCleanDisk, IsUnchanged}
 use Rattle.sqlite.specs.Held.{state}
 use Rattle.tally_keeper.specs.Delivery.{source_at}
 use Rattle.tally_keeper.proofs.TakenLemmas.{own-first}
-use Rattle.tally_requests.specs.internal.Inside.{IsLawfulInside}
-use Rattle.tally_schema.proofs.StaysLemmas.{clean_first, stays-then}
-use Rattle.tally_tables.specs.TablesOfState.{AreTables}
+use Rattle.tally_store_commands.specs.internal.Inside.{IsLawfulInside}
+use Rattle.tally_store_schema.proofs.StaysLemmas.{clean_first, stays-then}
+use Rattle.tally_store_rows.specs.TablesOfState.{AreTables}
 use Rattle.tally_store.proofs.RequestLemmas.{inside_still, lawful_still, on_ok, stays_in_state}
 use Rattle.tally_store.proofs.requests.take_open.Goals as goal
 

@@ -2,10 +2,10 @@ use Rattle.std.proofs.Common.{◌≡◌, Some, refl, rules, subst, sym, true}
 use Rattle.std.proofs.lemmas.Result.{IfOk-weaker, on_ok_weaker}
 use Rattle.sqlite.specs.State.{HasCleanDisk}
 use Rattle.sqlite.specs.Held.{state}
-use Rattle.tally_schema.specs.Office.{IsInside}
-use Rattle.tally_tables.specs.TablesOfState.{AreTables}
-use Rattle.tally_opening.specs.internal.Ending.{EndsUnchanged}
-use Rattle.tally_schema.proofs.StaysLemmas.{clean_first}
+use Rattle.tally_store_schema.specs.Office.{IsInside}
+use Rattle.tally_store_rows.specs.TablesOfState.{AreTables}
+use Rattle.tally_store_open.specs.internal.Ending.{EndsUnchanged}
+use Rattle.tally_store_schema.proofs.StaysLemmas.{clean_first}
 use Rattle.tally_store.proofs.TrialLemmas.{undone_ends}
 use Rattle.tally_store.proofs.requests.take_undone.Goals as goal
 

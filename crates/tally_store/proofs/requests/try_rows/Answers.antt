@@ -3,7 +3,7 @@ use Rattle.sqlite.specs.State.{HasCleanDisk}
 use Rattle.sqlite.specs.Held.{state}
 use Rattle.tally_keeper.specs.Delivery.{delivery}
 use Rattle.tally_keeper.proofs.TakenLemmas.{own-last}
-use Rattle.tally_schema.proofs.StaysLemmas.{clean_first}
+use Rattle.tally_store_schema.proofs.StaysLemmas.{clean_first}
 use Rattle.tally_store.proofs.TrialLemmas.{ends_then, unwritten_ends}
 use Rattle.tally_store.proofs.requests.try_rows.Goals as goal
 

@@ -1,6 +1,6 @@
 use Rattle.std.proofs.Common.{rules, subst}
 use Rattle.sqlite.specs.Held.{state}
-use Rattle.tally_requests.specs.internal.Known.{AreKnown, known_of}
+use Rattle.tally_store_commands.specs.internal.Known.{AreKnown, known_of}
 use Rattle.tally_returns.specs.State.{State}
 use Rattle.tally_store.proofs.ContentLemmas.{content_is}
 use Rattle.tally_store.proofs.RequestLemmas.{one_state}

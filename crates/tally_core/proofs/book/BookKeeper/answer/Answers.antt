@@ -1,6 +1,6 @@
 use Rattle.std.proofs.Common.{IfOk, subst}
-use Rattle.tally_steps.specs.Kinds.{IsReplyTo}
-use Rattle.tally_steps.specs.Step.{IsAnswered}
+use Rattle.tally_machine_law.specs.Kinds.{IsReplyTo}
+use Rattle.tally_machine_law.specs.Step.{IsAnswered}
 use Rattle.tally_keeper.specs.Kept.{state_in}
 use Rattle.tally_keeper.specs.Held.{Held}
 use Rattle.tally_keeper.proofs.StoreLemmas.{memory-answered, memory-kind, memory-own}

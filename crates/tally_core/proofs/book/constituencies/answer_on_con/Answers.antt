@@ -3,7 +3,7 @@ use Rattle.std.specs.Option.{option_copied}
 use Rattle.tally_setup.specs.Setup.{constituency_with}
 use Rattle.tally_returns.specs.View.{View}
 use Rattle.tally_returns.proofs.ClosedLemmas.{constituency_with-code}
-use Rattle.tally_steps.proofs.CertificationLemmas.{refused-lawful}
+use Rattle.tally_machine_law.proofs.CertificationLemmas.{refused-lawful}
 use Rattle.tally_keeper.specs.Kept.{view_in}
 use Rattle.tally_keeper.specs.internal.Held.{IsAnsweredOn}
 use Rattle.tally_keeper.proofs.CarryLemmas.{can-carry-out, carried, carried-done, decided-seen, held-view, refused-done, shown-done}

@@ -1,5 +1,5 @@
 use Rattle.std.proofs.Common.{◌∙◌, ap}
-use Rattle.tally_records.specs.Watch.{has_failed}
+use Rattle.tally_import_records.specs.Watch.{has_failed}
 use Rattle.tally_import.proofs.ReturnRowsLemmas.{failed-noted, none-noted}
 use Rattle.tally_import.proofs.return_rows.ReturnRows.into_watch.Goals as goal
 

@@ -2,7 +2,7 @@ use Rattle.std.proofs.Common.{◌≡◌, ◌∙◌, None, Result, Ok, Err, sym, 
 use Rattle.std.specs.Prelude.{IsSome, OnErr, OnOk}
 use Rattle.std.specs.FinMap.{get}
 use Rattle.tally_setup.specs.Setup.{constituency_with}
-use Rattle.tally_steps.specs.Step.{gone_for_good}
+use Rattle.tally_machine_law.specs.Step.{gone_for_good}
 use Rattle.tally_returns.specs.State.{con_state}
 use Rattle.tally_keeper.specs.Kept.{Kept, state_in, with_change}
 use Rattle.tally_keeper.specs.internal.Rows.{IsTallied, returns_of, views_of}

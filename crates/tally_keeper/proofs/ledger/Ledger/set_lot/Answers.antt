@@ -1,7 +1,7 @@
 use Rattle.std.proofs.Common.{◌<◌, ◌+◌, ◌^◌, ◌∙◌, sym, ap, subst}
 use Rattle.std.specs.Prelude.{IsSome}
 use Rattle.tally_setup.specs.Setup.{constituency_with}
-use Rattle.tally_steps.specs.Step.{lot_set}
+use Rattle.tally_machine_law.specs.Step.{lot_set}
 use Rattle.tally_returns.specs.State.{con_state}
 use Rattle.tally_keeper.specs.Kept.{Kept, state_in, with_change}
 use Rattle.tally_keeper.specs.internal.Rows.{IsTallied, returns_of, views_of}

@@ -1,8 +1,8 @@
 use Rattle.std.proofs.Common.{subst}
 use Rattle.sqlite.specs.Held.{state}
 use Rattle.tally_keeper.specs.Keeper.{Happens, request}
-use Rattle.tally_requests.specs.internal.Known.{known_of}
-use Rattle.tally_schema.proofs.StaysLemmas.{clean_first}
+use Rattle.tally_store_commands.specs.internal.Known.{known_of}
+use Rattle.tally_store_schema.proofs.StaysLemmas.{clean_first}
 use Rattle.tally_store.specs.Content.{content_of}
 use Rattle.tally_store.specs.Crash.{LeavesAsBefore}
 use Rattle.tally_store.specs.Store.{KeepsText, Stored}

@@ -3,8 +3,8 @@ use Rattle.sqlite.specs.Held.{state}
 use Rattle.tally_keeper.specs.Delivery.{delivery}
 use Rattle.tally_keeper.specs.Keeper.{Imports}
 use Rattle.tally_keeper.specs.NamedRows.{NamesRows}
-use Rattle.tally_requests.specs.internal.Known.{known_of}
-use Rattle.tally_schema.proofs.StaysLemmas.{clean_first}
+use Rattle.tally_store_commands.specs.internal.Known.{known_of}
+use Rattle.tally_store_schema.proofs.StaysLemmas.{clean_first}
 use Rattle.tally_store.specs.Content.{content_of}
 use Rattle.tally_store.specs.Store.{KeepsText, Stored}
 use Rattle.tally_store.proofs.RequestLemmas.{Took, imports_after, keeps_text_imported, served_import, shows_tables, stored_import}

@@ -1,7 +1,7 @@
 use Rattle.std.proofs.Common.{IfSome, subst}
 use Rattle.sqlite.specs.State.{HasCleanDisk}
 use Rattle.sqlite.specs.Held.{state}
-use Rattle.tally_steps.specs.LawfulState.{IsLawfulState}
+use Rattle.tally_machine_law.specs.LawfulState.{IsLawfulState}
 use Rattle.tally_store.specs.Content.{content_of}
 use Rattle.tally_store.specs.Store.{Stored}
 use Rattle.tally_store.proofs.RequestLemmas.{shows_lawful}

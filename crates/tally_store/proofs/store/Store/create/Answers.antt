@@ -2,8 +2,8 @@ use Rattle.std.proofs.Common.{IsTrue, sym, subst, subst₂}
 use Rattle.sqlite.specs.State.{HasCleanDisk}
 use Rattle.sqlite.specs.Held.{state}
 use Rattle.tally_returns.specs.State.{opening}
-use Rattle.tally_steps.proofs.ReturnStepLemmas.{opening-lawful}
-use Rattle.tally_opening.specs.Office.{HasState}
+use Rattle.tally_machine_law.proofs.ReturnStepLemmas.{opening-lawful}
+use Rattle.tally_store_open.specs.Office.{HasState}
 use Rattle.tally_store.specs.Create.{HasOpeningTables}
 use Rattle.tally_store.proofs.RequestLemmas.{empty-known}
 use Rattle.tally_store.proofs.store.Store.create.Goals as goal

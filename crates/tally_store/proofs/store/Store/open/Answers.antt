@@ -1,9 +1,9 @@
 use Rattle.std.proofs.Common.{sym, subst, subst₂}
 use Rattle.sqlite.specs.State.{HasCleanDisk, KeepsCounts}
 use Rattle.sqlite.specs.Held.{state}
-use Rattle.tally_opening.specs.Crash.{CountsNothing, IsUnwritten}
-use Rattle.tally_opening.specs.Open.{CountsFound, IsOpened}
-use Rattle.tally_requests.specs.internal.Known.{known_of}
+use Rattle.tally_store_open.specs.Crash.{CountsNothing, IsUnwritten}
+use Rattle.tally_store_open.specs.Open.{CountsFound, IsOpened}
+use Rattle.tally_store_commands.specs.internal.Known.{known_of}
 use Rattle.tally_store.specs.Create.{ShowsFound}
 use Rattle.tally_store.proofs.RequestLemmas.{numbers-known}
 use Rattle.tally_store.proofs.store.Store.open.Goals as goal

@@ -1,7 +1,0 @@
-use Rattle.std.proofs.Common.{◌≡◌, Some, take}
-use Rattle.serde_json.specs.View.{items_view}
-use Rattle.tally_asks.specs.Bodies.{all_items, as_whole}
-use Rattle.tally_asks.proofs.fields.wholes.Given as goal
-
-abbrev pub invariant-loop-value : goal.invariant-loop-value
-invariant-loop-value l = all_items as_whole (items_view (take l.value-index l.values)) ≡ Some l.numbers.items

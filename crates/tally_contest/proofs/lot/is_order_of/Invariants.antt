@@ -1,5 +1,0 @@
-use Rattle.tally_contest.proofs.Struck.{AreLeft}
-use Rattle.tally_contest.proofs.lot.is_order_of.Given as goal
-
-abbrev pub invariant-loop-i : goal.invariant-loop-i
-invariant-loop-i l = AreLeft l.group l.lot l.i l.left

@@ -1,5 +1,0 @@
-use Rattle.tally_keeper.proofs.EventLemmas.{happen-second-idle}
-use Rattle.tally_laws.proofs.keepers.no_two_equal_requests_act.Goals as goal
-
-pub returns : goal.returns
-returns c = happen-second-idle

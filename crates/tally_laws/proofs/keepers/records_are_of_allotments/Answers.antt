@@ -1,8 +1,0 @@
-use Rattle.tally_keeper.specs.Events.{answers_of, asks_of}
-use Rattle.tally_keeper.proofs.EventLemmas.{happen-brings}
-use Rattle.tally_keeper.proofs.KeeperLemmas.{happen-run}
-use Rattle.tally_laws.proofs.keepers.records_are_of_allotments.Goals as goal
-
-pub returns : goal.returns
-returns c = λ setup s t events codes ok lawful is.
-    c.records_are_of_allotments.ensures.run setup s t (asks_of events) (answers_of events) (happen-brings setup s t events codes is) ok lawful (happen-run setup s t events is)

@@ -1,9 +1,0 @@
-use Rattle.std.proofs.Common.{[], ◌∷◌, codes}
-use Rattle.tally_line.specs.Line.{wanted_rule}
-use Rattle.tally_line.proofs.AppLemmas.{offered}
-use Rattle.tally_line.proofs.line.new_command.Goals as goal
-
-pub returns : goal.returns
-returns c =
-    let rules = wanted_rule (codes "db") ∷ wanted_rule (codes "setup") ∷ [] in
-    offered _ rules _ _ _ c.in_ok-vec.ensures.items (c.wanted_arg.ensures, (c.wanted_arg-2.ensures, tt)) c.described_command.ensures

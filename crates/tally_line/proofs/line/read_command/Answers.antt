@@ -1,9 +1,0 @@
-use Rattle.clap.specs.Words.{found_of, rows_of}
-use Rattle.tally_line.proofs.CommandLemmas.{serve_arguments}
-use Rattle.tally_line.proofs.line.read_command.Goals as goal
-
-pub read_serve-requires-clause-port : goal.read_serve-requires-clause-port
-read_serve-requires-clause-port c = (serve_arguments c.args.name.now (rows_of (found_of c.args.arguments.now)) c.in-serve.is c.requires).1
-
-pub read_serve-requires-clause-count : goal.read_serve-requires-clause-count
-read_serve-requires-clause-count c = (serve_arguments c.args.name.now (rows_of (found_of c.args.arguments.now)) c.in-serve.is c.requires).2

@@ -1,0 +1,64 @@
+//! How a command ends: its office is closed, and then what it came to is written. Errors are
+//! matched and returned, and not passed on by `?`, since the `?` of an enum that holds a text
+//! (`Trouble`) has no proof yet.
+
+ghost use Rattle.std.specs.Prelude.{◌≡◌, ◌≤◌, [], IfErr, IfOk, OnOk, Err, false, string_bytes};
+ghost use Rattle.std.specs.Prelude.{string_capacity, string_len};
+ghost use Rattle.tally_office_commands.specs.Troubles.{IsTroubleOfEnding};
+ghost use Rattle.tally_office_commands.specs.Written.{IsWritten};
+
+use crate::offices::Offices;
+use crate::trouble::Trouble;
+use std::io::Write;
+use tally_import::write_text;
+
+/// Room for a line, which is reserved before anything is changed.
+pub fn line_room(rt: &HostRuntime, bytes: usize) -> Result<String, Trouble>
+    ensures empty { IfOk result (λ line. string_bytes line ≡ []) }
+    ensures len { IfOk result (λ line. string_len line ≡ 0) }
+    ensures room { IfOk result (λ line. bytes ≤ string_capacity line) }
+    ensures trouble { IfErr result (λ trouble. trouble ≡ Trouble.Memory) }
+{
+    match String::with_capacity(rt.alloc(), bytes) {
+        Ok(text) => Ok(text),
+        Err(_) => Err(Trouble::Memory),
+    }
+}
+
+/// Closes the office of a command, and then writes what it came to, unless that is a trouble.
+pub fn close_and_print<O: Offices, W: Write>(
+    rt: &HostRuntime,
+    offices: &O,
+    db: &str,
+    office: O::Office,
+    outcome: Result<String, Trouble>,
+    output: &mut W,
+) -> Result<(), Trouble>
+    ensures text { IfOk outcome (λ text.
+        IsWritten W.contents (λ t. t ≡ string_bytes text) output.old output.new result) }
+    ensures named { OnOk outcome (IfErr result IsTroubleOfEnding) }
+    ensures trouble { IfErr outcome (λ t. (result ≡ Err t) × (output.new ≡ output.old)) }
+{
+    let is_closed = offices.close_office(rt, db, office);
+    match outcome {
+        Ok(text) => print_if_closed(is_closed, &text, output),
+        Err(trouble) => Err(trouble),
+    }
+}
+
+/// Writes what a command came to, once its office is closed: what it did remains done also where
+/// the output takes nothing.
+fn print_if_closed<W: Write>(is_closed: bool, text: &str, output: &mut W) -> Result<(), Trouble>
+    ensures closed { is_closed ≡ false →
+        (result ≡ Err Trouble.Store) × (output.new ≡ output.old) }
+    ensures written { IsWritten W.contents (λ t. t ≡ text.now) output.old output.new result }
+    ensures named { IfErr result IsTroubleOfEnding }
+{
+    if !is_closed {
+        return Err(Trouble::Store);
+    }
+    match write_text(output, text.as_bytes()) {
+        Ok(()) => Ok(()),
+        Err(_) => Err(Trouble::Write),
+    }
+}

@@ -1,0 +1,103 @@
+-- A command line that is not carried out.
+use Rattle.std.proofs.Common.{◌≡◌, ℕ, List, Option, Some, None, Result, Err, IfErr, refl, sym, subst, inl, inr, codes}
+use Rattle.tally_office_commands.specs.Reported.{IsReported}
+use Rattle.tally_office_commands.specs.Imported.{IsCountText}
+use Rattle.tally_office_commands.specs.Made.{IsMadeText}
+use Rattle.tally_office_commands.specs.Served.{IsServedText}
+use Rattle.tally_office_commands.specs.declared.trouble.Trouble.{Trouble}
+use Rattle.tally_office_commands.specs.declared.trouble.Trouble.TheVariants as trouble
+use Rattle.tally_office_line.specs.Line.{CheckSeen, ImportSeen, IsRefusal, LineSeen, NewSeen, ServeSeen, ShowSeen, line_of}
+use Rattle.tally_office_line.specs.declared.line.LineFault.{LineFault}
+use Rattle.tally_office_line.specs.declared.line.LineFault.TheVariants.{Usage, NoCon, Memory}
+use Rattle.tally_office_line.proofs.CommandLemmas.{lacks_con_alone}
+use Rattle.tally_office_commands.specs.Offices.{AtPath, AtPort, OpeningOutcome, Resource}
+use Rattle.tally_office_commands.specs.Written.{Bytes, IsAnyText, IsWritten}
+use Rattle.tally_office_program.specs.Commands.{IsOutcomeReported, NotListening, TakesCourse, command_status}
+use Rattle.tally_office_program.specs.Perform.{Performs, PerformsLine}
+use Rattle.tally_office_program.specs.internal.Fault.{fault_status}
+use Rattle.tally_office_commands.specs.Troubles.{IsTroubleOfServe}
+use Rattle.tally_office_commands.proofs.WrittenLemmas.{any, counted, made, unwritten}
+use Rattle.tally_office_program.proofs.ServerLemmas.{served}
+
+-- out of memory, whatever the words ask for
+pub without-memory : {R W E : Type 0} (Opens : Resource → OpeningOutcome) (left : Bytes R) (held : Bytes W) (reported : Bytes E) (words : List (List ℕ)) (line : Option LineSeen)
+    (i : R) (o : W) (before after : E) → IsReported (reported before) (reported after) (codes "failed: memory\n")
+    → PerformsLine Opens left held reported words line (record { input = i; output = o; errors = before }) (record { input = i; output = o; errors = after }) 3
+without-memory Opens left held reported words (Some (CheckSeen sep rows)) i o before after so =
+    inr (record { input = refl; output = refl }, record { report = so; gives = refl })
+without-memory Opens left held reported words (Some (NewSeen db setup)) i o before after so = record {
+  outcome = Err trouble.Memory;
+  named = inl (inl (inl refl));
+  written = unwritten held IsMadeText made o trouble.Memory;
+  errors = so;
+  gives = refl;
+  unread = refl;
+}
+without-memory Opens left held reported words (Some (ImportSeen db con csv sep rows)) i o before after so = record {
+  outcome = Err trouble.Memory;
+  named = inr (inl (inl (inl refl)));
+  written = unwritten held (IsCountText rows) (counted rows) o trouble.Memory;
+  errors = so;
+  gives = refl;
+  unread = refl;
+}
+without-memory Opens left held reported words (Some (ShowSeen db name con)) i o before after so = record {
+  outcome = Err trouble.Memory;
+  named = inl (inr (inr (inr (inl refl))));
+  written = unwritten held IsAnyText any o trouble.Memory;
+  errors = so;
+  gives = refl;
+  unread = refl;
+}
+without-memory Opens left held reported words (Some (ServeSeen db port count)) i o before after so = record {
+  outcome = Err trouble.Memory;
+  named = inr (inl (inl refl));
+  written = unwritten held (IsServedText count) (served count) o trouble.Memory;
+  said = before;
+  takes = record { course = NotListening trouble.Memory; is = refl; named = inr (inl refl); says = refl };
+  errors = so;
+  gives = refl;
+  unread = refl;
+}
+without-memory Opens left held reported words None i o before after so = record {
+  untouched = record { input = refl; output = refl };
+  refused = inr (record { report = so; gives = refl });
+  no_con = λ lacks. inr (record { report = so; gives = refl });
+}
+
+-- words for which there is no line, and what is reported of them
+pub refused : {R W E : Type 0} (Opens : Resource → OpeningOutcome) (left : Bytes R) (held : Bytes W) (reported : Bytes E) (words : List (List ℕ)) (fault : LineFault)
+    (i : R) (o : W) (before after : E) (status : ℕ) → IsRefusal words fault → status ≡ fault_status fault
+    → (status ≡ 3 → IsReported (reported before) (reported after) (codes "failed: memory\n"))
+    → (fault ≡ NoCon → IsReported (reported before) (reported after) (codes "missing --con\n"))
+    → Performs Opens left held reported words (record { input = i; output = o; errors = before }) (record { input = i; output = o; errors = after }) status
+refused Opens left held reported words Memory i o before after status is gives memory con =
+    subst (λ (n : ℕ). PerformsLine Opens left held reported words (line_of words) (record { input = i; output = o; errors = before }) (record { input = i; output = o; errors = after }) n)
+    (sym gives) (without-memory Opens left held reported words (line_of words) i o before after (memory gives))
+refused Opens left held reported words NoCon i o before after status is gives memory con =
+    subst (λ (l : Option LineSeen). PerformsLine Opens left held reported words l (record { input = i; output = o; errors = before }) (record { input = i; output = o; errors = after }) status)
+    (sym is.0) (record {
+      untouched = record { input = refl; output = refl };
+      refused = inl gives;
+      no_con = λ lacks. inl (record { report = con refl; gives = gives });
+    })
+refused Opens left held reported words (Usage e) i o before after status is gives memory con =
+    subst (λ (l : Option LineSeen). PerformsLine Opens left held reported words l (record { input = i; output = o; errors = before }) (record { input = i; output = o; errors = after }) status)
+    (sym is.0) (record {
+      untouched = record { input = refl; output = refl };
+      refused = inl gives;
+      no_con = λ lacks. elim (lacks_con_alone words (Usage e) lacks is) [
+        | inl other ↦ cc
+        | inr other ↦ cc
+      ];
+    })
+
+-- words that ask for a server, and what it said, wrote and reported
+pub serves : {R W E : Type 0} (Opens : Resource → OpeningOutcome) (left : Bytes R) (held : Bytes W) (reported : Bytes E) (words : List (List ℕ)) (db : List ℕ) (port count : ℕ)
+    (i : R) (o written : W) (before said after : E) (outcome : Result (Unit {0}) Trouble) (status : ℕ) → line_of words ≡ Some (ServeSeen db port count)
+    → IfErr outcome IsTroubleOfServe → IsWritten held (IsServedText count) o written outcome → TakesCourse (Opens (AtPath db)) (Opens (AtPort port)) reported port count before said outcome
+    → IsOutcomeReported reported said after outcome → status ≡ command_status outcome
+    → Performs Opens left held reported words (record { input = i; output = o; errors = before }) (record { input = i; output = written; errors = after }) status
+serves Opens left held reported words db port count i o written before said after outcome status is named writes takes reports gives =
+    subst (λ (l : Option LineSeen). PerformsLine Opens left held reported words l (record { input = i; output = o; errors = before }) (record { input = i; output = written; errors = after }) status)
+    (sym is) (record { outcome = outcome; named = named; written = writes; said = said; takes = takes; errors = reports; gives = gives; unread = refl })

@@ -1,6 +1,0 @@
-use Rattle.std.proofs.Common.{All, take}
-use Rattle.tally_opening.specs.internal.Found.{IsLawfulFound}
-use Rattle.tally_opening.proofs.cons.are_each_lawful.Given as goal
-
-abbrev pub invariant-loop-con : goal.invariant-loop-con
-invariant-loop-con l = All (IsLawfulFound l.ledger) (take l.con-index l.found)

@@ -1,8 +1,0 @@
-use Rattle.std.proofs.Common.{sym, ◌∙◌}
-use Rattle.tally_schema.specs.Rows.{text_cmp}
-use Rattle.tally_opening.specs.internal.Entries.{key_of}
-use Rattle.tally_opening.proofs.RiseLemmas.{rises_end}
-use Rattle.tally_opening.proofs.returns.stations_rise.Goals as goal
-
-pub returns : goal.returns
-returns c = sym (rises_end text_cmp key_of c.args.entries.now c.loop-i.i c.loop-i-test.false) ∙ c.loop-i.invariant

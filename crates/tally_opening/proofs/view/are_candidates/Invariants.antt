@@ -1,6 +1,0 @@
-use Rattle.std.proofs.Common.{All, take}
-use Rattle.tally_steps.specs.Outcome.{IsLawfulGone}
-use Rattle.tally_opening.proofs.view.are_candidates.Given as goal
-
-abbrev pub invariant-loop-candidate : goal.invariant-loop-candidate
-invariant-loop-candidate l = All (IsLawfulGone l.con) (take l.candidate-index l.gone)

@@ -1,6 +1,0 @@
-use Rattle.std.proofs.Common.{All, take}
-use Rattle.tally_steps.specs.Outcome.{IsLawfulPast}
-use Rattle.tally_opening.proofs.view.are_earlier.Given as goal
-
-abbrev pub invariant-loop-certificate : goal.invariant-loop-certificate
-invariant-loop-certificate l = All (IsLawfulPast l.con l.edition) (take l.certificate-index l.past)

@@ -1,6 +1,0 @@
-use Rattle.std.proofs.Common.{◌∙◌}
-use Rattle.tally_opening.proofs.SeenLemmas.{kept_is}
-use Rattle.tally_opening.proofs.view.is_kept_note.Goals as goal
-
-pub returns : goal.returns
-returns c = c.good_note.ensures ∙ kept_is c.args.note.now c.utf8.note

@@ -1,7 +1,0 @@
-use Rattle.std.proofs.Common.{take}
-use Rattle.std.specs.List.{AllZip}
-use Rattle.tally_returns.specs.View.{FitsView}
-use Rattle.tally_report_tests.proofs.views.views_of.Given as goal
-
-abbrev pub invariant-loop-con : goal.invariant-loop-con
-invariant-loop-con l = AllZip FitsView (take l.con-index l.cons) l.views.items

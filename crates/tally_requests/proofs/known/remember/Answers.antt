@@ -1,5 +1,0 @@
-use Rattle.tally_keeper.proofs.TreeLemmas.{tree-insert}
-use Rattle.tally_requests.proofs.known.remember.Goals as goal
-
-pub returns : goal.returns
-returns c = tree-insert c.args.known.now c.insert.new.self c.args.con c.args.statuses c.in_ok-insert.ensures.updates

@@ -1,7 +1,0 @@
-use Rattle.std.proofs.Common.{◌≡◌, ◌+◌, drop}
-use Rattle.tally_tables.specs.Reading.{all_gone_of, gone_in_row}
-use Rattle.tally_tables.proofs.ReadAllLemmas.{Reading}
-use Rattle.tally_tables.proofs.constituencies.all_gone_in.Given as goal
-
-abbrev pub invariant-loop-row : goal.invariant-loop-row
-invariant-loop-row l = Reading (λ place row. gone_in_row l.con row) l.all.items (l.row-index + 1) (drop l.row-index l.rows) ≡ all_gone_of l.con l.rows

@@ -1,7 +1,0 @@
-use Rattle.std.proofs.Common.{arith}
-use Rattle.std.proofs.lemmas.List.Sums.{prefix_len-le-length}
-use Rattle.tally_tables.specs.Reading.{has_text}
-use Rattle.tally_tables.proofs.parts.split_rows.Goals as goal
-
-pub split_at-requires : goal.split_at-requires
-split_at-requires c = omega (arith, c.key_len.ensures, prefix_len-le-length (λ row. has_text row 0 c.args.key.now) c.args.rows.now)

@@ -1,7 +1,0 @@
-use Rattle.std.proofs.Common.{◌≡◌, drop}
-use Rattle.tally_tables.specs.Reading.{entries_in}
-use Rattle.tally_tables.proofs.EntryLemmas.{Reading}
-use Rattle.tally_tables.proofs.returns.entries_in.Given as goal
-
-abbrev pub invariant-loop-row : goal.invariant-loop-row
-invariant-loop-row l = Reading l.setup l.entries.items (drop l.row-index l.rows) l.left ≡ entries_in l.setup l.rows l.counts
