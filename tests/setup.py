@@ -63,6 +63,15 @@ profile = "d0" => profile = "d0" / entry = "double" => read
 profile = "d0" => profile = "d0" / entry = "twice" => bad_value entry / at constituency 1 c1
 profile = "d0" => profile = "d0" / entry = "Double" => bad_value entry / at constituency 1 c1
 profile = "d0" => profile = "d0" / entry = 2 => bad_value entry / at constituency 1 c1
+profile = "d0" => profile = "d0" / size = "normal" => read
+profile = "d0" => profile = "d0" / size = "large" => read
+profile = "d0" => profile = "d0" / size = "huge" => bad_value size / at constituency 1 c1
+profile = "d0" => profile = "d0" / size = "Large" => bad_value size / at constituency 1 c1
+profile = "d0" => profile = "d0" / size = 1 => bad_value size / at constituency 1 c1
+profile = "d0" => profile = "d0" / entry = "twice" / size = "huge" => bad_value entry / at constituency 1 c1
+profile = "d0" => profile = "d0" / x_board = "y" => read
+base = "valid" => base = "valid" / x_board = "y" => read
+code = "A" => code = "A" / x_board = "y" => read
 code = "A" =>  => missing code / at constituency 1 c1, list 1
 code = "A" => code = "B" => duplicate B / at constituency 1 c1, list 2; first at constituency 1 c1, list 1 B
 name = "Alpha" =>  => missing name / at constituency 1 c1, list 1 A
@@ -77,6 +86,17 @@ electors = 300 =>  => missing electors / at constituency 1 c1, station 1 s1
 electors = 300 => electors = 0 => bad_value electors / at constituency 1 c1, station 1 s1
 electors = 300 => electors = 1000000 => read
 electors = 300 => electors = 1000001 => bad_value electors / at constituency 1 c1, station 1 s1
+electors = 300 => electors = 300 / agents = 0 => read
+electors = 300 => electors = 300 / agents = 1000 => read
+electors = 300 => electors = 300 / agents = 1001 => bad_value agents / at constituency 1 c1, station 1 s1
+electors = 300 => electors = 300 / agents = -1 => bad_value agents / at constituency 1 c1, station 1 s1
+electors = 300 => electors = 300 / agents = 2.0 => bad_value agents / at constituency 1 c1, station 1 s1
+electors = 300 => electors = 999999 / agents = 1 => read
+electors = 300 => electors = 999999 / agents = 2 => bad_value agents / at constituency 1 c1, station 1 s1
+electors = 300 => electors = 1000000 / agents = 0 => read
+electors = 300 => electors = 1000000 / agents = 1 => bad_value agents / at constituency 1 c1, station 1 s1
+electors = 300 => electors = 0 / agents = -1 => bad_value electors / at constituency 1 c1, station 1 s1
+electors = 300 => electors = 300 / x_board = "y" => read
 [[profile]] => [[ => not_toml / at line 1, column 3
 """
 
@@ -137,6 +157,8 @@ constituency = [{code = "c", name = "C", seats = 1, profile = "zz", list = 1}] =
 constituency = [{code = "c", name = "C", seats = 1, profile = "zz", entry = 2}] => unknown_profile / at constituency 1 c
 constituency = [{code = "c", name = "C", seats = 1, profile = "p", entry = [], list = 1}] => bad_value entry / at constituency 1 c
 constituency = [{code = "c", name = "C", seats = 1, profile = "p", entry = "double", list = 1}] => bad_value list / at constituency 1 c
+constituency = [{code = "c", name = "C", seats = 1, profile = "p", size = "huge", list = 1}] => bad_value size / at constituency 1 c
+constituency = [{code = "c", name = "C", seats = 1, profile = "p", size = "large", list = 1}] => bad_value list / at constituency 1 c
 constituency = [{code = "c", name = "C", seats = 1, profile = "p", station = 1}] => missing list / at constituency 1 c
 constituency = [{code = "c", name = "C", seats = 1, profile = "p", list = [{code = "A", name = "A", candidates = ["A"]}]}] => missing station / at constituency 1 c
 constituency = [{code = "c", name = "C", seats = 1, profile = "p", list = [{code = "A", name = "A", candidates = ["A"]}, {code = "A"}], station = 1}] => duplicate A / at constituency 1 c, list 2; first at constituency 1 c, list 1 A
@@ -210,6 +232,39 @@ def test_arrays_of_tables_end_at_their_limits():
     cons = "".join(
         (CONSTITUENCY + LISTS + STATION).replace('"c1"', f'"c{number}"').replace('"s1"', f'"s{number}"') for number in range(200))
     same(answer(PROFILE + cons), "read 200")
+
+
+def stations(*counts):
+    """The array of stations that rows of a count, electors and agents describe."""
+    rows = [(electors, agents) for count, electors, agents in counts for _ in range(count)]
+    return "station = [" + ",".join(
+        f'{{code="s{number}",electors={electors}{f",agents={agents}" if agents else ""}}}'
+        for number, (electors, agents) in enumerate(rows, 1)) + "]\n"
+
+
+def test_a_large_constituency_has_20000_stations_at_most():
+    last = "at constituency 1 c1"
+    lists = 'list = [{code = "A", name = "Alpha", candidates = ["Ana"]}]\n'
+    for size, of_stations, word in (
+        ("", stations((5001, 1, 0)), f"over_limit station / {last}"),
+        ('size = "normal"\n', stations((5001, 1, 0)), f"over_limit station / {last}"),
+        ('size = "large"\n', stations((5001, 1, 0)), "read"),
+        ('size = "large"\n', stations((20000, 1, 0)), "read"),
+        ('size = "large"\n', stations((20001, 1, 0)), f"over_limit station / {last}"),
+        ("", stations((5000, 1000000, 0)), "read"),
+        ('size = "large"\n', stations((5000, 1000000, 0)), "read"),
+        ('size = "large"\n', stations((5001, 1000000, 0)), f"over_limit electors / {last}"),
+        ('size = "large"\n', stations((5000, 999999, 0), (1, 5000, 0)), "read"),
+        ('size = "large"\n', stations((5000, 999999, 0), (1, 5001, 0)), f"over_limit electors / {last}"),
+        ('size = "large"\n', stations((5000, 999999, 0), (1, 4000, 1000)), "read"),
+        ('size = "large"\n', stations((5000, 999999, 0), (1, 4001, 1000)), f"over_limit electors / {last}"),
+    ):
+        text = PROFILE + CONSTITUENCY + size + lists + of_stations
+        comes_to(word, text, (size, len(of_stations)))
+    # A fault of a station comes first, then that of their sum, and then the next constituency.
+    text = PROFILE + CONSTITUENCY + 'size = "large"\n' + lists
+    comes_to(f"bad_value electors / {last}, station 5002 s5002", text + stations((5001, 1000000, 0), (1, 0, 0)), "a station")
+    comes_to(f"over_limit electors / {last}", text + stations((5001, 1000000, 0)) + "[[constituency]]\n", "two")
 
 
 def test_a_list_has_1000_candidates_at_most():

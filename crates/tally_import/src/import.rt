@@ -156,7 +156,7 @@ impl Import {
     {
         let found = self.returns.get(&station);
         // A file says of no station how many electors it has.
-        let answer = decide_lodge(self.lists, MOST_ELECTORS, found, slip, &counts);
+        let answer = decide_lodge(self.lists, MOST_ELECTORS as u64, found, slip, &counts);
         let Ok(LodgeReply::Lodged { .. }) = answer else {
             return Ok(answer);
         };

@@ -19,7 +19,7 @@ use Rattle.tally_keeper.specs.Kept.{AreEarlier, Kept, seats_after, state_in, vie
 use Rattle.tally_keeper.specs.internal.Rows.{IsTallied, Views, con_of, cons_of, gone_by_places, past_by_edition, progress_row_of, seats_of, with_gone, with_reopening, with_view}
 use Rattle.tally_keeper.proofs.GoneLemmas.{gone-stays, gone_of-insert, key_of}
 use Rattle.tally_keeper.proofs.PastLemmas.{AreBefore, past-stays, past_of-insert}
-use Rattle.tally_keeper.proofs.SetupLemmas.{Has, con-found, con-only}
+use Rattle.tally_setup.proofs.NamedLemmas.{Has, con-found, con-only}
 use Rattle.tally_keeper.proofs.TreeLemmas.{cons_of-changed, get-cons_of, get-seats_of, get-with_view, same_code, seats_of-changed, seats_of-kept}
 
 -- what is kept, of what is held

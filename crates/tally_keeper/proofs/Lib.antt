@@ -3,7 +3,6 @@ pub mod GoneLemmas
 pub mod OpeningLemmas
 pub mod MapLemmas
 pub mod PastLemmas
-pub mod SetupLemmas
 pub mod SumLemmas
 pub mod TallyLemmas
 pub mod TreeLemmas

@@ -21,7 +21,7 @@ use Rattle.tally_keeper.specs.Kept.{opening_kept}
 use Rattle.tally_keeper.specs.internal.Rows.{IsTallied, con_of, cons_of, opening_view, opening_views, seats_of}
 use Rattle.tally_keeper.proofs.ChangeLemmas.{kept}
 use Rattle.tally_keeper.proofs.GoneLemmas.{entries-empty}
-use Rattle.tally_keeper.proofs.SetupLemmas.{Apart, Differ, bytes_flipped, differ-from}
+use Rattle.tally_setup.proofs.NamedLemmas.{Apart, Differ, bytes_flipped, differ-from}
 use Rattle.tally_keeper.proofs.SumLemmas.{mapped-is, one_if, stations_in-total, total}
 use Rattle.tally_keeper.proofs.TreeLemmas.{get-cons_of, get-seats_of, same_maps}
 

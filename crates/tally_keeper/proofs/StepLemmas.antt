@@ -251,13 +251,13 @@ first-lawful stations m station slip counts rev code is = go (stations station) 
     at limits (Some e) found none ok = cc
     at limits None (Some standing) none ok = absurd (again (is_return_of slip counts standing) standing.rev (Differs standing.rev) ok)
     at limits None None none ok =
-        let votes = check (nat_le (all_votes counts) limits.electors) TooManyVotes ∷ [] in record {
+        let votes = check (nat_le (all_votes counts) limits.entitled) TooManyVotes ∷ [] in record {
           first = omega arith;
           last = omega arith;
           slip = code;
           note = refl;
           counts = passed-first (are_counts limits.lists counts) BadCounts votes none;
-          votes = leb-true (all_votes counts) limits.electors (passed-first (nat_le (all_votes counts) limits.electors) TooManyVotes [] (passed-rest (are_counts limits.lists counts) BadCounts votes none));
+          votes = leb-true (all_votes counts) limits.entitled (passed-first (nat_le (all_votes counts) limits.entitled) TooManyVotes [] (passed-rest (are_counts limits.lists counts) BadCounts votes none));
         }
 
     go : (known : Option StationLimits) → stations station ≡ known → reply_at_code known (fin.get m station) slip counts ≡ Ok (reply.Lodged rev)

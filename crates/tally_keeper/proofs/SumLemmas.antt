@@ -8,7 +8,7 @@ use Rattle.std.specs.Str.{bytes_eq}
 use Rattle.std.proofs.lemmas.List.{ext_get_or}
 use Rattle.std.proofs.lemmas.List.FromFn.{get_or-map-range_with_len, length-map-range_with_len}
 use Rattle.std.proofs.lemmas.List.Sums.{count_by-le-length, sum_by-append, sum_by-cons}
-use Rattle.tally_setup.specs.Constituency.{Constituency}
+use Rattle.tally_setup.specs.Constituency.{Constituency, entitled}
 use Rattle.tally_setup.specs.declared.constituency.Station.{Station}
 use Rattle.tally_returns.specs.Counts.{VoteCounts}
 use Rattle.tally_returns.specs.Progress.{is_received, is_queried, is_corrected, is_closed, count_with_status}
@@ -18,7 +18,7 @@ use Rattle.tally_returns.specs.View.{View, view_with, counts_if_closed, closed_c
 use Rattle.tally_returns.specs.declared.returns.Status.{Status}
 use Rattle.tally_keeper.specs.MovedSum.{moved_sum, CanMove}
 use Rattle.tally_keeper.specs.internal.Sums.{CanMoveOne, CanMoveCounts, CanCount, moved_count, with_status, with_counts, with_return_counted}
-use Rattle.tally_keeper.proofs.SetupLemmas.{Has, Apart, Differ, apart-has, bytes_flipped, code_of_station}
+use Rattle.tally_setup.proofs.NamedLemmas.{Has, Apart, Differ, apart-has, bytes_flipped, code_of_station}
 
 -- a list that has at each place what a function gives
 pub mapped-is : (xs : List ℕ) (f : ℕ → ℕ) (n : ℕ) → length xs ≡ n → ((k : ℕ) → k < n → slice_index xs k ≡ f k) → xs ≡ map f (range_with_len 0 n)
@@ -92,13 +92,13 @@ total-put g zero without with_it code standing (x ∷ stations) station put diff
     let rest = total-put g zero without with_it code standing stations station put differ.1 has is in
     omega (arith, here, rest)
 
-pub total-le : (g : Option StationReturn → ℕ) (returns : Returns) (stations : List Station) → ((station : Station) → Has station stations → g (get returns station.code) ≤ 1000000)
-    → total g returns stations ≤ length stations * 1000000
+pub total-le : (g : Option StationReturn → ℕ) (returns : Returns) (stations : List Station) → ((station : Station) → Has station stations → g (get returns station.code) ≤ entitled station)
+    → total g returns stations ≤ sum_by entitled stations
 total-le g returns [] each = omega arith
 total-le g returns (x ∷ stations) each =
     let here = each x (inl refl) in
     let rest = total-le g returns stations (λ station has. each station (inr has)) in
-    omega (arith, here, rest)
+    omega (arith, here, rest, sum_by-cons entitled x stations)
 
 -- ---- what is seen of a constituency whose returns differ in one
 
@@ -230,12 +230,12 @@ view-same con c old new seats same = λ i. record (view_with con c old seats) {
 
 -- ---- the numbers can be moved
 
--- each closed return's number is at most that of the votes that one station can have
+-- each closed return's number is at most that of those who may vote at its station
 abbrev pub AreFew : List Station → Returns → (VoteCounts → ℕ) → Type 0
-AreFew stations returns f = (station : Station) → Has station stations → if_closed f (get returns station.code) ≤ 1000000
+AreFew stations returns f = (station : Station) → Has station stations → if_closed f (get returns station.code) ≤ entitled station
 
 can-one : (is_status : Status → Bool) (stations : List Station) (old new : Returns) (standing : StationReturn) (add : Bool) → IsMoved stations old new standing add
-    → length stations ≤ 5000 → CanMoveOne (is_status standing.status) (count_with_status is_status old stations) add
+    → length stations ≤ 20000 → CanMoveOne (is_status standing.status) (count_with_status is_status old stations) add
 can-one is_status stations old new standing add moves few = record {
   few = most old;
   can = λ is.
@@ -243,26 +243,26 @@ can-one is_status stations old new standing add moves few = record {
       subst (λ n. CanMove n 1 add) (sym (stations_in-total is_status old stations)) (subst (λ b. CanMove (total (one_if is_status) old stations) (cond b 1 0) add) is here);
 }
   where
-    most : (returns : Returns) → count_with_status is_status returns stations ≤ 5000
+    most : (returns : Returns) → count_with_status is_status returns stations ≤ 20000
     most returns =
         let all : count_with_status is_status returns stations ≤ length stations = count_by-le-length (λ (station : Station). option_map_or (λ (standing : StationReturn). is_status standing.status) (get returns station.code) false) stations in
         omega (arith, all, few)
 
-    at_most : {n : ℕ} → n ≤ 5000 → n ≤ 5000000000
+    at_most : {n : ℕ} → n ≤ 20000 → n ≤ 5000000000
     at_most h = omega (arith, h)
 
 can-sum : (f : VoteCounts → ℕ) (stations : List Station) (old new : Returns) (standing : StationReturn) (add : Bool) → IsMoved stations old new standing add
-    → length stations ≤ 5000 → AreFew stations new f → is_closed standing.status ≡ true → CanMove (sum_by f (closed_counts old stations)) (f standing.counts) add
+    → sum_by entitled stations ≤ 5000000000 → AreFew stations new f → is_closed standing.status ≡ true → CanMove (sum_by f (closed_counts old stations)) (f standing.counts) add
 can-sum f stations old new standing add moves few within closed =
     let most : total (if_closed f) new stations ≤ 5000000000 = let all = total-le (if_closed f) new stations within in omega (arith, all, few) in
     let here = moves.can (if_closed f) refl most in
     subst (λ n. CanMove n (f standing.counts) add) (sym (closed-total f old stations)) (subst (λ by. CanMove (total (if_closed f) old stations) by add) (closed-term f standing closed) here)
 
 pub can-count : (con : Constituency) (c : ConState) (old new : Returns) (seats : List ℕ) (standing : StationReturn) (add : Bool) → IsMoved con.stations old new standing add
-    → length con.stations ≤ 5000 → length standing.counts.votes ≡ length con.lists
+    → length con.stations ≤ 20000 → sum_by entitled con.stations ≤ 5000000000 → length standing.counts.votes ≡ length con.lists
     → ((place : ℕ) → place < length con.lists → AreFew con.stations new (at_place place)) → AreFew con.stations new (λ (n : VoteCounts). n.blank) → AreFew con.stations new (λ (n : VoteCounts). n.spoiled)
     → CanCount (view_with con c old seats) standing add
-can-count con c old new seats standing add moves few lists votes blank spoiled = record {
+can-count con c old new seats standing add moves few all lists votes blank spoiled = record {
   status = record {
     received = can-one is_received con.stations old new standing add moves few;
     queried = can-one is_queried con.stations old new standing add moves few;
@@ -274,9 +274,9 @@ can-count con c old new seats standing add moves few lists votes blank spoiled =
     votes = λ place within.
         let less : place < length con.lists = omega (arith, within, long) in
         subst (λ n. CanMove n (slice_index standing.counts.votes place) add) (sym (get_or-map-range_with_len (votes_at (closed_counts old con.stations)) 0 (length con.lists) place place 0 less (omega arith)))
-        (can-sum (at_place place) con.stations old new standing add moves few (votes place less) closed);
-    blank = can-sum (λ (n : VoteCounts). n.blank) con.stations old new standing add moves few blank closed;
-    spoiled = can-sum (λ (n : VoteCounts). n.spoiled) con.stations old new standing add moves few spoiled closed;
+        (can-sum (at_place place) con.stations old new standing add moves all (votes place less) closed);
+    blank = can-sum (λ (n : VoteCounts). n.blank) con.stations old new standing add moves all blank closed;
+    spoiled = can-sum (λ (n : VoteCounts). n.spoiled) con.stations old new standing add moves all spoiled closed;
   };
 }
   where

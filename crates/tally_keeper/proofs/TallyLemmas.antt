@@ -8,8 +8,8 @@ use Rattle.std.specs.Ordering.{eq_by_cmp}
 use Rattle.std.specs.Str.{bytes_eq}
 use Rattle.std.proofs.lemmas.List.Sums.{get_or-le-sum_by}
 use Rattle.tally_setup.specs.Code.{code_cmp}
-use Rattle.tally_setup.specs.Constituency.{Constituency}
-use Rattle.tally_setup.specs.Limits.{IsSetup, IsStation}
+use Rattle.tally_setup.specs.Constituency.{Constituency, entitled}
+use Rattle.tally_setup.specs.Limits.{IsSetup}
 use Rattle.tally_setup.specs.Setup.{constituency_with, station_with}
 use Rattle.tally_setup.specs.declared.constituency.Station.{Station}
 use Rattle.tally_returns.specs.Counts.{VoteCounts, all_votes}
@@ -23,7 +23,7 @@ use Rattle.tally_returns.specs.View.{View, view_with}
 use Rattle.tally_returns.proofs.CountsLemmas.{length-counts}
 use Rattle.tally_keeper.specs.internal.Rows.{AreLawfulReturns, IsTallied, Views, con_of, cons_of, seats_of, with_view, without_former}
 use Rattle.tally_keeper.specs.internal.Sums.{CanCount, with_counts, with_return_counted, with_status}
-use Rattle.tally_keeper.proofs.SetupLemmas.{Apart, Has, all-has, code_of_station, con-found, con-limits, con-only, has_or_apart, not_apart, station-found, station-only, stations-differ}
+use Rattle.tally_setup.proofs.NamedLemmas.{Apart, Has, code_of_station, con-found, con-limits, con-only, has_or_apart, not_apart, station-found, station-only, stations-differ}
 use Rattle.tally_keeper.proofs.SumLemmas.{AreFew, IsMoved, IsPut, at_place, can-count, if_closed, is_moved-put, is_moved-taken, total, total-apart, view-moved, view-same}
 use Rattle.tally_keeper.proofs.TreeLemmas.{cons_of-kept, get-with_view, same_code, same_maps, seats_of-kept, tied_itself}
 
@@ -105,26 +105,26 @@ pub limits-at : (setup : List Constituency) (code : List ℕ) (con : Constituenc
 limits-at setup code con station is = ap (option_map (λ (place : Constituency × Station). limits_of place.0 place.1)) is
 
 -- a lawful return has few votes of each kind
-lawful-few : (con : Constituency) (station : Station) (f : VoteCounts → ℕ) (found : Option StationReturn) → station.electors ≤ 1000000
+lawful-few : (con : Constituency) (station : Station) (f : VoteCounts → ℕ) (found : Option StationReturn)
     → ((counts : VoteCounts) → length counts.votes ≡ length con.lists → f counts ≤ all_votes counts)
-    → ForSome found (IsLawful (limits_of con station)) → if_closed f found ≤ 1000000
-lawful-few con station f None electors within lawful = omega arith
-lawful-few con station f (Some standing) electors within lawful = by_closed (is_closed standing.status)
+    → ForSome found (IsLawful (limits_of con station)) → if_closed f found ≤ entitled station
+lawful-few con station f None within lawful = omega arith
+lawful-few con station f (Some standing) within lawful = by_closed (is_closed standing.status)
   where
     is : IsLawful (limits_of con station) standing
     is = lawful standing refl
 
-    by_closed : (b : Bool) → sum_by f (cond b (standing.counts ∷ []) []) ≤ 1000000
+    by_closed : (b : Bool) → sum_by f (cond b (standing.counts ∷ []) []) ≤ entitled station
     by_closed true =
         let votes : f standing.counts ≤ all_votes standing.counts = within standing.counts (length-counts (length con.lists) standing.counts is.counts) in
-        let all : all_votes standing.counts ≤ station.electors = is.votes in
-        omega (arith, votes, all, electors)
+        let all : all_votes standing.counts ≤ entitled station = is.votes in
+        omega (arith, votes, all)
     by_closed false = omega arith
 
 pub are-few : (setup : List Constituency) (con : Constituency) (m : Returns) (f : VoteCounts → ℕ) → IsSetup setup → Has con setup → AreLawfulReturns setup m
     → ((counts : VoteCounts) → length counts.votes ≡ length con.lists → f counts ≤ all_votes counts) → AreFew con.stations m f
 are-few setup con m f limits has lawful within = λ station stands.
-    lawful-few con station f (get m station.code) (all-has IsStation station con.stations (con-limits setup con limits has).each_station stands).electors within
+    lawful-few con station f (get m station.code) within
     (λ standing there.
     let found = lawful station.code standing there in
     let known : stations_of setup station.code ≡ Some (limits_of con station) = limits-at setup station.code con station (station-only setup con station limits has stands) in
@@ -161,7 +161,7 @@ can-moved setup con old new views standing add limits has tallied lawful moves l
     let same : seen.0 ≡ con = cc in
     let is : view ≡ view_with con (con_of view) old view.seats = subst (λ (c : Constituency). view ≡ view_with c (con_of view) old view.seats) same seen.2 in
     subst (λ (v : View). CanCount v standing add) (sym is)
-    (can-count con (con_of view) old new view.seats standing add moves (con-limits setup con limits has).stations lists
+    (can-count con (con_of view) old new view.seats standing add moves (con-limits setup con limits has).stations (con-limits setup con limits has).entitled lists
     (λ place less. are-few setup con new (at_place place) limits has lawful (place-within con place less))
     (are-few setup con new (λ (n : VoteCounts). n.blank) limits has lawful (λ counts _. omega arith))
     (are-few setup con new (λ (n : VoteCounts). n.spoiled) limits has lawful (λ counts _. omega arith)))

@@ -82,7 +82,7 @@ lodge-own None found slip counts = tt
 lodge-own (Some limits) found slip counts = go (first_refusal (counts_checks limits counts)) found (first-own (counts_checks limits counts) checks)
   where
     checks : AreOwnChecks (counts_checks limits counts)
-    checks = (check-own (are_counts limits.lists counts) BadCounts tt, (check-own (nat_le (all_votes counts) limits.electors) TooManyVotes tt, tt))
+    checks = (check-own (are_counts limits.lists counts) BadCounts tt, (check-own (nat_le (all_votes counts) limits.entitled) TooManyVotes tt, tt))
 
     again : (standing : StationReturn) (same : Bool) → IsOwn (if same then Ok (lodge.Same standing.rev) else Err (Differs standing.rev))
     again standing true = tt
@@ -124,7 +124,7 @@ counts-own (Some limits) counts = (
   check-own true NoStation tt,
   (
     check-own (are_counts limits.lists counts) BadCounts tt,
-    (check-own (nat_le (all_votes counts) limits.electors) TooManyVotes tt, tt),
+    (check-own (nat_le (all_votes counts) limits.entitled) TooManyVotes tt, tt),
   ),
 )
 

@@ -1,22 +1,23 @@
 -- What is seen of a constituency in a lawful state is a lawful view.
-use Rattle.std.proofs.Common.{◌≡◌, ◌≤◌, ◌∙◌, ◌+◌, ◌*◌, ◌∷◌, ℕ, zero, suc, List, [], Bool, true, false, cond, map, length, get_or, Option, Some, None, refl, sym, ap, subst, arith}
+use Rattle.std.proofs.Common.{◌≡◌, ◌≤◌, ◌∙◌, ◌+◌, ◌*◌, ◌∷◌, ℕ, zero, suc, List, [], Bool, true, false, cond, map, length, get_or, Option, Some, None, inl, inr, refl, sym, ap, subst, arith}
 use Rattle.std.specs.Prelude.{All, sum, sum_by, option_map, slice_index}
 use Rattle.std.specs.FinMap.{get}
 use Rattle.std.specs.List.{find, range_with_len}
 use Rattle.std.specs.Option.{ForSome}
 use Rattle.std.specs.Str.{bytes_eq}
-use Rattle.std.proofs.lemmas.List.Elements.{All-head, All-tail, All-append, All-map}
+use Rattle.std.proofs.lemmas.List.Elements.{All-head, All-tail}
 use Rattle.std.proofs.lemmas.List.FromFn.{length-map-range_with_len, sum_by-map-range_with_len_more}
 use Rattle.std.proofs.lemmas.List.Sums.{count_by-le-length, sum_by-append, sum_by-cons}
 use Rattle.std.proofs.lemmas.Slice.Eq.{bytes_eq-Decides}
-use Rattle.tally_setup.specs.Constituency.{Constituency}
+use Rattle.tally_setup.specs.Constituency.{Constituency, entitled}
 use Rattle.tally_setup.specs.Limits.{IsConstituency, IsSetup}
-use Rattle.tally_setup.specs.Setup.{all_stations, constituency_with, station_with}
+use Rattle.tally_setup.specs.Setup.{constituency_with}
 use Rattle.tally_setup.specs.Threshold.{IsWithinVotes}
 use Rattle.tally_setup.specs.declared.constituency.Station.{Station}
 use Rattle.tally_machine_law.specs.Step.{IsView}
 use Rattle.tally_returns.specs.Counts.{VoteCounts, all_votes}
 use Rattle.tally_machine_law.specs.LawfulState.{IsLawfulState}
+use Rattle.tally_returns.specs.Lawful.{IsLawful}
 use Rattle.tally_returns.specs.Lodge.{StationLimits}
 use Rattle.tally_machine_law.specs.Outcome.{HasSeats, IsLawfulView, poll_in, rule_in}
 use Rattle.tally_returns.specs.Progress.{is_closed}
@@ -24,6 +25,7 @@ use Rattle.tally_returns.specs.Return.{StationReturn, Returns}
 use Rattle.tally_returns.specs.Decide.{limits_of}
 use Rattle.tally_returns.specs.State.{State, stations_of}
 use Rattle.tally_returns.specs.View.{View, blank_of, closed_counts, counts_if_closed, view_of, votes_at}
+use Rattle.tally_setup.proofs.NamedLemmas.{Has, con-found, station-only}
 use Rattle.tally_machine_law.proofs.VacancyLemmas.{allotted-long}
 
 -- ---- what was found
@@ -55,29 +57,6 @@ constituency-code setup code con is = (bytes_eq-Decides code con.code).0 (found-
 -- and keeps the limits of a setup
 pub constituency-limits : (setup : List Constituency) (code : List ℕ) (con : Constituency) → IsSetup setup → constituency_with code setup ≡ Some con → IsConstituency con
 constituency-limits setup code con ok is = found-has IsConstituency (λ (c : Constituency). bytes_eq code c.code) setup con ok.each_constituency is
-
--- ---- the electors of a station
-
-abbrev HasFewElectors : Constituency × Station → Type 0
-HasFewElectors place = place.1.electors ≤ 1000000
-
-few_electors-all : (cons : List Constituency) → All IsConstituency cons → All HasFewElectors (all_stations cons)
-few_electors-all [] each = λ k d lt. absurd (omega (arith, lt))
-few_electors-all (con ∷ cons) each =
-    All-append HasFewElectors (map (λ (station : Station). (con, station)) con.stations) (all_stations cons)
-    (All-map HasFewElectors (λ (station : Station). (con, station)) con.stations (λ k d lt. ((All-head IsConstituency con cons each).each_station k d lt).electors))
-    (few_electors-all cons (All-tail IsConstituency con cons each))
-
-few_electors : (setup : List Constituency) (station : List ℕ) (limits : StationLimits) → IsSetup setup → stations_of setup station ≡ Some limits → limits.electors ≤ 1000000
-few_electors setup station limits ok is = at (station_with station setup) refl is
-  where
-    at : (found : Option (Constituency × Station)) → station_with station setup ≡ found
-        → option_map (λ (place : Constituency × Station). limits_of place.0 place.1) found ≡ Some limits → limits.electors ≤ 1000000
-    at None here is = cc
-    at (Some place) here is =
-        let same : place.1.electors ≡ limits.electors = cc in
-        let few : place.1.electors ≤ 1000000 = found-has HasFewElectors (λ (p : Constituency × Station). bytes_eq station p.1.code) (all_stations setup) place (few_electors-all setup ok.each_constituency) here in
-        omega (arith, same, few)
 
 -- ---- all votes together
 
@@ -126,32 +105,38 @@ votes-cast n (c ∷ counts) =
       sum_by-cons all_votes c counts,
     )
 
--- Each return that is recorded is of at most this many votes.
-abbrev AreFewEach : Returns → Type 0
-AreFewEach returns = (station : List ℕ) → ForSome (get returns station) (λ standing. all_votes standing.counts ≤ 1000000)
+-- the return of a station, if it has one, has at most as many votes as may vote there
+abbrev HasFewVotes : Returns → Station → Type 0
+HasFewVotes returns station = ForSome (get returns station.code) (λ standing. all_votes standing.counts ≤ entitled station)
 
-one-within : (found : Option StationReturn) → ForSome found (λ standing. all_votes standing.counts ≤ 1000000) → sum_by all_votes (counts_if_closed found) ≤ 1000000
-one-within None few = omega arith
-one-within (Some standing) few = by_cases (is_closed standing.status)
+one-within : (found : Option StationReturn) (most : ℕ) → ForSome found (λ standing. all_votes standing.counts ≤ most) → sum_by all_votes (counts_if_closed found) ≤ most
+one-within None most few = omega arith
+one-within (Some standing) most few = by_cases (is_closed standing.status)
   where
-    by_cases : (b : Bool) → sum_by all_votes (cond b (standing.counts ∷ []) []) ≤ 1000000
+    by_cases : (b : Bool) → sum_by all_votes (cond b (standing.counts ∷ []) []) ≤ most
     by_cases true = omega (arith, few standing refl)
     by_cases false = omega arith
 
-cast-within : (returns : Returns) (stations : List Station) → AreFewEach returns → sum_by all_votes (closed_counts returns stations) ≤ length stations * 1000000
+cast-within : (returns : Returns) (stations : List Station) → ((station : Station) → Has station stations → HasFewVotes returns station)
+    → sum_by all_votes (closed_counts returns stations) ≤ sum_by entitled stations
 cast-within returns [] few = omega arith
 cast-within returns (station ∷ stations) few =
     omega (
       arith,
       sum_by-append all_votes (counts_if_closed (get returns station.code)) (closed_counts returns stations),
-      one-within (get returns station.code) (few station.code),
-      cast-within returns stations few,
+      sum_by-cons entitled station stations,
+      one-within (get returns station.code) (entitled station) (few station (inl refl)),
+      cast-within returns stations (λ other has. few other (inr has)),
     )
 
-few-each : (setup : List Constituency) (s : State) → IsSetup setup → IsLawfulState setup s → AreFewEach s.returns
-few-each setup s ok lawful station standing some =
-    let stands = lawful.stations station standing some in
-    omega (arith, stands.2.votes, few_electors setup station stands.0 ok stands.1)
+few-each : (setup : List Constituency) (s : State) (con : Constituency) → IsSetup setup → IsLawfulState setup s → Has con setup
+    → (station : Station) → Has station con.stations → HasFewVotes s.returns station
+few-each setup s con ok lawful has station stands standing some =
+    let found = lawful.stations station.code standing some in
+    let known : stations_of setup station.code ≡ Some (limits_of con station) =
+    ap (option_map (λ (place : Constituency × Station). limits_of place.0 place.1)) (station-only setup con station ok has stands) in
+    let same : found.0 ≡ limits_of con station = cc in
+    (subst (λ (l : StationLimits). IsLawful l standing) same found.2).votes
 
 -- ---- the view
 
@@ -165,8 +150,8 @@ view-votes setup s code con seats ok lawful is =
       arith,
       sum-each (votes_at counts) (length con.lists),
       votes-cast (length con.lists) counts,
-      cast-within s.returns con.stations (few-each setup s ok lawful),
-      limits.stations,
+      cast-within s.returns con.stations (few-each setup s con ok lawful (con-found setup code con is).1),
+      limits.entitled,
     )
 
 -- where it is certified, there are seats for each list

@@ -176,7 +176,8 @@ Exit status:
        missing KEY        a key is not there, or its array is empty
        bad_value KEY      a value has the wrong type, or is out of range
        over_limit KEY     an array has too many entries; of 'text', the setup
-                          is too long
+                          is too long; of 'electors', a constituency has more
+                          than 5000000000 electors and agents
        duplicate CODE     a code occurs twice
        unknown_profile    a constituency names a profile that is not there
        not_empty          the database has a table, an index, a view or a
@@ -221,7 +222,8 @@ What comes out:
   differs N   rows of a station whose return was lodged, with another slip or
               other counts
   refused N   rows with a number above 1000000, or with more votes than the
-              station has electors, the blank and the spoiled ones among them
+              station has electors and agents, the blank and the spoiled ones
+              among them
   bad N       rows that are no return of a station of the constituency
   first R N   the first row R that was neither lodged nor same, and why: N is
               0 for a bad row, 4 for a number above 1000000, 6 for too many

@@ -6,7 +6,7 @@ use Rattle.std.proofs.lemmas.Slice.Zip.{all_zipped_more}
 use Rattle.tally_setup.specs.Constituency.{Constituency}
 use Rattle.tally_setup.specs.Limits.{IsSetup}
 use Rattle.tally_setup.specs.Setup.{constituency_codes, constituency_with}
-use Rattle.tally_keeper.proofs.SetupLemmas.{Has, con-only}
+use Rattle.tally_setup.proofs.NamedLemmas.{Has, con-only}
 use Rattle.tally_returns.specs.State.{State}
 use Rattle.tally_returns.specs.View.{FitsView, View}
 use Rattle.tally_returns.specs.declared.ask.Ask.TheVariants.{ShowCon}

@@ -35,7 +35,7 @@ pub are_counts-lodged : (station : StationLimits) (found : Option StationReturn)
 are_counts-lodged station found slip c rev e = go (are_counts station.lists c) e
   where
     go : (b : Bool)
-        → refused_or (first_refusal (check b BadCounts ∷ check (nat_le (all_votes c) station.electors) TooManyVotes ∷ [])) (reply_after_checks found slip c) ≡ Ok (Lodged rev)
+        → refused_or (first_refusal (check b BadCounts ∷ check (nat_le (all_votes c) station.entitled) TooManyVotes ∷ [])) (reply_after_checks found slip c) ≡ Ok (Lodged rev)
         → b ≡ true
     go true e = refl
     go false e = cc

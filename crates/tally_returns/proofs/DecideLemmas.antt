@@ -134,8 +134,8 @@ lodged-lawful station found slip counts change code is = go (first_refusal (coun
           last = omega arith;
           slip = code;
           note = refl;
-          counts = passed-first (are_counts station.lists counts) BadCounts (check (nat_le (all_votes counts) station.electors) TooManyVotes ∷ []) none;
-          votes = leb-true (all_votes counts) station.electors (passed-first (nat_le (all_votes counts) station.electors) TooManyVotes [] (passed-rest (are_counts station.lists counts) BadCounts (check (nat_le (all_votes counts) station.electors) TooManyVotes ∷ []) none));
+          counts = passed-first (are_counts station.lists counts) BadCounts (check (nat_le (all_votes counts) station.entitled) TooManyVotes ∷ []) none;
+          votes = leb-true (all_votes counts) station.entitled (passed-first (nat_le (all_votes counts) station.entitled) TooManyVotes [] (passed-rest (are_counts station.lists counts) BadCounts (check (nat_le (all_votes counts) station.entitled) TooManyVotes ∷ []) none));
         })
     go None (Some standing) none ok = again (pointwise nat_eq standing.slip slip && same_counts standing.counts counts) standing.rev (Differs standing.rev) ok
 
@@ -171,7 +171,7 @@ decided-lawful station certified found (Query code rev note) change brings lawfu
     })
 decided-lawful station certified found (Correct code rev slip counts) change brings lawful is =
     let are = are_counts station.lists counts in
-    let votes = nat_le (all_votes counts) station.electors in
+    let votes = nat_le (all_votes counts) station.entitled in
     let moves = move_checks certified found rev may_correct in
     moved-lawful station (correct_checks (Some station) certified found rev counts) found (corrected_return slip counts) change is
     (λ standing some none.
@@ -183,7 +183,7 @@ decided-lawful station certified found (Correct code rev slip counts) change bri
       slip = brings slip refl;
       note = old.note;
       counts = passed-first are BadCounts (check votes TooManyVotes ∷ moves) none;
-      votes = leb-true (all_votes counts) station.electors (passed-first votes TooManyVotes moves (passed-rest are BadCounts (check votes TooManyVotes ∷ moves) none));
+      votes = leb-true (all_votes counts) station.entitled (passed-first votes TooManyVotes moves (passed-rest are BadCounts (check votes TooManyVotes ∷ moves) none));
     })
 decided-lawful station certified found (Close code rev) change brings lawful is =
     moved-lawful station (close_checks (Some station) certified found rev) found closed_return change is
@@ -193,7 +193,7 @@ decided-lawful station certified found (Close code rev) change brings lawful is 
     closed-lawful station certified standing rev old (subst (λ f. first_refusal (move_checks certified f rev may_close) ≡ None) some passed))
 decided-lawful station certified found (Confirm code rev slip counts) change brings lawful is =
     let are = are_counts station.lists counts in
-    let votes = nat_le (all_votes counts) station.electors in
+    let votes = nat_le (all_votes counts) station.entitled in
     let moves = move_checks certified found rev may_close in
     let same = same_checks found slip counts in
     moved-lawful station (confirm_checks (Some station) certified found rev slip counts) found closed_return change is

@@ -4,7 +4,7 @@ use Rattle.std.specs.Prelude.{◌≡◌, ◌≢◌, ℕ, Bool, List, [], ◌∷�
 use Rattle.std.specs.Prelude.{is_some, string_bytes, length, option_and_then, option_map}
 use Rattle.std.specs.List.{find}
 use Rattle.std.specs.Str.{bytes_eq}
-use Rattle.tally_setup.specs.Constituency.{Constituency}
+use Rattle.tally_setup.specs.Constituency.{Constituency, entitled}
 use Rattle.tally_setup.specs.declared.constituency.Station.{Station}
 use Rattle.tally_returns.specs.Return.{StationReturn, first_return}
 use Rattle.tally_returns.specs.Counts.{VoteCounts}
@@ -28,7 +28,7 @@ abbrev pub station_in : Constituency → List ℕ → Option Station
 station_in con code = find (λ (station : Station). bytes_eq code station.code) con.stations
 
 abbrev pub limits_of : Constituency → Station → StationLimits
-limits_of con station = limits_for (length con.lists) station.electors con.entry
+limits_of con station = limits_for (length con.lists) (entitled station) con.entry
 
 -- what the constituency says of the station that a command names
 abbrev pub limits_named : Constituency → Ask → Option StationLimits

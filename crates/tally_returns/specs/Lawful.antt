@@ -32,7 +32,7 @@ pub record IsLawful (station : StationLimits) (standing : StationReturn) : Type 
   pub slip : is_code standing.slip ≡ true
   pub note : is_note_or_empty standing.note ≡ true
   pub counts : are_counts station.lists standing.counts ≡ true
-  pub votes : all_votes standing.counts ≤ station.electors
+  pub votes : all_votes standing.counts ≤ station.entitled
 
 -- a lawful return of the station of a code
 abbrev pub IsLawfulAt : List Constituency → List ℕ → StationReturn → Type 0

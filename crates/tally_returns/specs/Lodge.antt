@@ -13,15 +13,15 @@ use Rattle.tally_returns.specs.declared.refusal.Refusal.TheVariants.{TooManyVote
 use Rattle.tally_returns.specs.declared.reply.LodgeReply.{LodgeReply}
 use Rattle.tally_returns.specs.declared.reply.LodgeReply.TheVariants.{Lodged, Same}
 
--- what a setup says of a station: how many lists its constituency has, how many electors it has,
--- and whether its returns are entered once or twice
+-- what a setup says of a station: how many lists its constituency has, how many may vote at it, and
+-- whether its returns are entered once or twice
 pub record StationLimits : Type 0 where
   pub lists : ℕ
-  pub electors : ℕ
+  pub entitled : ℕ
   pub entry : Entry
 
 abbrev pub limits_for : ℕ → ℕ → Entry → StationLimits
-limits_for lists electors entry = record { lists = lists; electors = electors; entry = entry }
+limits_for lists entitled entry = record { lists = lists; entitled = entitled; entry = entry }
 
 -- the same of each code that is a station
 abbrev pub Stations : Type 0
@@ -31,7 +31,7 @@ Stations = List ℕ → Option StationLimits
 abbrev pub counts_checks : StationLimits → VoteCounts → List (Option Refusal)
 counts_checks station counts =
     check (are_counts station.lists counts) BadCounts
-    ∷ check (nat_le (all_votes counts) station.electors) TooManyVotes
+    ∷ check (nat_le (all_votes counts) station.entitled) TooManyVotes
     ∷ []
 
 -- the return has this slip and these counts

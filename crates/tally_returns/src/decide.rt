@@ -1,6 +1,7 @@
 //! What is decided of a command on the return of a station.
 
-ghost use Rattle.std.specs.Prelude.{◌≡◌, ◌≤◌, ◌∷◌, ◌++◌, [], Ok, IfOk, IsSome, is_some};
+ghost use Rattle.std.specs.Prelude.{◌≡◌, ◌≤◌, ◌∷◌, ◌++◌, [], Ok, IfOk, IfErr, IsSome, None, OnOk};
+ghost use Rattle.std.specs.Prelude.{Some, is_some};
 ghost use Rattle.std.specs.Option.{ForSome, option_copied};
 ghost use Rattle.tally_setup.specs.Text.{is_note};
 ghost use Rattle.tally_returns.specs.Checks.{check, first_refusal, refused_or};
@@ -9,7 +10,7 @@ ghost use Rattle.tally_returns.specs.Decide.{return_change_named};
 ghost use Rattle.tally_returns.specs.Decide.{limits_named, limits_of, lodge_change, station_in};
 ghost use Rattle.tally_returns.specs.Lawful.{IsLawful, IsLawfulWhereNamed, PutsLawful};
 ghost use Rattle.tally_returns.specs.Lawful.{PutsLawfulWhereNamed};
-ghost use Rattle.tally_returns.specs.Lodge.{reply_at_station};
+ghost use Rattle.tally_returns.specs.Lodge.{counts_checks, reply_at_station};
 ghost use Rattle.tally_returns.specs.declared.change.Change.TheVariants.{Same};
 ghost use Rattle.tally_returns.specs.Moves.{closed_return, corrected_return, entry_checks};
 ghost use Rattle.tally_returns.specs.Moves.{last_revision, may_close, may_correct, may_query};
@@ -76,7 +77,7 @@ pub fn decide_at(
             counts,
             ..
         } => {
-            check_counts(con.lists.len(), station.electors, counts)?;
+            check_counts_at(con, station, counts)?;
             decide_correct(alloc, certified, found, *rev, *slip, counts)
         }
         Ask::Close { rev, .. } => decide_close(alloc, con.entry, certified, found, *rev),
@@ -86,12 +87,23 @@ pub fn decide_at(
             counts,
             ..
         } => {
-            check_counts(con.lists.len(), station.electors, counts)?;
+            check_counts_at(con, station, counts)?;
             decide_confirm(alloc, certified, found, *rev, *slip, counts)
         }
         Ask::ShowReturn { .. } => decide_show(found),
         _ => Ok(Change::Same),
     }
+}
+
+/// The checks on the counts that come to a station of a constituency.
+fn check_counts_at(con: &Constituency, station: &Station, counts: &Counts) -> Result<(), Refusal>
+    ensures passed { OnOk result
+        (first_refusal (counts_checks (limits_of con.now station.now) counts.now) ≡ None) }
+    ensures refused { IfErr result (λ refusal.
+        first_refusal (counts_checks (limits_of con.now station.now) counts.now)
+        ≡ Some refusal) }
+{
+    check_counts(con.lists.len(), station.entitled(), counts)
 }
 
 fn decide_first(
@@ -106,7 +118,7 @@ fn decide_first(
         (reply_at_station (limits_of con.now station.now) (option_copied found.entry) slip
         counts.now)) }
 {
-    match decide_lodge(con.lists.len(), station.electors, found, slip, counts)? {
+    match decide_lodge(con.lists.len(), station.entitled(), found, slip, counts)? {
         LodgeReply::Lodged { .. } => {
             let counts = counts.try_copy(alloc)?;
             Ok(Change::PutReturn(Return::lodged(alloc, slip, counts)))

@@ -14,41 +14,43 @@ use crate::reply::LodgeReply;
 use crate::returns::Return;
 use tally_setup::Code;
 
-/// What a Lodge is answered at a station of so many lists (at most 60) and electors, where this
-/// return or none is recorded. Where the reply is `Lodged`, `Return::lodged` is the return that is
-/// then to be recorded. A Lodge does not depend on how many entries a return needs.
+/// What a Lodge is answered at a station with this many lists (at most 60) and this many who may
+/// vote there, where this return or none is recorded. Where the reply is `Lodged`, `Return::lodged`
+/// is the return that is then to be recorded. A Lodge does not depend on how many entries a return
+/// needs.
 pub fn decide_lodge(
     lists: usize,
-    electors: u32,
+    entitled: u64,
     found: Option<&Return>,
     slip: Code,
     counts: &Counts,
 ) -> Result<LodgeReply, Refusal>
     requires { lists ≤ most_lists }
     ensures { result
-        ≡ reply_at_station (limits_for lists electors Single) (option_copied found.entry) slip
+        ≡ reply_at_station (limits_for lists entitled Single) (option_copied found.entry) slip
         counts.now }
 {
-    check_counts(lists, electors, counts)?;
+    check_counts(lists, entitled, counts)?;
     match found {
         Some(standing) => decide_again(standing, slip, counts),
         None => Ok(LodgeReply::Lodged { rev: 1 }),
     }
 }
 
-/// The checks on the counts that come to a station of so many lists (at most 60) and electors.
-pub(crate) fn check_counts(lists: usize, electors: u32, counts: &Counts) -> Result<(), Refusal>
+/// The checks on the counts that come to a station with this many lists (at most 60) and this many
+/// who may vote there.
+pub(crate) fn check_counts(lists: usize, entitled: u64, counts: &Counts) -> Result<(), Refusal>
     requires { lists ≤ most_lists }
     ensures passed { OnOk result
-        (first_refusal (counts_checks (limits_for lists electors Single) counts.now) ≡ None) }
+        (first_refusal (counts_checks (limits_for lists entitled Single) counts.now) ≡ None) }
     ensures refused { IfErr result (λ refusal.
-        first_refusal (counts_checks (limits_for lists electors Single) counts.now)
+        first_refusal (counts_checks (limits_for lists entitled Single) counts.now)
         ≡ Some refusal) }
 {
     if !counts.are_for(lists) {
         return Err(Refusal::BadCounts);
     }
-    if counts.all_votes() > u64::from(electors) {
+    if counts.all_votes() > entitled {
         return Err(Refusal::TooManyVotes);
     }
     Ok(())

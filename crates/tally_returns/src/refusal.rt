@@ -20,7 +20,8 @@ pub enum Refusal {
     BadCounts,
     /// The note is not of 1 to 200 bytes, or has a control byte.
     BadNote,
-    /// The votes, blank and spoiled ones with them, are more than the station's electors.
+    /// The votes, blank and spoiled ones with them, are more than the station's electors and
+    /// agents.
     TooManyVotes,
     /// The recorded return of the station, at this revision, has another slip or other counts.
     Differs { rev: u32 },

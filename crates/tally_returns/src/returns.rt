@@ -3,6 +3,7 @@
 ghost use Rattle.std.specs.Prelude.{◌≡◌, ◌≤◌, length, IfOk, IsTrue};
 ghost use Rattle.tally_frac.specs.Limits.{most_lists};
 ghost use Rattle.tally_setup.specs.declared.constituency.Entry as declared;
+ghost use Rattle.tally_returns.specs.Decide.{limits_of};
 ghost use Rattle.tally_returns.specs.Lawful.{IsLawful, is_note_or_empty};
 ghost use Rattle.tally_returns.specs.Lodge.{is_return_of, limits_for};
 ghost use Rattle.tally_returns.specs.Return.{first_return, status_word};
@@ -11,7 +12,7 @@ use crate::counts::Counts;
 use crate::moves::LAST_REVISION;
 use std::alloc::{AllocError, Global};
 use std::marker::Model;
-use tally_setup::{Code, good_note};
+use tally_setup::{Code, Constituency, Station, good_note};
 
 /// How far the office has come with a return.
 #[derive(Clone, Copy, Debug, PartialEq, Eq)]
@@ -103,14 +104,22 @@ impl Return {
         })
     }
 
-    /// Whether the return may be recorded at a station of so many lists (at most 60) and electors:
-    /// by its revision, note and counts.
-    pub fn is_lawful(&self, lists: usize, electors: u32) -> bool
+    /// Whether the return may be recorded at a station of a constituency: by its revision, note and
+    /// counts.
+    pub fn is_lawful(&self, con: &Constituency, station: &Station) -> bool
+        ensures lawful { IsTrue result → IsLawful (limits_of con.now station.now) self.now }
+        ensures otherwise { IsLawful (limits_of con.now station.now) self.now → IsTrue result }
+    {
+        self.is_lawful_for(con.lists.len(), station.entitled())
+    }
+
+    /// The same for this many lists (at most 60) and this many who may vote.
+    fn is_lawful_for(&self, lists: usize, entitled: u64) -> bool
         requires { lists ≤ most_lists }
         ensures lawful { (entry : declared.Entry) → IsTrue result
-            → IsLawful (limits_for lists electors entry) self.now }
+            → IsLawful (limits_for lists entitled entry) self.now }
         ensures otherwise { (entry : declared.Entry)
-            → IsLawful (limits_for lists electors entry) self.now → IsTrue result }
+            → IsLawful (limits_for lists entitled entry) self.now → IsTrue result }
     {
         if !self.counts.are_for(lists) {
             return false;
@@ -120,7 +129,7 @@ impl Return {
         self.rev >= 1
             && self.rev <= LAST_REVISION
             && is_note_or_empty(self.note.as_str())
-            && self.counts.all_votes() <= u64::from(electors)
+            && self.counts.all_votes() <= entitled
     }
 }
 

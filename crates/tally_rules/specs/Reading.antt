@@ -2,7 +2,7 @@
 -- the order of checks of one part of the format.
 use Rattle.std.specs.Prelude.{ℕ, ℤ, pos, negsuc, Bool, ◌+◌, ◌-◌, ◌==◌, ◌&&◌, not, nat_lt}
 use Rattle.std.specs.Prelude.{nat_le, List, [], ◌∷◌, ◌++◌, length, map, Option, Some, None}
-use Rattle.std.specs.Prelude.{option_map, is_some}
+use Rattle.std.specs.Prelude.{option_map, is_some, sum_by}
 use Rattle.std.specs.Prelude.{Result, Ok, Err, if◌then◌else◌, codes}
 use Rattle.std.specs.List.{list_all}
 use Rattle.std.specs.Map.{lookup}
@@ -11,14 +11,16 @@ use Rattle.std.specs.Str.{is_utf8, bytes_eq}
 use Rattle.toml.specs.Data.{Data, Items, no_items, item, table, get, as_str, as_integer, as_array}
 use Rattle.toml.specs.Data.{as_table}
 use Rattle.toml.specs.Parse.{parse_document}
-use Rattle.tally_frac.specs.Limits.{most_lists, most_seats, whole_base}
+use Rattle.tally_frac.specs.Limits.{most_lists, most_seats, most_votes, whole_base}
 use Rattle.tally_setup.specs.Code.{code_of}
 use Rattle.tally_setup.specs.Codes.{index_of, is_among_codes}
-use Rattle.tally_setup.specs.Constituency.{Constituency, ListEntry, list_codes, station_codes}
+use Rattle.tally_setup.specs.Constituency.{Constituency, ListEntry, entitled, list_codes}
+use Rattle.tally_setup.specs.Constituency.{station_codes}
 use Rattle.tally_rules.specs.Fault.{Fault, not_toml, missing, bad_value, over_limit, duplicate}
 use Rattle.tally_rules.specs.Fault.{unknown_profile, Placed}
-use Rattle.tally_setup.specs.Limits.{most_candidates, most_constituencies, most_electors}
-use Rattle.tally_setup.specs.Limits.{most_profiles, most_stations}
+use Rattle.tally_setup.specs.Limits.{most_agents, most_candidates, most_constituencies}
+use Rattle.tally_setup.specs.Limits.{most_electors, most_normal_stations, most_profiles}
+use Rattle.tally_setup.specs.Limits.{most_stations}
 use Rattle.tally_setup.specs.Method.{method_named}
 use Rattle.tally_rules.specs.Place.{coded, constituency_way, in_code, in_entry, list_way, nowhere}
 use Rattle.tally_rules.specs.Place.{nth}
@@ -139,6 +141,30 @@ read_entry con =
     (λ word. ok_or (entry_named word) (bad_value (codes "entry"))))
     else Ok Single
 
+-- `size`, which may be absent: a constituency is of normal size then. It says how many stations
+-- there may be.
+abbrev pub station_limit_named : List ℕ → Option ℕ
+station_limit_named word =
+    if bytes_eq word (codes "normal") then Some most_normal_stations
+    else if bytes_eq word (codes "large") then Some most_stations
+    else None
+
+unfoldable pub read_station_limit : Data → Result ℕ Fault
+read_station_limit con =
+    if is_some (get (codes "size") con)
+    then (read_text (codes "size") con >>=
+    (λ word. ok_or (station_limit_named word) (bad_value (codes "size"))))
+    else Ok most_normal_stations
+
+-- `agents` of a station with these electors, which may be absent: there are none then
+unfoldable pub read_agents : ℕ → Data → Result ℕ Fault
+read_agents electors station =
+    if is_some (get (codes "agents") station)
+    then (read_number (codes "agents") 0 most_agents station >>=
+    (λ agents. if nat_le (electors + agents) most_electors then Ok agents
+        else Err (bad_value (codes "agents"))))
+    else Ok 0
+
 -- ---- arrays
 
 -- the items as a list
@@ -251,12 +277,17 @@ first_station before con taken (duplicate code) =
     option_map (λ place. station_way 1 before con place code) (index_of code taken)
 first_station before con taken fault = None
 
--- what an entry of `station` has beside its code, of this number and code
+-- what an entry of `station` has beside its code
+unfoldable pub station_coded : List ℕ → Data → Result Station Fault
+station_coded code entry = do
+  electors ← read_number (codes "electors") 1 most_electors entry
+  agents ← read_agents electors entry
+  Ok (record { code = code; electors = electors; agents = agents })
+
+-- the same, of this number and code
 unfoldable pub rest_of_station : Holder → ℕ → List ℕ → Data → Result Station Placed
-rest_of_station con number code entry = do
-  electors ← in_entry (coded (Stations con) number code)
-      (read_number (codes "electors") 1 most_electors entry)
-  Ok (record { code = code; electors = electors })
+rest_of_station con number code entry =
+    in_entry (coded (Stations con) number code) (station_coded code entry)
 
 -- an entry of `station` of a constituency, after these constituencies and these stations
 unfoldable pub station_entry : List Constituency → Holder → List Station → Data →
@@ -267,12 +298,25 @@ station_entry before con stations entry = do
       (new_code (all_station_codes before ++ station_codes stations) entry)
   rest_of_station con (length stations + 1) code entry
 
--- `station` of a constituency, after these constituencies
-unfoldable pub read_stations : List Constituency → Holder → Data → Result (List Station) Placed
-read_stations before con entry = do
-  entries ← in_entry
-      (constituency_way con) (read_array is_table (codes "station") most_stations entry)
+-- each entry of `station` of a constituency, which has at most this many, after these
+-- constituencies
+unfoldable pub read_each_station : List Constituency → Holder → ℕ → Data
+    → Result (List Station) Placed
+read_each_station before con limit entry = do
+  entries ← in_entry (constituency_way con) (read_array is_table (codes "station") limit entry)
   in_turn (station_entry before con) [] entries
+
+-- those stations, where at most as many may vote at them as an allotment can have votes
+abbrev pub with_few_entitled : Holder → List Station → Result (List Station) Placed
+with_few_entitled con stations =
+    in_entry (constituency_way con) (if nat_le (sum_by entitled stations) most_votes
+        then Ok stations else Err (over_limit (codes "electors")))
+
+-- `station` of a constituency, which has at most this many, after these constituencies
+unfoldable pub read_stations : List Constituency → Holder → ℕ → Data → Result (List Station) Placed
+read_stations before con limit entry = do
+  stations ← read_each_station before con limit entry
+  with_few_entitled con stations
 
 -- the profile of a code
 abbrev pub profile_with : List ℕ → List (List ℕ × Profile) → Option Profile
@@ -288,8 +332,9 @@ rest_of_constituency profiles before con entry = do
   profile ← in_entry
       (constituency_way con) (ok_or (profile_with profile_code profiles) unknown_profile)
   needed ← in_entry (constituency_way con) (read_entry entry)
+  limit ← in_entry (constituency_way con) (read_station_limit entry)
   lists ← read_lists con entry
-  stations ← read_stations before con entry
+  stations ← read_stations before con limit entry
   Ok (record {
     code = con.code;
     name = name;

@@ -1,5 +1,5 @@
 -- A constituency as contracts see it.
-use Rattle.std.specs.Prelude.{ℕ, List, map}
+use Rattle.std.specs.Prelude.{◌+◌, ℕ, List, map}
 use Rattle.tally_setup.specs.declared.profile.Profile.{Profile}
 use Rattle.tally_setup.specs.declared.constituency.Entry.{Entry}
 use Rattle.tally_setup.specs.declared.constituency.Station.{Station}
@@ -21,6 +21,11 @@ pub record Constituency : Type 0 where
   pub entry : Entry
   pub lists : List ListEntry
   pub stations : List Station
+
+-- How many may vote at a station: its electors, and the agents of lists who vote where they serve
+-- (LOREG article 105.4).
+abbrev pub entitled : Station → ℕ
+entitled station = station.electors + station.agents
 
 abbrev pub list_codes : List ListEntry → List (List ℕ)
 list_codes lists = map (λ (list : ListEntry). list.code) lists

@@ -1,11 +1,14 @@
 //! Constituencies, with their lists and stations.
 
-ghost use Rattle.std.specs.Prelude.{◌≡◌, IfOk};
+ghost use Rattle.std.specs.Prelude.{◌≡◌, ◌≤◌, IfOk, IsTrue, sum_by};
+ghost use Rattle.tally_frac.specs.Limits.{most_votes};
+ghost use Rattle.tally_setup.specs.Constituency.{entitled};
 
 use crate::code::Code;
 use crate::profile::Profile;
 use std::alloc::{AllocError, Global};
 use std::marker::Model;
+use tally_frac::MOST_VOTES;
 
 /// How many entries a return of a constituency needs before it is closed.
 #[derive(Clone, Copy, Debug, PartialEq, Eq)]
@@ -23,6 +26,35 @@ pub struct Station {
     pub code: Code,
     /// The number of electors, 1 to 1,000,000.
     pub electors: u32,
+    /// The agents of lists who vote here and are no electors of this station (LOREG article 105.4),
+    /// 0 to 1,000; together with the electors at most 1,000,000.
+    pub agents: u32,
+}
+
+impl Station {
+    /// How many may vote here: the electors and the agents.
+    pub fn entitled(&self) -> u64
+        ensures { result ≡ entitled self.now }
+    {
+        u64::from(self.electors) + u64::from(self.agents)
+    }
+}
+
+/// Whether those who may vote at these stations are together at most 5,000,000,000, the most votes
+/// of an allotment.
+pub fn are_few_entitled(stations: &[Station]) -> bool
+    ensures few { IsTrue result → sum_by entitled stations.now ≤ most_votes }
+    ensures otherwise { sum_by entitled stations.now ≤ most_votes → IsTrue result }
+{
+    let mut left = MOST_VOTES;
+    for station in stations {
+        let entitled = station.entitled();
+        if entitled > left {
+            return false;
+        }
+        left -= entitled;
+    }
+    true
 }
 
 /// A list that stands for election. Contracts see its texts as lists of bytes.
@@ -91,7 +123,7 @@ pub struct Constituency {
     pub entry: Entry,
     /// The 1 to 60 lists, in order; no two have one code.
     pub lists: Vec<ListEntry>,
-    /// The 1 to 5,000 stations.
+    /// The 1 to 20,000 stations, with at most 5,000,000,000 who may vote at them.
     pub stations: Vec<Station>,
 }
 

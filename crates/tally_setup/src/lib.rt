@@ -13,9 +13,10 @@ mod threshold;
 
 pub use code::Code;
 pub use codes::Codes;
-pub use constituency::{Constituency, Entry, ListEntry, Station};
+pub use constituency::{Constituency, Entry, ListEntry, Station, are_few_entitled};
 pub use limits::{
-    MOST_CANDIDATES, MOST_CONSTITUENCIES, MOST_ELECTORS, MOST_PROFILES, MOST_STATIONS,
+    MOST_AGENTS, MOST_CANDIDATES, MOST_CONSTITUENCIES, MOST_ELECTORS, MOST_NORMAL_STATIONS,
+    MOST_PROFILES, MOST_STATIONS,
 };
 pub use profile::{Base, LotRule, Method, Profile};
 pub use setup::Setup;

@@ -29,7 +29,7 @@ use Rattle.tally_returns.specs.declared.returns.Status.{Status}
 use Rattle.tally_returns.specs.declared.returns.Status.TheVariants.{Received, Queried, Corrected, Closed}
 use Rattle.tally_returns.proofs.ClosedLemmas.{station_with-con}
 use Rattle.tally_returns.proofs.DecideLemmas.{first_refusal-append_first, passed-first, passed-rest}
-use Rattle.tally_keeper.proofs.SetupLemmas.{con-limits, station-found}
+use Rattle.tally_setup.proofs.NamedLemmas.{con-limits, station-found}
 use Rattle.tally_machine_law.specs.Kinds.{IsReplyTo}
 use Rattle.tally_machine_law.specs.LawfulState.{IsLawfulState}
 use Rattle.tally_machine_law.specs.Step.{IsStep, state_after, after_put, after_return, con_of_station, change_in_state, move_reply, reply_seen, with_return, without_lot}
@@ -131,7 +131,7 @@ put-decided con place certified found (Correct code rev slip counts) change move
     let checks = correct_checks (Some limits) certified found rev counts in
     let p = passed-move certified found rev may_correct checks (corrected_return slip counts) change
     (append-rest (counts_checks_at (Some limits) counts) (move_checks certified found rev may_correct)) is in
-    let fit : are_counts limits.lists counts ≡ true = passed-first (are_counts limits.lists counts) BadCounts (check (nat_le (all_votes counts) limits.electors) TooManyVotes ∷ move_checks certified found rev may_correct) p.none in
+    let fit : are_counts limits.lists counts ≡ true = passed-first (are_counts limits.lists counts) BadCounts (check (nat_le (all_votes counts) limits.entitled) TooManyVotes ∷ move_checks certified found rev may_correct) p.none in
     record {
       before = p.before;
       standing = corrected_return slip counts p.before;

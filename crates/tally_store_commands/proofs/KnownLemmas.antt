@@ -33,7 +33,7 @@ use Rattle.tally_returns.specs.declared.reply.Reply.{Reply}
 use Rattle.tally_returns.specs.declared.returns.Status.{Status}
 use Rattle.tally_returns.specs.declared.returns.Status.TheVariants.{Received}
 use Rattle.tally_returns.proofs.ClosedLemmas.{put-elsewhere, same-tied, station-elsewhere, station_with-con, stations_in-same, tied-same}
-use Rattle.tally_keeper.proofs.SetupLemmas.{Has, con-limits, station-found, stations-differ}
+use Rattle.tally_setup.proofs.NamedLemmas.{Has, con-limits, station-found, stations-differ}
 use Rattle.tally_keeper.proofs.SumLemmas.{one_if, stations_in-total}
 use Rattle.tally_keeper.proofs.TreeLemmas.{get-tree, tree-insert}
 use Rattle.tally_keeper.specs.internal.Held.{moves_return}
@@ -156,7 +156,7 @@ seen-statuses con s statuses view is seen_as = is ∙ ap statuses_of seen_as
 
 -- ---- a return that moves
 
-shifted : (was is : Bool) (old new : ℕ) → new + cond was 1 0 ≡ old + cond is 1 0 → new ≤ 5000 → new ≡ one_less_if was (one_more_if is old)
+shifted : (was is : Bool) (old new : ℕ) → new + cond was 1 0 ≡ old + cond is 1 0 → new ≤ 20000 → new ≡ one_less_if was (one_more_if is old)
 shifted true true old new sum few = omega (arith, sum, few)
 shifted true false old new sum few = omega (arith, sum, few)
 shifted false true old new sum few = omega (arith, sum, few)
@@ -182,7 +182,7 @@ module _ (setup : List Constituency) (returns : Returns) (station : List ℕ) (c
           ∙ total-replaced (one_if is_status) returns station (get returns station) standing con.stations place refl (stations-differ setup con limits found.0) found.1 found.2
           ∙ ap (λ n. n + one_if is_status (Some standing)) (sym (stations_in-total is_status returns con.stations))
 
-      most : count_with_status is_status (insert returns station standing) con.stations ≤ 5000
+      most : count_with_status is_status (insert returns station standing) con.stations ≤ 20000
       most =
           let all : count_with_status is_status (insert returns station standing) con.stations ≤ length con.stations =
           count_by-le-length (λ (x : Station). option_map_or (λ (r : StationReturn). is_status r.status) (get (insert returns station standing) x.code) false) con.stations in

@@ -9,7 +9,7 @@ use Rattle.std.proofs.lemmas.Bool.{and_parts, eqb-true}
 use Rattle.sqlite.specs.State.{State as Seen, HasCleanDisk, IsUnchanged}
 use Rattle.tally_store_schema.specs.Rows.{AreRowsOf}
 use Rattle.tally_setup.specs.Code.{code_cmp}
-use Rattle.tally_setup.specs.Constituency.{Constituency}
+use Rattle.tally_setup.specs.Constituency.{Constituency, entitled}
 use Rattle.tally_setup.specs.Limits.{IsSetup}
 use Rattle.tally_setup.specs.Setup.{constituency_with, station_with}
 use Rattle.tally_setup.specs.declared.constituency.Entry.TheVariants.{Single}
@@ -33,7 +33,7 @@ use Rattle.tally_returns.specs.declared.reply.LodgeReply.TheVariants.{Lodged, Sa
 use Rattle.tally_returns.specs.declared.reply.Reply.{Reply}
 use Rattle.tally_returns.proofs.ClosedLemmas.{tied-same}
 use Rattle.tally_returns.proofs.DecideLemmas.{passed-first}
-use Rattle.tally_keeper.proofs.SetupLemmas.{con-limits, station-found}
+use Rattle.tally_setup.proofs.NamedLemmas.{con-limits, station-found}
 use Rattle.tally_machine_law.specs.LawfulState.{IsLawfulState}
 use Rattle.tally_machine_law.specs.Outcome.{HasSeats}
 use Rattle.tally_machine_law.specs.Step.{Answer, state_after, after_return, answer, return_reply, return_shown, reply_seen}
@@ -157,13 +157,14 @@ answer-nowhere setup returns station slip counts is =
     ap (λ found. reply_at_code (option_map (λ (p : Constituency × Station). limits_of p.0 p.1) found) (get returns station) slip counts) (sym is)
 
 -- what was decided of what was found is what is answered
-pub decided-is : (setup : List Constituency) (text : List ℕ) (s : State) (station slip : List ℕ) (counts : VoteCounts) (con : Constituency) (place : Station) (lists : ℕ) (old : Seen) (found copied : Option StationReturn) (r : Result LodgeReply Refusal)
-    → IsSetup setup → IsLawfulState setup s → AreTables setup text s old.now.trees → station_with station setup ≡ Some (con, place) → lists ≡ length con.lists → FindsReturn setup station old found
-    → copied ≡ found → r ≡ reply_at_station (limits_for lists place.electors Single) copied slip counts → r ≡ lodge_answer (stations_of setup) s.returns station slip counts
-decided-is setup text s station slip counts con place lists old found copied r limits lawful tables known many finds same is =
+pub decided-is : (setup : List Constituency) (text : List ℕ) (s : State) (station slip : List ℕ) (counts : VoteCounts) (con : Constituency) (place : Station) (lists votes : ℕ) (old : Seen) (found copied : Option StationReturn) (r : Result LodgeReply Refusal)
+    → IsSetup setup → IsLawfulState setup s → AreTables setup text s old.now.trees → station_with station setup ≡ Some (con, place) → lists ≡ length con.lists → votes ≡ entitled place → FindsReturn setup station old found
+    → copied ≡ found → r ≡ reply_at_station (limits_for lists votes Single) copied slip counts → r ≡ lodge_answer (stations_of setup) s.returns station slip counts
+decided-is setup text s station slip counts con place lists votes old found copied r limits lawful tables known many few finds same is =
     is
-    ∙ ap (λ f. reply_at_station (limits_for lists place.electors Single) f slip counts) same
-    ∙ ap (λ n. reply_at_station (limits_for n place.electors Single) found slip counts) many
+    ∙ ap (λ f. reply_at_station (limits_for lists votes Single) f slip counts) same
+    ∙ ap (λ n. reply_at_station (limits_for n votes Single) found slip counts) many
+    ∙ ap (λ n. reply_at_station (limits_for (length con.lists) n Single) found slip counts) few
     ∙ ap (λ f. reply_at_station (limits_of con place) f slip counts) (found-is setup text s station old found limits lawful tables finds)
     ∙ answer-at setup s.returns station slip counts con place known
 
@@ -175,14 +176,14 @@ lodged-few limits found slip counts rev is few = go (first_refusal (counts_check
     go : (refused : Option Refusal) → first_refusal (counts_checks limits counts) ≡ refused → refused_or refused (reply_after_checks found slip counts) ≡ Ok (Lodged rev) → length counts.votes ≤ 60
     go (Some e) at ok = cc
     go None at ok =
-        let fit : are_counts limits.lists counts ≡ true = passed-first (are_counts limits.lists counts) BadCounts (check (nat_le (all_votes counts) limits.electors) TooManyVotes ∷ []) at in
+        let fit : are_counts limits.lists counts ≡ true = passed-first (are_counts limits.lists counts) BadCounts (check (nat_le (all_votes counts) limits.entitled) TooManyVotes ∷ []) at in
         let lists = eqb-true (length counts.votes) limits.lists (and_parts _ _ (and_parts _ _ (and_parts _ _ fit).0).0).0 in
         omega (arith, lists, few)
 
 -- and so of its answer
-pub reply-few : (lists electors : ℕ) (found : Option StationReturn) (slip : List ℕ) (counts : VoteCounts) (r : Result LodgeReply Refusal) (rev : ℕ) → r ≡ reply_at_station (limits_for lists electors Single) found slip counts → lists ≤ 60
+pub reply-few : (lists entitled : ℕ) (found : Option StationReturn) (slip : List ℕ) (counts : VoteCounts) (r : Result LodgeReply Refusal) (rev : ℕ) → r ≡ reply_at_station (limits_for lists entitled Single) found slip counts → lists ≤ 60
     → r ≡ Ok (Lodged rev) → length counts.votes ≤ 60
-reply-few lists electors found slip counts r rev is few lodged = lodged-few (limits_for lists electors Single) found slip counts rev (sym is ∙ lodged) few
+reply-few lists entitled found slip counts r rev is few lodged = lodged-few (limits_for lists entitled Single) found slip counts rev (sym is ∙ lodged) few
 
 -- a Lodge that put no return
 pub lodged-nothing : (setup : List Constituency) (text : List ℕ) (s : State) (station slip : List ℕ) (counts : VoteCounts) (r : Result LodgeReply Refusal) (new : Seen)

@@ -24,7 +24,7 @@ use Rattle.tally_returns.specs.View.{blank_of, closed_counts, spoiled_of, votes_
 use Rattle.tally_returns.proofs.ClosedLemmas.{closed_counts-same, get-kept, get-put, put-elsewhere, station-elsewhere}
 use Rattle.tally_keeper.specs.MovedSum.{moved_sum}
 use Rattle.tally_keeper.specs.internal.Sums.{moved_sums}
-use Rattle.tally_keeper.proofs.SetupLemmas.{Has, Apart, Differ, apart-has, bytes_flipped, code_of_station, con-found, con-only, not_apart, station-found, stations-differ}
+use Rattle.tally_setup.proofs.NamedLemmas.{Has, Apart, Differ, apart-has, bytes_flipped, code_of_station, con-found, con-only, not_apart, station-found, stations-differ}
 use Rattle.tally_keeper.proofs.SumLemmas.{at_place, closed-total, if_closed, mapped-same, total}
 use Rattle.tally_machine_law.specs.LawfulState.{IsLawfulState}
 use Rattle.tally_store_schema.specs.Tables.{setup_tree}

@@ -90,7 +90,7 @@ fn decide_first<S: Alter>(
 {
     let found = find_return(alloc, tx, setup, station)?;
     let lists = con.lists.len();
-    Ok(decide_lodge(lists, place.electors, found.as_ref(), slip, counts))
+    Ok(decide_lodge(lists, place.entitled(), found.as_ref(), slip, counts))
 }
 
 /// Writes the first return of a station of this constituency.
@@ -156,7 +156,7 @@ fn find_lawful<S: Alter>(
     let Some(standing) = find_return(alloc, tx, setup, station)? else {
         return Ok(None);
     };
-    if !standing.is_lawful(con.lists.len(), place.electors) {
+    if !standing.is_lawful(con, place) {
         return Err(Error::SqliteFailure(ErrorCode::DatabaseCorrupt));
     }
     Ok(Some(standing))

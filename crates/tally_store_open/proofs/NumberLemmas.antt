@@ -11,7 +11,7 @@ use Rattle.tally_setup.specs.Code.{code_cmp}
 use Rattle.tally_setup.specs.Constituency.{Constituency}
 use Rattle.tally_setup.specs.Limits.{IsSetup}
 use Rattle.tally_setup.specs.Setup.{constituency_with}
-use Rattle.tally_keeper.proofs.SetupLemmas.{Has, con-found}
+use Rattle.tally_setup.proofs.NamedLemmas.{Has, con-found}
 use Rattle.tally_keeper.specs.Kept.{Kept, seats_in, state_in, view_in}
 use Rattle.tally_returns.proofs.ClosedLemmas.{same-tied, tied-same}
 use Rattle.tally_returns.specs.Progress.{is_received, is_queried, is_corrected, is_closed, count_with_status}

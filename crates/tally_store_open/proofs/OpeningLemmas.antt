@@ -25,7 +25,7 @@ use Rattle.tally_returns.specs.State.{ConState, con_state, opening, opening_con,
 use Rattle.tally_returns.specs.Return.{StationReturn}
 use Rattle.tally_returns.specs.View.{blank_of, closed_counts, counts_if_closed, spoiled_of, view_of, votes_of_lists}
 use Rattle.tally_machine_law.specs.Outcome.{HasSeats}
-use Rattle.tally_keeper.proofs.SetupLemmas.{Apart, Differ, Has, cons-differ, con-only}
+use Rattle.tally_setup.proofs.NamedLemmas.{Apart, Differ, Has, cons-differ, con-only}
 use Rattle.tally_store_schema.specs.Made.{HasEmptyTables}
 use Rattle.tally_store_schema.specs.declared.table.KeyedTable.{KeyedTable}
 use Rattle.tally_store_schema.specs.declared.table.KeyedTable.TheVariants.{Returns, Counts, Cons, Lots, Seats, Gone, Totals, Past}

@@ -34,17 +34,17 @@ not_refused con view Memory real says some right = real refl
 -- ---- a lawful view, by its parts
 
 record IsInRange (view : View) : Type 0 where
-  pub few : view.stations ≤ 5000
+  pub few : view.stations ≤ 20000
   pub first : 1 ≤ view.edition
   pub last : view.edition ≤ 9999
   pub note : is_note_or_empty view.note ≡ true
 
 in_range : (view : View) → is_in_range view ≡ true → IsInRange view
 in_range view h =
-    let note = and_parts (nat_le view.stations 5000 && nat_le 1 view.edition && nat_le view.edition 9999) (is_note_or_empty view.note) h in
-    let last = and_parts (nat_le view.stations 5000 && nat_le 1 view.edition) (nat_le view.edition 9999) note.0 in
-    let first = and_parts (nat_le view.stations 5000) (nat_le 1 view.edition) last.0 in record {
-      few = leb-true view.stations 5000 first.0;
+    let note = and_parts (nat_le view.stations 20000 && nat_le 1 view.edition && nat_le view.edition 9999) (is_note_or_empty view.note) h in
+    let last = and_parts (nat_le view.stations 20000 && nat_le 1 view.edition) (nat_le view.edition 9999) note.0 in
+    let first = and_parts (nat_le view.stations 20000) (nat_le 1 view.edition) last.0 in record {
+      few = leb-true view.stations 20000 first.0;
       first = leb-true 1 view.edition first.1;
       last = leb-true view.edition 9999 last.1;
       note = note.1;
@@ -54,9 +54,9 @@ pub frame_of : (con : Constituency) (view : View) → IsLawfulView con view → 
 frame_of con view h = record {
   fits = h.fits;
   range =
-      and_from (nat_le view.stations 5000 && nat_le 1 view.edition && nat_le view.edition 9999) (is_note_or_empty view.note)
-      (and_from (nat_le view.stations 5000 && nat_le 1 view.edition) (nat_le view.edition 9999)
-      (and_from (nat_le view.stations 5000) (nat_le 1 view.edition) (le-leb view.stations 5000 h.few) (le-leb 1 view.edition h.lawful.first)) (le-leb view.edition 9999 h.lawful.last)) h.lawful.note;
+      and_from (nat_le view.stations 20000 && nat_le 1 view.edition && nat_le view.edition 9999) (is_note_or_empty view.note)
+      (and_from (nat_le view.stations 20000 && nat_le 1 view.edition) (nat_le view.edition 9999)
+      (and_from (nat_le view.stations 20000) (nat_le 1 view.edition) (le-leb view.stations 20000 h.few) (le-leb 1 view.edition h.lawful.first)) (le-leb view.edition 9999 h.lawful.last)) h.lawful.note;
   gone = h.lawful.gone;
   past = h.lawful.past;
 }

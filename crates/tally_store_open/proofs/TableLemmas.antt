@@ -25,7 +25,7 @@ use Rattle.tally_returns.specs.Lodge.{StationLimits}
 use Rattle.tally_returns.specs.Return.{StationReturn, Returns}
 use Rattle.tally_returns.specs.State.{ConState, State, con_state, opening_con}
 use Rattle.tally_returns.specs.View.{blank_of, closed_counts, spoiled_of, votes_at, votes_of_lists}
-use Rattle.tally_keeper.proofs.SetupLemmas.{con-found, con-limits, station-found}
+use Rattle.tally_setup.proofs.NamedLemmas.{con-found, con-limits, station-found}
 use Rattle.tally_machine_law.specs.LawfulState.{IsLawfulState, IsUnderPlaces}
 use Rattle.tally_store_schema.specs.Cells.{setup_row}
 use Rattle.tally_store_schema.specs.Tables.{setup_tree}

@@ -2,11 +2,8 @@
 
 ghost use Rattle.std.specs.Prelude.{◌≡◌, All, IsTrue};
 ghost use Rattle.tally_store_open.specs.internal.Entries.{IsLawfulEntry, is_below, rises};
-ghost use Rattle.tally_returns.specs.Decide.{limits_of};
-ghost use Rattle.tally_returns.specs.Lawful.{IsLawful};
 
-use tally_returns::Return;
-use tally_setup::{Constituency, Setup, Station};
+use tally_setup::Setup;
 use tally_store_rows::ReturnFound;
 
 /// Whether the code of each station is below the next.
@@ -45,15 +42,7 @@ fn is_lawful(setup: &Setup, entry: &ReturnFound) -> bool
     ensures otherwise { IsLawfulEntry setup.now entry.now → IsTrue result }
 {
     match setup.station(entry.station) {
-        Some((con, station)) => is_lawful_at(&entry.standing, con, station),
+        Some((con, station)) => entry.standing.is_lawful(con, station),
         None => false,
     }
-}
-
-/// Whether the return is lawful at a station of a constituency.
-fn is_lawful_at(standing: &Return, con: &Constituency, station: &Station) -> bool
-    ensures lawful { IsTrue result → IsLawful (limits_of con.now station.now) standing.now }
-    ensures otherwise { IsLawful (limits_of con.now station.now) standing.now → IsTrue result }
-{
-    standing.is_lawful(con.lists.len(), station.electors)
 }

@@ -27,14 +27,7 @@ fn may_decide(con: &Constituency, found: Option<&Return>, ask: &Ask) -> bool
     let Some(standing) = found else {
         return true;
     };
-    is_lawful_at(standing, con, place)
-}
-
-/// Whether the return is lawful at a station of a constituency.
-fn is_lawful_at(standing: &Return, con: &Constituency, place: &Station) -> bool
-    ensures { IsTrue result → IsLawful (limits_of con.now place.now) standing.now }
-{
-    standing.is_lawful(con.lists.len(), place.electors)
+    standing.is_lawful(con, place)
 }
 
 fn station_of(con: &Constituency, station: Code) -> Option<&Station>

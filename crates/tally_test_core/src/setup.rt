@@ -29,6 +29,7 @@ candidates = ["Bea"]
 [[constituency.station]]
 code = "s1"
 electors = 400
+agents = 2
 "#;
 
 /// A copy of the example's constituency, as text.
@@ -38,9 +39,9 @@ const TWIN_TOWN: &str =
     entry: Double, \
     lists: [ListEntry { code: \"A\", name: \"Alpha\", candidates: [\"Ana\", \"Abel\"] }, \
     ListEntry { code: \"B\", name: \"Beta\", candidates: [\"Bea\"] }], \
-    stations: [Station { code: \"s1\", electors: 400 }] }";
+    stations: [Station { code: \"s1\", electors: 400, agents: 2 }] }";
 
-const STATION: &str = "Station { code: \"s1\", electors: 400 }";
+const STATION: &str = "Station { code: \"s1\", electors: 400, agents: 2 }";
 
 /// A copy of the constituency of a code, or the station of it, as text.
 fn found(alloc: Global, setup: &Setup, code: Code) -> Result<String, AllocError> {

@@ -1,6 +1,6 @@
 //! Scripts: commands, each with what is answered to it.
 
-use crate::setups::{entered_twice, twin_town};
+use crate::setups::{entered_twice, twin_town, with_agents};
 use std::alloc::Global;
 use std::test::Fail;
 
@@ -229,6 +229,16 @@ confirm s1 1 p1 100,100 = moved 2
 close s1 1 = stale 2
 certify c1 1 = lot of 1 2 for 1";
 
+/// At a station of 300 electors and 2 agents, whose returns are entered twice. 6 is TooManyVotes.
+const AGENTS: &str = "lodge s1 p1 150,150 1 2 = refused 6
+lodge s1 p1 150,150 1 1 = lodged 1
+confirm s1 1 p1 150,150 1 2 = refused 6
+query s1 1 sum = moved 2
+correct s1 2 p2 151,150 1 1 = refused 6
+correct s1 2 p2 150,151 0 1 = moved 3
+confirm s1 3 p2 150,151 0 1 = moved 4
+show c1 = open 1 0 0 0 1/1 [150, 151] 0 1 [] []";
+
 /// Setups as text, each with a script.
 pub fn setups_and_scripts(alloc: Global) -> Result<Vec<(String, &'static str)>, Fail> {
     let mut scripts = Vec::new(alloc);
@@ -237,5 +247,6 @@ pub fn setups_and_scripts(alloc: Global) -> Result<Vec<(String, &'static str)>, 
     }
     scripts.push((String::from_str(alloc, RIVERS)?, HARE))?;
     scripts.push((entered_twice(alloc)?, ENTERED_TWICE))?;
+    scripts.push((with_agents(alloc)?, AGENTS))?;
     Ok(scripts)
 }

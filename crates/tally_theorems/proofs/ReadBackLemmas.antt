@@ -18,7 +18,7 @@ use Rattle.csv.specs.Writing.{default_writer, escaped, field_text, fields_text, 
 use Rattle.csv.specs.declared.parser.State.TheVariants as st
 use Rattle.csv.proofs.RoundTrip.{read-write}
 use Rattle.tally_setup.specs.Code.{code_cmp, is_code}
-use Rattle.tally_setup.specs.Constituency.{Constituency, ListEntry, list_codes}
+use Rattle.tally_setup.specs.Constituency.{Constituency, ListEntry, list_codes, entitled}
 use Rattle.tally_setup.specs.Limits.{IsConstituency, IsListEntry, IsStation}
 use Rattle.tally_setup.specs.declared.constituency.Station.{Station}
 use Rattle.tally_setup.proofs.CodeLemmas.{length-code}
@@ -37,7 +37,7 @@ use Rattle.tally_returns.specs.declared.reply.LodgeReply.{LodgeReply}
 use Rattle.tally_returns.specs.declared.reply.LodgeReply.TheVariants.{Lodged, Same}
 use Rattle.tally_returns.specs.declared.station_row.StationRow.{StationRow}
 use Rattle.tally_returns.proofs.ClosedLemmas.{get-kept, get-put}
-use Rattle.tally_keeper.proofs.SetupLemmas.{Apart, Differ, Has, all-has, apart-has, bytes_flipped, bytes_same, code_of_station, con-found, con-limits, found-has, station-only, stations-differ}
+use Rattle.tally_setup.proofs.NamedLemmas.{Apart, Differ, Has, all-has, apart-has, bytes_flipped, bytes_same, code_of_station, con-found, con-limits, found-has, station-only, stations-differ}
 use Rattle.tally_keeper.specs.Import.{RowAnswer, after_row, answers, count_of, first_note, is_bad, is_differing, is_lodged, is_refused, is_same, note_at, note_number, or_else, returns_after_import}
 use Rattle.tally_keeper.specs.Source.{Coming, row_limit}
 use Rattle.tally_keeper.specs.declared.import.FirstRow.{FirstRow}
@@ -112,14 +112,6 @@ Short : List (List ℕ) → Type 0
 Short [] = Unit {0}
 Short (x ∷ xs) = (length x ≤ 16) × Short xs
 
-short-numbers : (ns : List ℕ) → list_all is_number ns ≡ true → Short (map decimal ns)
-unfolding Short
-short-numbers [] all = tt
-short-numbers (n ∷ ns) all =
-    let both = and_parts (is_number n) (list_all is_number ns) all in
-    let short = decimal-short n (leb-true n 1000000 both.0) in
-    (omega (arith, short), short-numbers ns both.1)
-
 short-codes : (lists : List ListEntry) → All IsListEntry lists → Short (list_codes lists)
 unfolding Short
 short-codes [] all = tt
@@ -146,6 +138,55 @@ field-length x short = go (needs_quotes default_writer x)
     go : (needs : Bool) → length (if needs then 34 ∷ (escaped default_writer x ++ (34 ∷ [])) else x) ≤ 34
     go true = omega (arith, escaped-length x, length-append (escaped default_writer x) (34 ∷ []))
     go false = omega (arith, short)
+
+-- a digit is no quote
+no-quote : (b : ℕ) → is_ascii_digit b ≡ true → (b == 34) ≡ false
+no-quote b digit = go (b == 34) refl
+  where
+    go : (same : Bool) → (b == 34) ≡ same → same ≡ false
+    go true is =
+        let at : b ≡ 34 = eqb-true b 34 is in
+        let low : 48 ≤ b = leb-true 48 b (and_parts _ _ digit).0 in
+        absurd (omega (arith, at, low))
+    go false is = refl
+
+digits-escaped : (x : List ℕ) → list_all is_ascii_digit x ≡ true → length (escaped default_writer x) ≤ length x
+unfolding escaped
+digits-escaped [] all = omega arith
+digits-escaped (b ∷ rest) all =
+    let both = and_parts (is_ascii_digit b) (list_all is_ascii_digit rest) all in
+    go (b == 34) (no-quote b both.0) (digits-escaped rest both.1)
+  where
+    go : (same : Bool) → same ≡ false → length (escaped default_writer rest) ≤ length rest
+        → length (if same then 34 ∷ b ∷ escaped default_writer rest else b ∷ escaped default_writer rest) ≤ length (b ∷ rest)
+    go true is less = cc
+    go false is less = omega (arith, less)
+
+number-field : (n : ℕ) → n ≤ 1000000 → length (field_text default_writer (decimal n)) ≤ 9
+number-field n few = go (needs_quotes default_writer (decimal n))
+  where
+    short : length (decimal n) ≤ 7
+    short = length-decimal-le 7 n (omega arith) (omega arith) (omega arith)
+
+    go : (needs : Bool) → length (if needs then 34 ∷ (escaped default_writer (decimal n) ++ (34 ∷ [])) else decimal n) ≤ 9
+    go true = omega (arith, digits-escaped (decimal n) (decimal-writes n few).0, short, length-append (escaped default_writer (decimal n)) (34 ∷ []))
+    go false = omega (arith, short)
+
+fields-more : (x : List ℕ) (xs : List (List ℕ)) (a b : ℕ) → length (field_text default_writer x) ≤ a → length (fields_text default_writer xs) ≤ b
+    → length (fields_text default_writer (x ∷ xs)) ≤ a + 1 + b
+unfolding fields_text
+fields-more x xs a b first rest = omega (arith, first, rest, length-append (field_text default_writer x) (fields_text default_writer xs))
+
+no-fields : length (fields_text default_writer []) ≤ 0
+unfolding fields_text
+no-fields = omega arith
+
+numbers-fields : (ns : List ℕ) → list_all is_number ns ≡ true → length (fields_text default_writer (map decimal ns)) ≤ 10 * length ns
+numbers-fields [] all = no-fields
+numbers-fields (n ∷ ns) all =
+    let both = and_parts (is_number n) (list_all is_number ns) all in
+    let more = fields-more (decimal n) (map decimal ns) 9 (10 * length ns) (number-field n (leb-true n 1000000 both.0)) (numbers-fields ns both.1) in
+    omega (arith, more)
 
 fields-length : (xs : List (List ℕ)) → Short xs → length (fields_text default_writer xs) ≤ 35 * length xs
 unfolding Short fields_text
@@ -194,23 +235,29 @@ row-some x xs =
       length-append (field_text default_writer x ++ fields_text default_writer xs) (end_of (is_blank default_writer (x ∷ xs))),
     )
 
--- each record has a field, and few, which are short
-Fit : List (List (List ℕ)) → Type 0
-Fit [] = Unit {0}
-Fit ([] ∷ records) = ⊥
-Fit ((x ∷ xs) ∷ records) = IsShort (x ∷ xs) × Fit records
+-- each record has a field, and at most so many bytes as a row
+Fit : ℕ → List (List (List ℕ)) → Type 0
+Fit most [] = Unit {0}
+Fit most ([] ∷ records) = ⊥
+Fit most ((x ∷ xs) ∷ records) = (length (row_text default_writer (x ∷ xs)) ≤ most) × Fit most records
+
+fit-wider : (most : ℕ) (records : List (List (List ℕ))) → most ≤ 2300 → Fit most records → Fit 2300 records
+unfolding Fit
+fit-wider most [] more fit = tt
+fit-wider most ([] ∷ records) more fit = absurd fit
+fit-wider most ((x ∷ xs) ∷ records) more fit = (omega (arith, more, fit.0), fit-wider most records more fit.1)
 
 abbrev text_of : List (List (List ℕ)) → List ℕ
 text_of records = flat_map (row_text default_writer) records
 
-text-length : (records : List (List (List ℕ))) → Fit records → length (text_of records) ≤ 2300 * length records
+text-length : (records : List (List (List ℕ))) → Fit 700 records → length (text_of records) ≤ 700 * length records
 unfolding Fit
 text-length [] fit = omega arith
 text-length ([] ∷ records) fit = absurd fit
 text-length ((x ∷ xs) ∷ records) fit =
-    omega (arith, row-length x xs fit.0, text-length records fit.1, length-append (row_text default_writer (x ∷ xs)) (text_of records))
+    omega (arith, fit.0, text-length records fit.1, length-append (row_text default_writer (x ∷ xs)) (text_of records))
 
-text-some : (records : List (List (List ℕ))) → Fit records → length records ≤ length (text_of records)
+text-some : (records : List (List (List ℕ))) → Fit 2300 records → length records ≤ length (text_of records)
 unfolding Fit
 text-some [] fit = omega arith
 text-some ([] ∷ records) fit = absurd fit
@@ -219,7 +266,7 @@ text-some ((x ∷ xs) ∷ records) fit =
 
 -- ---- the records of a text that was written
 
-written-read : (records : List (List (List ℕ))) (n : ℕ) → Fit records → length records ≤ n → records_from default_config n st.StartRecord (text_of records) ≡ records
+written-read : (records : List (List (List ℕ))) (n : ℕ) → Fit 2300 records → length records ≤ n → records_from default_config n st.StartRecord (text_of records) ≡ records
 unfolding records_from Fit
 written-read [] n fit enough = records_from-nothing default_config n st.StartRecord refl
 written-read ([] ∷ records) n fit enough = absurd fit
@@ -233,10 +280,11 @@ no-mark : (fields : List (List ℕ)) (tail : List ℕ) → strip_bom (row_text d
 unfolding strip_bom
 no-mark fields tail = refl
 
-text-read : (fields : List (List ℕ)) (records : List (List (List ℕ))) → Fit ((codes "station" ∷ fields) ∷ records) → length records ≤ 5000
+text-read : (fields : List (List ℕ)) (records : List (List (List ℕ))) → IsShort (codes "station" ∷ fields) → Fit 700 records → length records ≤ 20000
     → (text_records Comma (text_of ((codes "station" ∷ fields) ∷ records)) ≡ (codes "station" ∷ fields) ∷ records)
     × (text_stop (text_of ((codes "station" ∷ fields) ∷ records)) ≡ None)
-text-read fields records fit few = (
+unfolding Fit
+text-read fields records short rows few = (
   ap (λ t. complete_records Comma t (text_stop text)) (take_all size_limit text within)
       ∙ ap (complete_records Comma text) stop
       ∙ ap (λ t. records_from default_config (length t + 1) st.StartRecord t) (no-mark fields (text_of records))
@@ -247,11 +295,17 @@ text-read fields records fit few = (
     all : List (List (List ℕ))
     all = (codes "station" ∷ fields) ∷ records
 
+    fit : Fit 2300 all
+    fit = (row-length (codes "station") fields short, fit-wider 700 records (omega arith) rows)
+
     text : List ℕ
     text = text_of all
 
     within : length text ≤ size_limit
-    within = let long = text-length all fit in omega (arith, long)
+    within =
+        let long = text-length records rows in
+        let first = row-length (codes "station") fields short in
+        omega (arith, long, first, few, length-append (row_text default_writer (codes "station" ∷ fields)) (text_of records))
 
     stop : text_stop text ≡ None
     stop = ap (λ b. if b then Some stopped.TooLong else None) (le-ltb size_limit (length text) within)
@@ -330,25 +384,35 @@ rows-read con returns (x ∷ xs) good = go (fin.get returns x.code) refl (rows-r
 
 -- the records are few and short
 return-short : (con : Constituency) (returns : Returns) (x : Station) (standing : StationReturn) → length con.lists ≤ 60 → IsGood con returns x → fin.get returns x.code ≡ Some standing
-    → IsShort (return_fields x.code standing)
-unfolding Short
+    → length (row_text default_writer (return_fields x.code standing)) ≤ 700
 return-short con returns x standing few good is =
     let lawful = good.lawful standing is in
-    let parts = counts-parts (length con.lists) standing.counts lawful.counts in
-    let blank = decimal-short standing.counts.blank parts.blank in
-    let spoiled = decimal-short standing.counts.spoiled parts.spoiled in
-    let many : length standing.counts.votes ≡ length con.lists = eqb-true _ _ parts.many in (
-      (length-code x.code good.station.code, (length-code standing.slip lawful.slip, (omega (arith, blank), (omega (arith, spoiled), short-numbers standing.counts.votes parts.votes)))),
-      omega (arith, numbers-length standing.counts.votes, many, few),
+    let counts = standing.counts in
+    let parts = counts-parts (length con.lists) counts lawful.counts in
+    let many : length counts.votes ≡ length con.lists = eqb-true _ _ parts.many in
+    let spoiled = fields-more (decimal counts.spoiled) (map decimal counts.votes) 9 (10 * length counts.votes) (number-field counts.spoiled parts.spoiled) (numbers-fields counts.votes parts.votes) in
+    let blank = fields-more (decimal counts.blank) _ 9 _ (number-field counts.blank parts.blank) spoiled in
+    let slip = fields-more standing.slip _ 34 _ (field-length standing.slip (length-code standing.slip lawful.slip)) blank in
+    let first = field-length x.code (length-code x.code good.station.code) in
+    let rest = decimal counts.blank ∷ decimal counts.spoiled ∷ map decimal counts.votes in
+    omega (
+      arith,
+      first,
+      slip,
+      many,
+      few,
+      end-length (is_blank default_writer (x.code ∷ standing.slip ∷ rest)),
+      length-append (field_text default_writer x.code) (fields_text default_writer (standing.slip ∷ rest)),
+      length-append (field_text default_writer x.code ++ fields_text default_writer (standing.slip ∷ rest)) (end_of (is_blank default_writer (x.code ∷ standing.slip ∷ rest))),
     )
 
-records-fit : (con : Constituency) (returns : Returns) (xs : List Station) → length con.lists ≤ 60 → AllGood con returns xs → Fit (records_in returns xs) × (length (records_in returns xs) ≤ length xs)
+records-fit : (con : Constituency) (returns : Returns) (xs : List Station) → length con.lists ≤ 60 → AllGood con returns xs → Fit 700 (records_in returns xs) × (length (records_in returns xs) ≤ length xs)
 unfolding Fit
 records-fit con returns [] few good = (tt, omega arith)
 records-fit con returns (x ∷ xs) few good = go (fin.get returns x.code) refl (records-fit con returns xs few (λ y has. good y (inr has)))
   where
-    go : (o : Option StationReturn) → fin.get returns x.code ≡ o → Fit (records_in returns xs) × (length (records_in returns xs) ≤ length xs)
-        → Fit (record_of (row_at x o) ++ records_in returns xs)
+    go : (o : Option StationReturn) → fin.get returns x.code ≡ o → Fit 700 (records_in returns xs) × (length (records_in returns xs) ≤ length xs)
+        → Fit 700 (record_of (row_at x o) ++ records_in returns xs)
         × (length (record_of (row_at x o) ++ records_in returns xs) ≤ suc (length xs))
     go None is rest = (rest.0, omega (arith, rest.1))
     go (Some standing) is rest = ((return-short con returns x standing few (good x (inl refl)) is, rest.0), omega (arith, rest.1))
@@ -374,7 +438,6 @@ abbrev coming : List Row → Option ImportFault → Coming
 coming rows fault = record { rows = rows; fault = fault }
 
 pub read-back : ReturnsAreReadBack
-unfolding Fit
 read-back setup s con it =
     ap (λ all. records_coming con all (text_stop text)) read.0
     ∙ ap (λ stop. records_coming con (header_fields con ∷ records) stop) read.1
@@ -395,17 +458,14 @@ read-back setup s con it =
     text : List ℕ
     text = returns_text con (rows_in s con)
 
-    fit : Fit records × (length records ≤ length con.stations)
+    fit : Fit 700 records × (length records ≤ length con.stations)
     fit = records-fit con s.returns con.stations limits.lists good
 
-    many : length records ≤ 5000
+    many : length records ≤ 20000
     many = let few = limits.stations in omega (arith, fit.1, few)
 
-    all-fit : Fit (header_fields con ∷ records)
-    all-fit = (header-short con limits, fit.0)
-
     read : (text_records Comma text ≡ header_fields con ∷ records) × (text_stop text ≡ None)
-    read = text-read (codes "slip" ∷ codes "blank" ∷ codes "spoiled" ∷ list_codes con.lists) records all-fit many
+    read = text-read (codes "slip" ∷ codes "blank" ∷ codes "spoiled" ∷ list_codes con.lists) records (header-short con limits) fit.0 many
 
 -- ---- an import into an office without returns
 
@@ -426,8 +486,8 @@ lodged-one : (stations : Stations) (m returns : Returns) (con : Constituency) (x
 lodged-one stations m returns con x standing ready is =
     ap (λ o. reply_at_code o (fin.get m x.code) standing.slip standing.counts) ready.known
     ∙ ap (λ found. reply_at_code (Some (limits_of con x)) found standing.slip standing.counts) ready.free
-    ∙ ap (λ b. refused_or (first_refusal (check b BadCounts ∷ check (nat_le (all_votes standing.counts) x.electors) TooManyVotes ∷ [])) (Ok (Lodged 1))) (ready.lawful standing is).counts
-    ∙ ap (λ b. refused_or (first_refusal (None ∷ check b TooManyVotes ∷ [])) (Ok (Lodged 1))) (le-leb (all_votes standing.counts) x.electors (ready.lawful standing is).votes)
+    ∙ ap (λ b. refused_or (first_refusal (check b BadCounts ∷ check (nat_le (all_votes standing.counts) (entitled x)) TooManyVotes ∷ [])) (Ok (Lodged 1))) (ready.lawful standing is).counts
+    ∙ ap (λ b. refused_or (first_refusal (None ∷ check b TooManyVotes ∷ [])) (Ok (Lodged 1))) (le-leb (all_votes standing.counts) (entitled x) (ready.lawful standing is).votes)
 
 lodge-here : (stations : Stations) (m : Returns) (station slip : List ℕ) (counts : VoteCounts) → lodge_answer stations m station slip counts ≡ Ok (Lodged 1)
     → fin.get (lodge stations m station slip counts) station ≡ Some (first_return slip counts)

@@ -81,7 +81,7 @@ pub(super) fn decide_first(
         return Err(Refusal::NoStation);
     };
     let found = ledger.return_at(station);
-    decide_lodge(con.lists.len(), place.electors, found, slip, counts)
+    decide_lodge(con.lists.len(), place.entitled(), found, slip, counts)
 }
 
 /// Query, Correct, Close and Confirm.

@@ -29,10 +29,12 @@ key_name key.Constituency = codes "constituency"
 key_name key.Name = codes "name"
 key_name key.Seats = codes "seats"
 key_name key.Entry = codes "entry"
+key_name key.Size = codes "size"
 key_name key.List = codes "list"
 key_name key.Candidates = codes "candidates"
 key_name key.Station = codes "station"
 key_name key.Electors = codes "electors"
+key_name key.Agents = codes "agents"
 
 -- the fault of a key that reading comes to, or out of memory
 abbrev pub IsFoundIn : {A : Type 0} → Result A Fault → Found → Type 0

@@ -1,21 +1,22 @@
 //! The entries of the arrays of a setup.
 
 ghost use Rattle.std.specs.Prelude.{◌≡◌, ◌≤◌, ◌<◌, ◌^◌, ◌++◌, ◌∷◌, [], All, Ok, IfOk, IfErr};
-ghost use Rattle.std.specs.Prelude.{OnOk, length, map, string_bytes, true};
+ghost use Rattle.std.specs.Prelude.{OnOk, length, map, string_bytes, sum_by, true};
 ghost use Rattle.std.specs.List.{list_all};
 ghost use Rattle.toml.specs.View.{view};
-ghost use Rattle.tally_frac.specs.Limits.{most_lists};
+ghost use Rattle.tally_frac.specs.Limits.{most_lists, most_votes};
 ghost use Rattle.tally_setup.specs.Code.{is_code};
 ghost use Rattle.tally_setup.specs.Codes.{AreDistinct};
-ghost use Rattle.tally_setup.specs.Constituency.{list_codes, station_codes};
+ghost use Rattle.tally_setup.specs.Constituency.{entitled, list_codes, station_codes};
 ghost use Rattle.tally_setup.specs.Limits.{IsConstituency, IsListEntry, IsStation};
-ghost use Rattle.tally_setup.specs.Limits.{most_candidates, most_stations};
+ghost use Rattle.tally_setup.specs.Limits.{most_candidates};
 ghost use Rattle.tally_rules.specs.internal.Found.{first_found, key_name, IsFoundIn, is_kind};
 ghost use Rattle.tally_rules.specs.internal.Found.{IsPlacedIn};
 ghost use Rattle.tally_rules.specs.Place.{in_entry};
 ghost use Rattle.tally_rules.specs.Reading.{candidate, constituency_entry, first_in};
 ghost use Rattle.tally_rules.specs.Reading.{first_station, list_entry, next_code, read_array};
-ghost use Rattle.tally_rules.specs.Reading.{read_candidates, read_lists, read_stations};
+ghost use Rattle.tally_rules.specs.Reading.{read_candidates, read_each_station, read_lists};
+ghost use Rattle.tally_rules.specs.Reading.{read_stations, station_coded, with_few_entitled};
 ghost use Rattle.tally_rules.specs.Reading.{rest_of_constituency, rest_of_list, rest_of_station};
 ghost use Rattle.tally_rules.specs.Reading.{station_entry, station_way};
 ghost use Rattle.tally_setup.specs.Setup.{all_station_codes, constituency_codes};
@@ -24,13 +25,14 @@ ghost use Rattle.tally_setup.specs.Text.{IsName};
 use crate::place::{Holder, Place, SetupArray, Way};
 use crate::read::fault::{Key, KeyFault, PlacedFault, in_entry};
 use crate::read::key::{
-    name_from, new_code, read_code, read_entry, read_name, read_number, read_value,
+    name_from, new_code, read_agents, read_code, read_entry, read_name, read_number,
+    read_station_limit, read_value,
 };
 use crate::read::profile::Profiles;
 use std::alloc::Global;
 use tally_frac::{MOST_LISTS, MOST_SEATS};
 use tally_setup::{
-    Code, Codes, Constituency, ListEntry, MOST_CANDIDATES, MOST_ELECTORS, MOST_STATIONS, Station,
+    Code, Codes, Constituency, ListEntry, MOST_CANDIDATES, MOST_ELECTORS, Station, are_few_entitled,
 };
 use toml::Value;
 
@@ -181,6 +183,24 @@ fn first_station(
     }
 }
 
+/// What an entry of `station` has beside its code.
+#[tactic(auto, unfolding(crate::specs::Reading::station_coded))]
+fn station_coded(entry: &Value, code: Code) -> Result<Station, KeyFault>
+    requires { is_code code ≡ true }
+    ensures station { IfOk result (λ station. station_coded code (view entry.now) ≡ Ok station) }
+    ensures code { IfOk result (λ station. station.code ≡ code) }
+    ensures limits { IfOk result IsStation }
+    ensures fault { IfErr result (IsFoundIn (station_coded code (view entry.now))) }
+{
+    let electors = read_number(entry, Key::Electors, 1, MOST_ELECTORS)?;
+    let agents = read_agents(entry, electors)?;
+    Ok(Station {
+        code,
+        electors,
+        agents,
+    })
+}
+
 /// What an entry of `station` has beside its code, of this number and code.
 #[tactic(auto, unfolding(crate::specs::Reading::rest_of_station))]
 fn rest_of_station(
@@ -197,14 +217,7 @@ fn rest_of_station(
     ensures fault { IfErr result
         (IsPlacedIn (rest_of_station con.now number code (view entry.now))) }
 {
-    let here = con.stations().coded(number, code);
-    match read_number(entry, Key::Electors, 1, MOST_ELECTORS) {
-        Ok(electors) => Ok(Station { code, electors }),
-        Err(fault) => Err(PlacedFault {
-            fault,
-            place: Some(Place::Entry(here, None)),
-        }),
-    }
+    in_entry(&con.stations().coded(number, code), station_coded(entry, code))
 }
 
 /// An entry of `station` of a constituency, after these constituencies and these stations, whose
@@ -240,35 +253,85 @@ fn station_entry(
     }
 }
 
-/// The stations of a constituency after these, whose codes are added to those taken.
-#[tactic(auto, unfolding(crate::specs::Reading::read_stations))]
-fn read_stations(
+/// Each entry of `station` of a constituency with at most so many, after these constituencies. The
+/// codes of its stations are added to those taken.
+#[tactic(auto, unfolding(crate::specs::Reading::read_each_station))]
+fn read_each_station(
     alloc: Global,
     entry: &Value,
     before: &[Constituency],
     con: &Holder,
+    limit: usize,
     taken: &mut Codes,
 ) -> Result<Vec<Station>, PlacedFault>
     requires taken { taken.old ≡ all_station_codes before.now }
     requires distinct { AreDistinct taken.old }
     ensures stations { IfOk result (λ stations.
-        read_stations before.now con.now (view entry.now) ≡ Ok stations.items) }
+        read_each_station before.now con.now limit (view entry.now) ≡ Ok stations.items) }
     ensures taken { IfOk result (λ stations.
         taken.new ≡ taken.old ++ station_codes stations.items) }
     ensures distinct { OnOk result (AreDistinct taken.new) }
     ensures some { IfOk result (λ stations. 1 ≤ length stations.items) }
-    ensures limit { IfOk result (λ stations. length stations.items ≤ most_stations) }
+    ensures limit { IfOk result (λ stations. length stations.items ≤ limit) }
     ensures each { IfOk result (λ stations. All IsStation stations.items) }
-    ensures fault { IfErr result (IsPlacedIn (read_stations before.now con.now (view entry.now))) }
+    ensures fault { IfErr result
+        (IsPlacedIn (read_each_station before.now con.now limit (view entry.now))) }
 {
     let here = con.constituency_way();
-    let entries = array_in(entry, &here, Key::Station, Kind::Table, MOST_STATIONS)?;
+    let entries = array_in(entry, &here, Key::Station, Kind::Table, limit)?;
     let mut stations = Vec::with_capacity(alloc, entries.len())?;
     for station in entries {
         let station = station_entry(station, before, con, &stations, taken)?;
         stations.push_reserved(station);
     }
     Ok(stations)
+}
+
+/// Those stations, where at most 5,000,000,000 may vote at them.
+fn with_few_entitled(con: &Holder, stations: Vec<Station>) -> Result<Vec<Station>, PlacedFault>
+    ensures stations { IfOk result (λ s. with_few_entitled con.now stations.items ≡ Ok s.items) }
+    ensures same { IfOk result (λ s. s.items ≡ stations.items) }
+    ensures few { IfOk result (λ s. sum_by entitled s.items ≤ most_votes) }
+    ensures fault { IfErr result (IsPlacedIn (with_few_entitled con.now stations.items)) }
+{
+    if are_few_entitled(&stations) {
+        return Ok(stations);
+    }
+    Err(PlacedFault {
+        fault: KeyFault::OverLimit(Key::Electors),
+        place: Some(Place::Entry(con.constituency_way(), None)),
+    })
+}
+
+/// The stations of a constituency with at most so many, after these constituencies, whose codes are
+/// added to those taken.
+#[tactic(auto, unfolding(crate::specs::Reading::read_stations))]
+fn read_stations(
+    alloc: Global,
+    entry: &Value,
+    before: &[Constituency],
+    con: &Holder,
+    limit: usize,
+    taken: &mut Codes,
+) -> Result<Vec<Station>, PlacedFault>
+    requires taken { taken.old ≡ all_station_codes before.now }
+    requires distinct { AreDistinct taken.old }
+    ensures stations { IfOk result (λ stations.
+        read_stations before.now con.now limit (view entry.now) ≡ Ok stations.items) }
+    ensures taken { IfOk result (λ stations.
+        taken.new ≡ taken.old ++ station_codes stations.items) }
+    ensures distinct { OnOk result (AreDistinct taken.new) }
+    ensures some { IfOk result (λ stations. 1 ≤ length stations.items) }
+    ensures limit { IfOk result (λ stations. length stations.items ≤ limit) }
+    ensures each { IfOk result (λ stations. All IsStation stations.items) }
+    ensures few { IfOk result (λ stations. sum_by entitled stations.items ≤ most_votes) }
+    ensures fault { IfErr result
+        (IsPlacedIn (read_stations before.now con.now limit (view entry.now))) }
+{
+    match read_each_station(alloc, entry, before, con, limit, taken) {
+        Ok(stations) => with_few_entitled(con, stations),
+        Err(fault) => Err(fault),
+    }
 }
 
 /// The name of the candidate of a number.
@@ -403,15 +466,18 @@ fn rest_of_constituency(
     let seats = in_entry(&here, read_number(entry, Key::Seats, 1, MOST_SEATS))?;
     let profile_code = in_entry(&here, read_code(entry, Key::Profile))?;
     let profile = profiles.find(profile_code).ok_or(KeyFault::UnknownProfile);
+    let profile = in_entry(&here, profile)?;
+    let needed = in_entry(&here, read_entry(entry))?;
+    let limit = in_entry(&here, read_station_limit(entry))?;
     Ok(Constituency {
         code: con.code,
         name,
         seats,
         profile_code,
-        profile: in_entry(&here, profile)?,
-        entry: in_entry(&here, read_entry(entry))?,
+        profile,
+        entry: needed,
         lists: read_lists(alloc, entry, con)?,
-        stations: read_stations(alloc, entry, before, con, stations)?,
+        stations: read_stations(alloc, entry, before, con, limit, stations)?,
     })
 }
 

@@ -27,10 +27,12 @@ pub(super) enum Key {
     Name,
     Seats,
     Entry,
+    Size,
     List,
     Candidates,
     Station,
     Electors,
+    Agents,
 }
 
 impl Key {
@@ -49,10 +51,12 @@ impl Key {
             Key::Name => "name",
             Key::Seats => "seats",
             Key::Entry => "entry",
+            Key::Size => "size",
             Key::List => "list",
             Key::Candidates => "candidates",
             Key::Station => "station",
             Key::Electors => "electors",
+            Key::Agents => "agents",
         }
     }
 }

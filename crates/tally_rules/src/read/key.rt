@@ -1,13 +1,15 @@
 //! The keys of an entry.
 
-ghost use Rattle.std.specs.Prelude.{◌≡◌, ◌≢◌, ◌≤◌, ◌++◌, ◌∷◌, [], true, Ok, IfOk, IfErr, OnOk};
+ghost use Rattle.std.specs.Prelude.{◌≡◌, ◌≢◌, ◌≤◌, ◌+◌, ◌++◌, ◌∷◌, [], true, Ok, IfOk, IfErr};
+ghost use Rattle.std.specs.Prelude.{OnOk};
 ghost use Rattle.std.specs.Prelude.{string_bytes};
 ghost use Rattle.toml.specs.View.{view};
 ghost use Rattle.tally_setup.specs.Code.{is_code};
 ghost use Rattle.tally_setup.specs.Codes.{AreDistinct};
+ghost use Rattle.tally_setup.specs.Limits.{most_agents, most_electors, most_stations};
 ghost use Rattle.tally_rules.specs.internal.Found.{key_name, IsFoundIn};
 ghost use Rattle.tally_rules.specs.Reading.{read_base, read_code, read_entry, read_lot_rule};
-ghost use Rattle.tally_rules.specs.Reading.{read_method};
+ghost use Rattle.tally_rules.specs.Reading.{read_agents, read_method, read_station_limit};
 ghost use Rattle.tally_rules.specs.Reading.{name_from, read_name, new_code, read_number, number_in};
 ghost use Rattle.tally_rules.specs.Reading.{read_text, read_value};
 ghost use Rattle.tally_setup.specs.Text.{IsName};
@@ -15,7 +17,10 @@ ghost use Rattle.tally_rules.specs.declared.read.fault.KeyFault.TheVariants.{Mem
 
 use crate::read::fault::{Key, KeyFault};
 use std::alloc::Global;
-use tally_setup::{Base, Code, Codes, Entry, LotRule, Method, good_name};
+use tally_setup::{
+    Base, Code, Codes, Entry, LotRule, MOST_AGENTS, MOST_ELECTORS, MOST_NORMAL_STATIONS,
+    MOST_STATIONS, Method, good_name,
+};
 use toml::Value;
 
 /// The value of a key.
@@ -171,5 +176,43 @@ pub(super) fn read_entry(con: &Value) -> Result<Entry, KeyFault>
         "single" => Ok(Entry::Single),
         "double" => Ok(Entry::Double),
         _ => Err(KeyFault::BadValue(Key::Entry)),
+    }
+}
+
+/// How many stations the constituency may have: 5,000, unless it says that it is large.
+#[tactic(auto, unfolding(crate::specs::Reading::read_station_limit))]
+pub(super) fn read_station_limit(con: &Value) -> Result<usize, KeyFault>
+    ensures limit { IfOk result (λ limit. read_station_limit (view con.now) ≡ Ok limit) }
+    ensures most { IfOk result (λ limit. limit ≤ most_stations) }
+    ensures fault { IfErr result (IsFoundIn (read_station_limit (view con.now))) }
+{
+    if con.get(Key::Size.name()).is_none() {
+        return Ok(MOST_NORMAL_STATIONS);
+    }
+    match read_text(con, Key::Size)? {
+        "normal" => Ok(MOST_NORMAL_STATIONS),
+        "large" => Ok(MOST_STATIONS),
+        _ => Err(KeyFault::BadValue(Key::Size)),
+    }
+}
+
+/// The agents of lists who vote at a station with these electors: none, unless it says how many.
+#[tactic(auto, unfolding(crate::specs::Reading::read_agents))]
+pub(super) fn read_agents(station: &Value, electors: u32) -> Result<u32, KeyFault>
+    requires { electors ≤ most_electors }
+    ensures agents { IfOk result (λ agents.
+        read_agents electors (view station.now) ≡ Ok agents) }
+    ensures limit { IfOk result (λ agents. agents ≤ most_agents) }
+    ensures together { IfOk result (λ agents. electors + agents ≤ most_electors) }
+    ensures fault { IfErr result (IsFoundIn (read_agents electors (view station.now))) }
+{
+    if station.get(Key::Agents.name()).is_none() {
+        return Ok(0);
+    }
+    let agents = read_number(station, Key::Agents, 0, MOST_AGENTS)?;
+    if electors + agents <= MOST_ELECTORS {
+        Ok(agents)
+    } else {
+        Err(KeyFault::BadValue(Key::Agents))
     }
 }

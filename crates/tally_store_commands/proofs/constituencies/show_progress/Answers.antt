@@ -12,7 +12,7 @@ use Rattle.tally_setup.specs.Constituency.{Constituency}
 use Rattle.tally_setup.specs.Setup.{constituency_with}
 use Rattle.tally_store_entries.proofs.FindLemmas.{inside_still}
 use Rattle.tally_store_schema.proofs.StaysLemmas.{clean_first}
-use Rattle.tally_keeper.proofs.SetupLemmas.{Has, con-only, has-at}
+use Rattle.tally_setup.proofs.NamedLemmas.{Has, con-only, has-at}
 use Rattle.tally_store_schema.specs.internal.Inside.{IsOpenInside}
 use Rattle.tally_store_schema.specs.Office.{IsInside}
 use Rattle.tally_store_commands.specs.internal.Known.{AreKnown, known_of}

@@ -13,7 +13,7 @@ returns-clause-decided g c clean inside text s lawful tables =
     let lists = c.len-lists.result in
     let same : length c.con.inside.lists.items ≡ length con.lists = ap (λ (k : Constituency). length k.lists) c.con.view_is in
     let many : lists ≡ length con.lists = omega (arith, same, c.len-lists.ensures, c.con.inside.lists.ok.0) in
-    decided-is c.args.setup.now text s c.args.station c.args.slip c.args.counts.now con c.args.place.now lists (state g.S.Store c.args.tx.now.conn.now) c.in_ok-found.found (option_copied c.as_ref.result) c.decide_lodge.result c.requires.limits lawful tables c.requires.known many
+    decided-is c.args.setup.now text s c.args.station c.args.slip c.args.counts.now con c.args.place.now lists c.entitled.result (state g.S.Store c.args.tx.now.conn.now) c.in_ok-found.found (option_copied c.as_ref.result) c.decide_lodge.result c.requires.limits lawful tables c.requires.known many c.entitled.ensures
     (c.in_ok-found.ensures.found clean inside) c.as_ref.ensures.value c.decide_lodge.ensures
 
 pub decide_lodge-requires : goal.decide_lodge-requires
@@ -34,4 +34,4 @@ returns-clause-few g c rev lodged =
     let con = c.args.con.now in
     let same : length c.con.inside.lists.items ≡ length con.lists = ap (λ (k : Constituency). length k.lists) c.con.view_is in
     let few = few-lists c.args.setup.now c.args.station con c.args.place.now c.requires.limits c.requires.known in
-    reply-few c.len-lists.result c.args.place.now.electors (option_copied c.as_ref.result) c.args.slip c.args.counts.now c.decide_lodge.result rev c.decide_lodge.ensures (omega (arith, same, few, c.len-lists.ensures, c.con.inside.lists.ok.0)) lodged
+    reply-few c.len-lists.result c.entitled.result (option_copied c.as_ref.result) c.args.slip c.args.counts.now c.decide_lodge.result rev c.decide_lodge.ensures (omega (arith, same, few, c.len-lists.ensures, c.con.inside.lists.ok.0)) lodged

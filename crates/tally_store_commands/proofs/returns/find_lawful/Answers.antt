@@ -1,10 +1,9 @@
-use Rattle.std.proofs.Common.{◌≡◌, IsTrue, length, rules, subst}
+use Rattle.std.proofs.Common.{◌≡◌, IsTrue, rules, subst}
 use Rattle.sqlite.specs.Held.{state}
 use Rattle.tally_store_entries.proofs.LookLemmas.{look_as, look_fails}
 use Rattle.tally_store_entries.specs.internal.Entries.{FindsReturn}
 use Rattle.tally_returns.specs.Decide.{limits_of}
 use Rattle.tally_returns.specs.Lawful.{IsLawful}
-use Rattle.tally_returns.specs.Lodge.{limits_for}
 use Rattle.tally_store_commands.proofs.returns.find_lawful.Goals as goal
 
 pub returns-in_err-standing-clause-reads : goal.returns-in_err-standing-clause-reads
@@ -27,7 +26,5 @@ returns-clause-lawful g c x some =
     let con = c.args.con.now in
     let place = c.args.place.now in
     let one : c.in-Some.standing ≡ x = cc in
-    let lists : c.len.result ≡ length con.lists = search rules in
     let test : IsTrue c.is_lawful.result = search rules in
-    subst (IsLawful (limits_of con place)) one
-    (subst (λ n. IsLawful (limits_for n place.electors con.entry) c.in-Some.standing) lists (c.is_lawful.ensures.lawful con.entry test))
+    subst (IsLawful (limits_of con place)) one (c.is_lawful.ensures.lawful test)

@@ -28,7 +28,7 @@ pub with_station-found-requires : goal.with_station-found-requires
 with_station-found-requires g c =
     let few = (subst IsConstituency c.con.view_is c.con.invariant).stations in
     let all = ap length c.as_slice-stations.ensures.value ∙ ap (λ (x : Constituency). length x.stations) c.con.view_is in
-    record { room = within_most c.loop-station.station-index 5000 c.loop-station.found (omega (arith, few, all, c.loop-station-test.true)) c.loop-station.invariant.within }
+    record { room = within_most c.loop-station.station-index 20000 c.loop-station.found (omega (arith, few, all, c.loop-station-test.true)) c.loop-station.invariant.within }
 
 pub loop-station-preserved : goal.loop-station-preserved
 loop-station-preserved g c =

@@ -3,7 +3,7 @@ use Rattle.std.specs.Prelude.{All}
 use Rattle.tally_setup.specs.Constituency.{Constituency}
 use Rattle.tally_setup.specs.Limits.{IsSetup}
 use Rattle.tally_setup.specs.Setup.{constituency_with}
-use Rattle.tally_keeper.proofs.SetupLemmas.{Has, con-only, has-at}
+use Rattle.tally_setup.proofs.NamedLemmas.{Has, con-only, has-at}
 use Rattle.tally_store_open.specs.Numbers.{numbers_of}
 use Rattle.tally_store_open.specs.internal.Tree.{IsNumbered}
 use Rattle.tally_store_open.proofs.AllLemmas.{all_end, all_more}

@@ -17,4 +17,4 @@ returns-in-Some-clause-lawful c test =
     let standing = ap (λ (e : List ℕ × StationReturn). e.1) c.entry.view_is in
     let known : stations_of setup c.args.entry.now.0 ≡ Some (limits_of place.0 place.1) =
     ap (option_map (λ (p : Constituency × Station). limits_of p.0 p.1)) (ap (λ s. station_with s setup) (sym code) ∙ sym c.in-Some.ensures.found) in
-    (limits_of place.0 place.1, known, subst (IsLawful (limits_of place.0 place.1)) standing (c.is_lawful_at.ensures.lawful test))
+    (limits_of place.0 place.1, known, subst (IsLawful (limits_of place.0 place.1)) standing (c.is_lawful.ensures.lawful test))

@@ -7,7 +7,7 @@ use Rattle.tally_returns.specs.Progress.{progress_row}
 use Rattle.tally_keeper.specs.Kept.{Kept, state_in}
 use Rattle.tally_keeper.specs.internal.Rows.{returns_of, progress_row_of, views_of}
 use Rattle.tally_keeper.proofs.ChangeLemmas.{held-has, row-is}
-use Rattle.tally_keeper.proofs.SetupLemmas.{Has, has-at}
+use Rattle.tally_setup.proofs.NamedLemmas.{Has, has-at}
 use Rattle.tally_keeper.proofs.ledger.Ledger.progress.Goals as goal
 
 pub unreachable-requires : goal.unreachable-requires

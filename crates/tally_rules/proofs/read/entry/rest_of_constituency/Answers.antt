@@ -47,31 +47,47 @@ returns-in_err-profile_code-clause-fault c =
     (placed-after _ _ _ _ (ap (in_entry _) seats)
     (placed-first _ _ _ (placed-in_entry _ _ _ _ _ c.constituency_way-here.ensures c.read_code.ensures.fault c.in_err-profile_code.ensures.fault c.in_err-profile_code.ensures.place))))
 
-pub returns-in_err-in_entry-clause-fault : goal.returns-in_err-in_entry-clause-fault
+pub returns-in_err-profile-clause-fault : goal.returns-in_err-profile-clause-fault
 unfolding rest_of_constituency
-returns-in_err-in_entry-clause-fault c =
+returns-in_err-profile-clause-fault c =
     let name = rw c.in_ok-name.ensures.value at c.read_name.ensures.name in
     let seats = rw c.in_ok-seats.ensures.value at c.read_number.ensures.number in
     let code = rw c.in_ok-profile_code.ensures.value at c.read_code.ensures.code in
-    placed-passed _ _ _ c.from_residual-in_err-in_entry.ensures.1
+    placed-passed _ _ _ c.from_residual-in_err-profile.ensures.1
     (placed-after _ _ _ _ (ap (in_entry _) name)
     (placed-after _ _ _ _ (ap (in_entry _) seats)
     (placed-after _ _ _ _ (ap (in_entry _) code)
-    (placed-first _ _ _ (placed-in_entry _ _ _ _ _ c.constituency_way-here.ensures (profile-fault _ _ _ c.ok_or-profile.ensures.value c.find.ensures.profile) c.in_err-in_entry.ensures.fault c.in_err-in_entry.ensures.place)))))
+    (placed-first _ _ _ (placed-in_entry _ _ _ _ _ c.constituency_way-here.ensures (profile-fault _ _ _ c.ok_or-profile.ensures.value c.find.ensures.profile) c.in_err-profile.ensures.fault c.in_err-profile.ensures.place)))))
 
-pub returns-in_err-in_entry-2-clause-fault : goal.returns-in_err-in_entry-2-clause-fault
+pub returns-in_err-needed-clause-fault : goal.returns-in_err-needed-clause-fault
 unfolding rest_of_constituency
-returns-in_err-in_entry-2-clause-fault c =
+returns-in_err-needed-clause-fault c =
     let name = rw c.in_ok-name.ensures.value at c.read_name.ensures.name in
     let seats = rw c.in_ok-seats.ensures.value at c.read_number.ensures.number in
     let code = rw c.in_ok-profile_code.ensures.value at c.read_code.ensures.code in
-    let profile = profile-found _ _ _ _ c.ok_or-profile.ensures.value c.find.ensures.profile c.in_ok-in_entry.ensures.value in
-    placed-passed _ _ _ c.from_residual-in_err-in_entry-2.ensures.1
+    let profile = profile-found _ _ _ _ c.ok_or-profile.ensures.value c.find.ensures.profile c.in_ok-profile.ensures.value in
+    placed-passed _ _ _ c.from_residual-in_err-needed.ensures.1
     (placed-after _ _ _ _ (ap (in_entry _) name)
     (placed-after _ _ _ _ (ap (in_entry _) seats)
     (placed-after _ _ _ _ (ap (in_entry _) code)
     (placed-after _ _ _ _ (ap (in_entry _) profile)
-    (placed-first _ _ _ (placed-in_entry _ _ _ _ _ c.constituency_way-here.ensures c.read_entry.ensures.fault c.in_err-in_entry-2.ensures.fault c.in_err-in_entry-2.ensures.place))))))
+    (placed-first _ _ _ (placed-in_entry _ _ _ _ _ c.constituency_way-here.ensures c.read_entry.ensures.fault c.in_err-needed.ensures.fault c.in_err-needed.ensures.place))))))
+
+pub returns-in_err-limit-clause-fault : goal.returns-in_err-limit-clause-fault
+unfolding rest_of_constituency
+returns-in_err-limit-clause-fault c =
+    let name = rw c.in_ok-name.ensures.value at c.read_name.ensures.name in
+    let seats = rw c.in_ok-seats.ensures.value at c.read_number.ensures.number in
+    let code = rw c.in_ok-profile_code.ensures.value at c.read_code.ensures.code in
+    let profile = profile-found _ _ _ _ c.ok_or-profile.ensures.value c.find.ensures.profile c.in_ok-profile.ensures.value in
+    let needed = rw c.in_ok-needed.ensures.value at c.read_entry.ensures.entry in
+    placed-passed _ _ _ c.from_residual-in_err-limit.ensures.1
+    (placed-after _ _ _ _ (ap (in_entry _) name)
+    (placed-after _ _ _ _ (ap (in_entry _) seats)
+    (placed-after _ _ _ _ (ap (in_entry _) code)
+    (placed-after _ _ _ _ (ap (in_entry _) profile)
+    (placed-after _ _ _ _ (ap (in_entry _) needed)
+    (placed-first _ _ _ (placed-in_entry _ _ _ _ _ c.constituency_way-here.ensures c.read_station_limit.ensures.fault c.in_err-limit.ensures.fault c.in_err-limit.ensures.place)))))))
 
 pub returns-in_err-read_lists-clause-fault : goal.returns-in_err-read_lists-clause-fault
 unfolding rest_of_constituency
@@ -79,15 +95,17 @@ returns-in_err-read_lists-clause-fault c =
     let name = rw c.in_ok-name.ensures.value at c.read_name.ensures.name in
     let seats = rw c.in_ok-seats.ensures.value at c.read_number.ensures.number in
     let code = rw c.in_ok-profile_code.ensures.value at c.read_code.ensures.code in
-    let profile = profile-found _ _ _ _ c.ok_or-profile.ensures.value c.find.ensures.profile c.in_ok-in_entry.ensures.value in
-    let needed = rw c.in_ok-in_entry-2.ensures.value at c.read_entry.ensures.entry in
+    let profile = profile-found _ _ _ _ c.ok_or-profile.ensures.value c.find.ensures.profile c.in_ok-profile.ensures.value in
+    let needed = rw c.in_ok-needed.ensures.value at c.read_entry.ensures.entry in
+    let limit = rw c.in_ok-limit.ensures.value at c.read_station_limit.ensures.limit in
     placed-passed _ _ _ c.from_residual-in_err-read_lists.ensures.1
     (placed-after _ _ _ _ (ap (in_entry _) name)
     (placed-after _ _ _ _ (ap (in_entry _) seats)
     (placed-after _ _ _ _ (ap (in_entry _) code)
     (placed-after _ _ _ _ (ap (in_entry _) profile)
     (placed-after _ _ _ _ (ap (in_entry _) needed)
-    (placed-first _ _ _ c.in_err-read_lists.ensures.fault))))))
+    (placed-after _ _ _ _ (ap (in_entry _) limit)
+    (placed-first _ _ _ c.in_err-read_lists.ensures.fault)))))))
 
 pub returns-in_err-read_stations-clause-fault : goal.returns-in_err-read_stations-clause-fault
 unfolding rest_of_constituency
@@ -95,16 +113,18 @@ returns-in_err-read_stations-clause-fault c =
     let name = rw c.in_ok-name.ensures.value at c.read_name.ensures.name in
     let seats = rw c.in_ok-seats.ensures.value at c.read_number.ensures.number in
     let code = rw c.in_ok-profile_code.ensures.value at c.read_code.ensures.code in
-    let profile = profile-found _ _ _ _ c.ok_or-profile.ensures.value c.find.ensures.profile c.in_ok-in_entry.ensures.value in
-    let needed = rw c.in_ok-in_entry-2.ensures.value at c.read_entry.ensures.entry in
+    let profile = profile-found _ _ _ _ c.ok_or-profile.ensures.value c.find.ensures.profile c.in_ok-profile.ensures.value in
+    let needed = rw c.in_ok-needed.ensures.value at c.read_entry.ensures.entry in
+    let limit = rw c.in_ok-limit.ensures.value at c.read_station_limit.ensures.limit in
     placed-passed _ _ _ c.from_residual-in_err-read_stations.ensures.1
     (placed-after _ _ _ _ (ap (in_entry _) name)
     (placed-after _ _ _ _ (ap (in_entry _) seats)
     (placed-after _ _ _ _ (ap (in_entry _) code)
     (placed-after _ _ _ _ (ap (in_entry _) profile)
     (placed-after _ _ _ _ (ap (in_entry _) needed)
+    (placed-after _ _ _ _ (ap (in_entry _) limit)
     (placed-after _ _ _ _ c.in_ok-read_lists.ensures.lists
-    (placed-first _ _ _ c.in_err-read_stations.ensures.fault)))))))
+    (placed-first _ _ _ c.in_err-read_stations.ensures.fault))))))))
 
 pub returns-clause-constituency : goal.returns-clause-constituency
 unfolding rest_of_constituency
@@ -112,13 +132,15 @@ returns-clause-constituency c =
     let name = rw c.in_ok-name.ensures.value at c.read_name.ensures.name in
     let seats = rw c.in_ok-seats.ensures.value at c.read_number.ensures.number in
     let code = rw c.in_ok-profile_code.ensures.value at c.read_code.ensures.code in
-    let profile = profile-found _ _ _ _ c.ok_or-profile.ensures.value c.find.ensures.profile c.in_ok-in_entry.ensures.value in
-    let needed = rw c.in_ok-in_entry-2.ensures.value at c.read_entry.ensures.entry in
+    let profile = profile-found _ _ _ _ c.ok_or-profile.ensures.value c.find.ensures.profile c.in_ok-profile.ensures.value in
+    let needed = rw c.in_ok-needed.ensures.value at c.read_entry.ensures.entry in
+    let limit = rw c.in_ok-limit.ensures.value at c.read_station_limit.ensures.limit in
     read-after _ _ _ _ (ap (in_entry _) name)
     (read-after _ _ _ _ (ap (in_entry _) seats)
     (read-after _ _ _ _ (ap (in_entry _) code)
     (read-after _ _ _ _ (ap (in_entry _) profile)
     (read-after _ _ _ _ (ap (in_entry _) needed)
+    (read-after _ _ _ _ (ap (in_entry _) limit)
     (read-after _ _ _ _ c.in_ok-read_lists.ensures.lists
     (read-after _ _ _ _ c.in_ok-read_stations.ensures.stations
-    refl))))))
+    refl)))))))

@@ -5,7 +5,7 @@ use Rattle.tally_setup.specs.Constituency.{station_codes}
 use Rattle.tally_rules.specs.Reading.{station_entry}
 use Rattle.tally_setup.specs.Setup.{all_station_codes}
 use Rattle.tally_rules.proofs.ReadLemmas.{IsReadTo}
-use Rattle.tally_rules.proofs.read.entry.read_stations.Given as goal
+use Rattle.tally_rules.proofs.read.entry.read_each_station.Given as goal
 
 abbrev pub invariant-loop-station : goal.invariant-loop-station
 invariant-loop-station l =

@@ -5,14 +5,14 @@ use Rattle.std.proofs.lemmas.List.Elements.{All-push}
 use Rattle.std.proofs.lemmas.Result.{err_from_is_err_and}
 use Rattle.tally_setup.specs.Limits.{IsStation}
 use Rattle.tally_setup.specs.Constituency.{station_codes}
-use Rattle.tally_rules.specs.Reading.{read_stations, station_entry}
+use Rattle.tally_rules.specs.Reading.{read_each_station, station_entry}
 use Rattle.tally_setup.specs.Setup.{all_station_codes}
 use Rattle.tally_setup.specs.declared.constituency.Station.{Station}
 use Rattle.tally_rules.proofs.ReadLemmas.{read-more, array-fault, array-end, IsFoundAt-same}
-use Rattle.tally_rules.proofs.read.entry.read_stations.Goals as goal
+use Rattle.tally_rules.proofs.read.entry.read_each_station.Goals as goal
 
 pub returns-in_err-station-clause-fault : goal.returns-in_err-station-clause-fault
-unfolding read_stations
+unfolding read_each_station
 returns-in_err-station-clause-fault c =
     let p = err_from_is_err_and c.from_residual-in_err-station.result c.from_residual-in_err-station.ensures.1 in
     let before = ap (λ stations. station_entry c.args.before.now c.args.con.now stations (view c.station-item.result)) (sym c.deref.ensures.value) in
@@ -38,5 +38,5 @@ loop-station-preserved c =
     )
 
 pub returns-clause-stations : goal.returns-clause-stations
-unfolding read_stations
+unfolding read_each_station
 returns-clause-stations c = array-end (station_entry c.args.before.now c.args.con.now) _ _ _ _ (rw c.constituency_way-here.ensures at c.in_ok-entries.ensures.array) c.loop-station.invariant.0 c.loop-station-test.false
