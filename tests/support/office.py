@@ -1,13 +1,22 @@
-"""The sample office of tests and measurements: Twin Town of docs/FORMATS.md, and setups that are made of the same tables."""
+"""The sample office of tests and measurements: Twin Town of docs/FORMATS.md.
+
+Other setups are made of the same tables.
+"""
 
 
 def profile(code, method="dhondt", threshold=0, base="valid"):
-    return f'[[profile]]\ncode = "{code}"\nmethod = "{method}"\nthreshold = {threshold}\nbase = "{base}"\n'
+    return (
+        f'[[profile]]\ncode = "{code}"\nmethod = "{method}"\n'
+        f'threshold = {threshold}\nbase = "{base}"\n'
+    )
 
 
 def constituency(code, name, seats, of_profile):
     """A constituency without its lists and stations, which follow."""
-    return f'\n[[constituency]]\ncode = "{code}"\nname = "{name}"\nseats = {seats}\nprofile = "{of_profile}"\n'
+    return (
+        f'\n[[constituency]]\ncode = "{code}"\nname = "{name}"\n'
+        f'seats = {seats}\nprofile = "{of_profile}"\n'
+    )
 
 
 def party_list(code, name, *candidates):
@@ -28,7 +37,8 @@ LISTS = party_list("A", "Alpha", "Ana", "Abel") + party_list("B", "Beta", "Bea")
 
 def with_stations(count, electors=300):
     """The setup of Twin Town with stations s1, s2, .."""
-    return PROFILE + CONSTITUENCY + LISTS + "".join(station(f"s{n}", electors) for n in range(1, count + 1))
+    stations = "".join(station(f"s{n}", electors) for n in range(1, count + 1))
+    return PROFILE + CONSTITUENCY + LISTS + stations
 
 
 SETUP = with_stations(1)
