@@ -11,7 +11,7 @@ import socket
 import subprocess
 import time
 
-from running import PATIENCE
+from tests.support.running import PATIENCE
 
 DRIVER, CHROMIUM = shutil.which("chromedriver"), shutil.which("chromium") or shutil.which("chromium-browser")
 KEY = "element-6066-11e4-a52e-4f735466cecf"  # the name of an element's number in the protocol
