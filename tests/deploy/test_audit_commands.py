@@ -47,7 +47,8 @@ s1,3,0,0,60,2.0 => papers.csv, line 2: '2.0' of station s1 is not a number
 s1,three,0,0,60,20 => papers.csv: 'three' is not a number (drawn of station s1)
 s3,1,0,0,10,30 => papers.csv: station s3 is drawn 0 times in 1 draws, and the file says 1
 s2,2,0,0,50,30 => papers.csv: station s2 is drawn 0 times in 2 draws, and the file says 2
-s1,2,0,0,60,20/s2,2,0,0,50,30 => papers.csv: station s1 is drawn 3 times in 4 draws, and the file says 2
+s1,2,0,0,60,20/s2,2,0,0,50,30 => papers.csv: station s1 is drawn 3 times \
+in 4 draws, and the file says 2
 """
 # What is wrong with the words of the command line or with the files, besides.
 WORDS = [
@@ -72,7 +73,8 @@ s3,p3,0,0,10,30 =>  => returns.csv: not all returns of c1 are closed: 1 are not 
 s2,p2,0,0,50,30 => s1,p1,0,0,60,20 => returns.csv, line 3: station s1 comes twice
 s3,p3,0,0,10,30 => s4,p3,0,0,10,30 => returns.csv, line 4: c1 has no station 's4'
 s1,p1,0,0,60,20 => s0,p1,0,0,60,20 => returns.csv, line 2: the setup has no station 's0'
-s2,p2,0,0,50,30 => s2,p2,0,0,50,51 => returns.csv, line 3: 101 papers of station s2, which has 100 electors
+s2,p2,0,0,50,30 => s2,p2,0,0,50,51 => returns.csv, line 3: 101 papers of station \
+s2, which has 100 electors
 s2,p2,0,0,50,30 => s2,p2,0,0,,30 => returns.csv, line 3: '' of station s2 is not a number
 spoiled,A,B => spoiled,B,A => returns.csv: the header is not station,slip,blank,spoiled,A,B
 """
@@ -104,13 +106,14 @@ class AuditCommands(Case):
         self.assertEqual((ran.status, ran.err), (0, ""))
         # 24 draws reach s1 with a chance of 1 - (5/8.5)^24 and so on: nearly all papers.
         for line in ("c1 Town: 3 seats by D'Hondt",
-                     "3 stations, all closed, with 300 electors; 200 votes for lists, 0 blank, 0 "
-                     "spoiled", "  A                         120     2",
+                     "3 stations, all closed, with 300 electors; 200 votes for lists, 0 blank, "
+                     "0 spoiled",
+                     "  A                         120     2",
                      "            20  A's seat 2 comes before B's seat 2",
-                     "  where no paper differs: 24 draws, of some 3 of 3 stations, with 200 of 200 "
-                     "papers",
-                     "  where 1 vote in 1,000 is recorded wrongly: 25 draws, of some 3 of 3 "
-                     "stations, with 200 of 200 papers",
+                     "  where no paper differs: 24 draws, of some 3 of 3 stations, "
+                     "with 200 of 200 papers",
+                     "  where 1 vote in 1,000 is recorded wrongly: 25 draws, "
+                     "of some 3 of 3 stations, with 200 of 200 papers",
                      "A count of all papers is hardly more work, and leaves no risk.",
                      f"setup    {sums[0]}  setup.toml", f"returns  {sums[1]}  returns.csv"):
             with self.subTest(line=line):

@@ -61,8 +61,8 @@ DIGESTS = ["2972ee61", "2cf6ac4f", "b640cabd", "0d5511a8", "8cd89903", "e586ce79
 
 def random_poll(random_one, method):
     lists, seats = random_one.randint(1, 5), random_one.randint(1, 7)
-    threshold, base = random_one.choice([0, 0, 300, 1000, 2500]), random_one.choice(["valid",
-                                                                                     "lists"])
+    threshold = random_one.choice([0, 0, 300, 1000, 2500])
+    base = random_one.choice(["valid", "lists"])
     most = random_one.choice([6, 30, 400])
     con = con_of(method, seats, lists, [10000], threshold, base)
     return con, [random_one.randint(0, most) for _ in range(lists)], random_one.choice([
@@ -367,6 +367,6 @@ class AuditRule(Case):
             clean, off = it.expected(10), it.expected(10, 0.001)
             self.assertEqual(confirmed_after(it, recorded, seed, TENTH, clean), clean)
             within += confirmed_after(it, papers, seed, TENTH, off) is not None
-        print(f"of {tried} right elections with errors {within} confirmed within the expected "
-              "draws")
+        print(f"of {tried} right elections with errors {within} confirmed within the draws that "
+              "are expected")
         self.assertGreaterEqual(within * 2, tried, within)

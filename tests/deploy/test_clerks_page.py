@@ -96,7 +96,7 @@ class ClerksPage(SiteCase):
         said(it, "Done: revision 4.")
         close_shown(it, STATIONS[-1], 5)
         shows_well(it, "clerk")
-        self.assertEqual(it.visible("#find"), False)
+        self.assertFalse(it.visible("#find"))
         choose_con(it, "c1")
         it.click("#find")
         said(it, "Stations that are not closed: 1. They are listed below.")
@@ -149,7 +149,7 @@ class ClerksPage(SiteCase):
                                 "all.indexOf(document.activeElement)]"), ["B", "B", 0])
         draw(it, "B", "A")
         said(it, "Done: edition 2.")
-        self.assertEqual(it.visible("#draw"), False)
+        self.assertFalse(it.visible("#draw"))
         confirmed(it, "#certify button", "Certify Twin Town, edition 2?", "Done: edition 3.")
         it.run("document.querySelector('#vacate select').selectedIndex = 0")
         it.type("#vacate input[name=note]", "moved")
@@ -201,7 +201,7 @@ class ClerksPage(SiteCase):
             self.assertEqual(plain(desk.port, "POST", "/station/s3/lodge", lodged).status, 200)
             unknown = "setup.json has no station of this code."
             with clerks_browser(front, "s2", unknown) as it:
-                self.assertEqual(it.visible("#lodge"), False)
+                self.assertFalse(it.visible("#lodge"))
             with clerks_browser(front, "clara") as it:
                 for code, words in (("s2", unknown), ("s3", unknown),
                                     ("s4", "The office has no station of this code.")):
@@ -211,7 +211,7 @@ class ClerksPage(SiteCase):
                             [it.visible(f"#{form}") for form in ("lodge", "close", "query")],
                             it.text("#return")), ([False] * 3, ""))
                 choose_station(it, "s1")
-                self.assertEqual(it.visible("#lodge"), True)
+                self.assertTrue(it.visible("#lodge"))
 
     def test_what_the_clerks_page_is(self):
         """It is short, has a sentence for each refusal, nothing of another site, and its policy

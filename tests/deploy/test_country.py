@@ -58,8 +58,8 @@ def without_a_disk():
     """The folder of a test in memory, where that can be: no command then waits for a disk."""
     with contextlib.ExitStack() as held:
         if os.path.isdir("/dev/shm"):
-            os.chdir(held.enter_context(tempfile.TemporaryDirectory(prefix="office-deploy-",
-                                                                    dir="/dev/shm")))
+            folder = tempfile.TemporaryDirectory(prefix="office-site-", dir="/dev/shm")
+            os.chdir(held.enter_context(folder))
         yield
 
 

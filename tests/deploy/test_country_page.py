@@ -95,12 +95,10 @@ class CountryPage(SiteCase):
             self.assertNotIn("Certificate withdrawn", text)
             self.assertNotIn('<g class="open-seats">', read("index.html"))
             # D has three seats of few votes: lists are by seats, and in Oeste by votes.
-            self.assertEqual([row[:3] for row
-                              in page_of("index.html").tables["Seats and votes of each list"][1:]],
-                             [
-                                 ["B Beta", "5", "193"], ["D Delta", "3", "91"],
-                                 ["A Alpha", "2", "147"], ["C Gamma", "0", "15"],
-                                 ["Total", "10", "446"]])
+            lists = page_of("index.html").tables["Seats and votes of each list"]
+            self.assertEqual([row[:3] for row in lists[1:]], [
+                ["B Beta", "5", "193"], ["D Delta", "3", "91"], ["A Alpha", "2", "147"],
+                ["C Gamma", "0", "15"], ["Total", "10", "446"]])
             page = page_of("con-oeste.html")
             for table in ("Votes of each list", "Seats of each list", "Quotients of each list"):
                 with self.subTest(table=table):
@@ -231,11 +229,10 @@ class CountryPage(SiteCase):
         what no former result is known nothing is said."""
         with four() as (_, port):
             press(port, "--setup", "setup.toml", *site_folder(before=FOUR_BEFORE))
-        self.assertEqual([row[:2]
-                          for row in page_of("index.html").tables["Seats and votes of each list"]],
-                         [
-                             ["List", "seats change"], ["B Beta", "3 +1"], ["A Alpha", "2 −1"],
-                             ["D Delta", "0 ±0"], ["C Gamma", "0 ±0"], ["Total", "5"]])
+        lists = page_of("index.html").tables["Seats and votes of each list"]
+        self.assertEqual([row[:2] for row in lists], [
+            ["List", "seats change"], ["B Beta", "3 +1"], ["A Alpha", "2 −1"],
+            ["D Delta", "0 ±0"], ["C Gamma", "0 ±0"], ["Total", "5"]])
         self.assertEqual(page_of("con-norte.html").tables["Votes of each list"], [
             ["List", "votes", "share change", "takes part"],
             ["A Alpha", "100", "50.00 % +30.00", "yes"], ["B Beta", "90", "45.00 % +15.00", "yes"],

@@ -56,9 +56,8 @@ def may_be_missing(name, path):
 
 class Data(SiteCase):
     def test_each_published_json_is_of_its_schema(self):
-        print("schemas are tried by " + ("jsonschema and the checker of tests/data.py" if jsonschema
-                                         else
-                                         "the checker of tests/data.py: jsonschema is not there"))
+        by = "jsonschema and" if jsonschema else "jsonschema is not there, so by"
+        print(f"schemas are tried by {by} the checker of tests/support/published.py")
         Path("setup.toml").write_text(with_stations(1), encoding="utf-8")
         for answers in (TWIN, VACATED, REOPENED, OPEN, AGAIN, HARE, beside(TWIN)):
             with self.subTest(answers=answers):
@@ -203,7 +202,7 @@ class Data(SiteCase):
         self.assertEqual(
             [row[0] for row in page_of("con-c1.html").tables["Votes of each list"][1:]],
             [f"L{n} {name}" for n, name in enumerate(names)])
-        self.assertEqual("apostrophe" in read("con.schema.json"), False)
+        self.assertNotIn("apostrophe", read("con.schema.json"))
 
     def test_what_the_office_says_of_its_data(self):
         """Title, licence, authority and language of the data package and of the feed are those of

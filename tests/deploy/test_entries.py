@@ -80,16 +80,15 @@ class Entries(SiteCase):
             + given("berta", "/con/c1/certify", '{"edition":1}', 409))
         of_clara, of_sara, of_bruno = (f"both entries are by {name} ({TIME}, {TIME})"
                                        for name in ("clara", "sara", "bruno"))
-        first_lost = (f"s6: its second entry is by sara ({TIME}), and its first is not in this "
-                      "record")
+        first_lost = (f"s6: its second entry is by sara ({TIME}), and its first "
+                      "is not in this record")
         certified = f"c1: certified by berta ({TIME}), edition 2, over s2, s3, s4, s6"
         self.assertEqual(self.entries(record), (
             1, [f"s2: {of_clara}", f"s3: {of_sara}", f"s4: {of_bruno}", first_lost, certified,
                 "closed 6, of these by a second entry 6, to look at 5"]))
         # Entered again under two names after a reopening, it is named no more; its certificate is.
-        again = record + given("berta", "/con/c1/reopen") + given("sara",
-                                                                  "/station/s2/query") + given(
-            "clara", "/station/s2/correct")
+        again = (record + given("berta", "/con/c1/reopen") + given("sara", "/station/s2/query")
+                 + given("clara", "/station/s2/correct"))
         self.assertEqual(self.entries(again), (
             1, [f"s3: {of_sara}", f"s4: {of_bruno}", first_lost, certified,
                 "closed 5, of these by a second entry 5, to look at 4"]))
@@ -97,9 +96,8 @@ class Entries(SiteCase):
                          f"s3: {of_sara}")
         # The first entry is that which was recorded, whoever sent the same again; a return that is
         # queried is not closed.
-        same_again = given("clara", "/station/s1/lodge") + given("bruno",
-                                                                 "/station/s1/lodge") + given(
-            "clara", "/station/s1/confirm")
+        same_again = (given("clara", "/station/s1/lodge") + given("bruno", "/station/s1/lodge")
+                      + given("clara", "/station/s1/confirm"))
         self.assertEqual(
             self.entries(same_again),
             (1, [f"s1: {of_clara}", "closed 1, of these by a second entry 1, to look at 1"]))
@@ -161,21 +159,17 @@ class Entries(SiteCase):
                            ("/con/zz/import", "import zz"), ("/con/c1/certify", "certify c1")):
             with self.subTest(path=path, what=what):
                 status, said_of = self.entries(given("clara", path, "[]") + twice)
-                self.assertEqual((status, said_of), (
-                    1, [f"line 1: {what} by clara ({TIME}) is no command of an office of this setup",
-                        *both]))
+                wrong = f"{what} by clara ({TIME}) is no command of an office of this setup"
+                self.assertEqual((status, said_of), (1, [f"line 1: {wrong}", *both]))
         # A command that another line, or none, was put in the place of.
-        self.assertEqual(self.entries([b"cut"] + record_of(twice).splitlines()[1:]),
-                         (1, [
-                             "line 1 is no whole line of a record: cut",
-                             "line 2: it answers line 1, which is not there: nobody knows what was "
-                             "done",
-                             f"s1: its second entry is by clara ({TIME}), and its first is not in "
-                             "this record",
-                             "closed 1, of these by a second entry 1, to look at 3"]))
+        self.assertEqual(self.entries([b"cut"] + record_of(twice).splitlines()[1:]), (1, [
+            "line 1 is no whole line of a record: cut",
+            "line 2: it answers line 1, which is not there: nobody knows what was done",
+            f"s1: its second entry is by clara ({TIME}), and its first is not in this record",
+            "closed 1, of these by a second entry 1, to look at 3"]))
         # Numbers, hashes and further keys are nothing to it.
-        changed = record_of(twice).replace(b'"clara"', b'"sara"', 1).replace(b'"before"',
-                                                                             b'"beside"')
+        changed = record_of(twice).replace(b'"clara"', b'"sara"', 1)
+        changed = changed.replace(b'"before"', b'"beside"')
         self.assertEqual(self.entries(changed),
                          (0, ["closed 1, of these by a second entry 1, to look at 0"]))
         second = given("sara", "/station/s1/confirm")
@@ -186,12 +180,12 @@ class Entries(SiteCase):
                 status, said_of = self.entries(unknown + second)
                 self.assertEqual((status, said_of[:2]), (
                     1, [f"line 1: lodge s1 by clara ({TIME}): nobody knows whether it was done",
-                        f"s1: its second entry is by sara ({TIME}), and its first is not in this "
-                        "record"]))
+                        f"s1: its second entry is by sara ({TIME}), and its first "
+                        "is not in this record"]))
         # A row with another station's name in bytes that are no UTF-8.
         rows = "station;slip;blank;spoiled;A;B\ns\xe9;p1;0;0;1;2\ns1;p1;0;0;1;2\n".encode("latin-1")
-        record = given("josé", "/con/c1/import/semicolon", rows) + given("josé",
-                                                                         "/station/s1/confirm")
+        record = (given("josé", "/con/c1/import/semicolon", rows)
+                  + given("josé", "/station/s1/confirm"))
         self.assertEqual(self.entries(record), (
             1, [f"s1: both entries are by josé ({TIME}, {TIME})",
                 "closed 1, of these by a second entry 1, to look at 1"]))

@@ -32,12 +32,13 @@ class FirstElection(SiteCase):
                  if not name.endswith(".gz") and name not in ("manifest.json", "openapi.json")}
         self.assertEqual(sorted(found), sorted(stored))
         for name, text in found.items():
-            if name.endswith(".html"):
-                page_of(name)
-            if text != stored[name]:
-                Path(tempfile.gettempdir(), name).write_text(text, encoding="utf-8")
-                self.fail(f"{name} differs from tests/pages/{name}; it is in "
-                          f"{tempfile.gettempdir()}. Look at it before you store it")
+            with self.subTest(name=name):
+                if name.endswith(".html"):
+                    page_of(name)
+                if text != stored[name]:
+                    Path(tempfile.gettempdir(), name).write_text(text, encoding="utf-8")
+                    self.fail(f"it differs from tests/pages/{name}, and is in "
+                              f"{tempfile.gettempdir()}. Look at it before you store it")
         # By hand, in examples/README.md.
         self.assertEqual(page_of("con-montehondo.html").tables["Votes of each list"][1:], [
             ["ROBLE Lista del Roble", "1,235", "35.58 % +0.99", "yes"],
@@ -55,6 +56,6 @@ class FirstElection(SiteCase):
         checked = subprocess.run([PROGRAM, "check"], input=read("stations-montehondo-2.csv"),
                                  capture_output=True, text=True, timeout=PATIENCE)
         self.assertEqual(checked.stdout,
-                         "lodged 15\nsame 0\ndiffers 0\nrefused 0\nbad 0\nfirst -\nblank 44\n"
-                         "spoiled 22\n"
+                         "lodged 15\nsame 0\ndiffers 0\nrefused 0\nbad 0\nfirst -\n"
+                         "blank 44\nspoiled 22\n"
                          "ROBLE 1235\nENCINA 1134\nHAYA 694\nSAUCE 299\nOLIVO 65\n")

@@ -53,8 +53,8 @@ QUICK = PROGRAMS / "quick_desk.py"
 def a_country():
     """The proxy and the pages of a country of 60,008 stations, before something that answers at
     once."""
-    setup = profile("d0") + constituency("c1", "Twin Town", 3, "d0") + party_list("A", "Alpha",
-                                                                                  "Ana")
+    setup = profile("d0") + constituency("c1", "Twin Town", 3, "d0")
+    setup += party_list("A", "Alpha", "Ana")
     setup += "".join(station(f"p{n:02}-{k:04}-A", 1000) for n in range(52) for k in range(1154))
     desk = subprocess.Popen([sys.executable, QUICK], stdout=subprocess.PIPE, text=True)
     try:
@@ -184,7 +184,8 @@ class Floods(SiteCase):
                 n = 0
                 while not stop.is_set():
                     n += 1
-                    target = f"/station/s{n}/lodge" if method == "POST" else "/con/c1/tally" if name is None else "/now/progress"
+                    target = "/con/c1/tally" if name is None else "/now/progress"
+                    target = f"/station/s{n}/lodge" if method == "POST" else target
                     answers.append((method,
                                     front.ask(method, target, LODGED if method == "POST" else None,
                                               name, source=source).status))

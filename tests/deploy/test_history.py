@@ -27,9 +27,8 @@ class History(SiteCase):
         the recorder it is the same."""
         with office_with_a_second(TWICE) as (desk, front):
             front.name("stations", "s1")
-            wrong, rows = SLIP | {"votes": [
-                120,
-                17]}, "station,slip,blank,spoiled,A,B\r\ns2,p2,0,0,10,20\r\ns1,p1,2,1,120,71\r\n"
+            wrong = SLIP | {"votes": [120, 17]}
+            rows = "station,slip,blank,spoiled,A,B\r\ns2,p2,0,0,10,20\r\ns1,p1,2,1,120,71\r\n"
             noted = {"rev": 1, "note": "the slip says 71 for B"}
             given = (("clara", "/station/s1/lodge", wrong),
                      ("sara", "/station/s1/confirm", {"rev": 1, **SLIP}),
@@ -86,8 +85,10 @@ class History(SiteCase):
                     self.assertEqual(seen, {
                         "station": "s1", "whole": True,
                         "commands": [{key: one[key] for key in bare} for one in found["commands"]]})
-            ask = lambda method, target, name, **more: front.ask(method, target, name=name,
-                                                                 **more).status
+
+            def ask(method, target, name, **more):
+                return front.ask(method, target, name=name, **more).status
+
             target = "/now/station/s1/history"
             self.assertEqual([ask("GET", target, None),
                               ask("GET", target, "clara", password="other"),
@@ -184,7 +185,8 @@ class History(SiteCase):
                               "Done: revision 1.",
                               "sara (second entry) entered it a second time: slip p1, A 120, B 71, "
                               "blank 2, spoiled 1. It was refused: differs.",
-                              "sara (second entry) queried it: “<b>71</b> for B”. Done: revision 2.",
+                              "sara (second entry) queried it: “<b>71</b> for B”. "
+                              "Done: revision 2.",
                               "berta (board) closed it. It was refused: the name may not do it."],
                     "sara": ["clara (clerk) entered it. Done.",
                              "sara (second entry) entered it a second time. It was refused.",
@@ -193,7 +195,7 @@ class History(SiteCase):
             for name, lines in seen.items():
                 with self.subTest(name=name, lines=lines):
                     with clerks_browser(front, name) as it:
-                        self.assertEqual(it.visible("#who"), False)
+                        self.assertFalse(it.visible("#who"))
                         choose_station(it, "s1")
                         it.click("#who")
                         said(it, "The history of station s1 is shown.")
@@ -207,4 +209,4 @@ class History(SiteCase):
                         said(it, "The history of station s2 is shown.")
                         self.assertEqual(it.text("#history"), "Nothing was done to station s2.")
             with clerks_browser(front, "s1") as it:
-                self.assertEqual(it.visible("#who"), False)
+                self.assertFalse(it.visible("#who"))

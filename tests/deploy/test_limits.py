@@ -184,8 +184,8 @@ class Limits(SiteCase):
         answered at once, a hundred wait, and the others are refused; of a hundred requests that are
         under way none is refused, and of one more it is. No log has any."""
         with recording_desk() as (port, _), proxy(port) as front, contextlib.ExitStack() as held:
-            asked = (f"POST /con/c1/certify HTTP/1.1\r\nHost: {NAME}\r\nContent-Length: 0\r\n"
-                     "\r\n").encode()
+            asked = (f"POST /con/c1/certify HTTP/1.1\r\nHost: {NAME}\r\n"
+                     "Content-Length: 0\r\n\r\n").encode()
             begun, nets = asked.replace(b"Length: 0", b"Length: 9"), iter(range(16, 22))
 
             def at_once():
@@ -262,10 +262,9 @@ class Limits(SiteCase):
                 ends = dict(zip(began, waits.map(ended, list(began)[:4])))
             for name, seconds in (("head", 10), ("no body", 10), ("body", 10), ("idle", 15)):
                 with self.subTest(name=name, seconds=seconds):
-                    self.assertGreater(ends[name] - began[name], seconds - 1,
-                                       (name, began, asked, ends))
-                    self.assertLess(ends[name] - asked[name], seconds + 30,
-                                    (name, began, asked, ends))
+                    times = (began, asked, ends)
+                    self.assertGreater(ends[name] - began[name], seconds - 1, times)
+                    self.assertLess(ends[name] - asked[name], seconds + 30, times)
             # Nothing of what it did not read is kept for it: the connection itself is reset.
             read, connection = 0, waiting["reader"].fileno()
             os.set_blocking(connection, True)

@@ -21,9 +21,8 @@ def three_offices_setup():
     """Seven constituencies of 1 to 7 stations each."""
     setup = profile("d0")
     for c in range(1, 8):
-        setup += constituency(f"c{c}", f"Town {c}", 3, "d0") + party_list("A", "Alpha",
-                                                                          "Ana") + party_list(
-            "B", "Beta", "Bea")
+        setup += constituency(f"c{c}", f"Town {c}", 3, "d0")
+        setup += party_list("A", "Alpha", "Ana") + party_list("B", "Beta", "Bea")
         setup += "".join(station(f"s{c}-{n}") for n in range(1, c + 1))
     return setup
 
@@ -97,7 +96,7 @@ class Offices(SiteCase):
             votes = names.index("votes")
             self.assertEqual({row[0]: [int(one[votes]) for one in results if one[0] == row[0]]
                               for row in results}, {f"c{c}": [10 * c * c, c] for c in range(1, 8)})
-            self.assertEqual(json.loads(read("index.json"))["constituencies"][0]["certified"], True)
+            self.assertTrue(json.loads(read("index.json"))["constituencies"][0]["certified"])
             self.assertEqual([line["office"] for line in front.record(42)].count(1), 3 + 2 * 10)
             # The same acts over three new offices.
             fresh, record = served("again"), (front.folder / "log/commands.log").read_bytes()
@@ -149,11 +148,10 @@ class Offices(SiteCase):
 
     def test_a_setup_that_cannot_be_split(self):
         """Its constituencies are in a form whose lines belong to none of them."""
-        Path("setup.toml").write_text('profile = [{ code = "d0", method = "dhondt", threshold = 0, '
-                                      'base = "valid" }]\n'
-                                      'constituency = [{ code = "c1", station = [{ code = "s1" }] '
-                                      '}, { code = "c2", station = [{ code = "s2" }] }]\n',
-                                      encoding="utf-8")
+        Path("setup.toml").write_text(
+            'profile = [{ code = "d0", method = "dhondt", threshold = 0, base = "valid" }]\n'
+            'constituency = [{ code = "c1", station = [{ code = "s1" }] }, '
+            '{ code = "c2", station = [{ code = "s2" }] }]\n', encoding="utf-8")
         self.assertIn("[[constituency]]",
                       ran(DEPLOY / "split", "setup.toml", "2", "parts", status=1))
         self.assertFalse(Path("parts").exists())
@@ -166,8 +164,7 @@ class Offices(SiteCase):
 
         Path("setup.toml").write_text(SETUP, encoding="utf-8")
         ran(DEPLOY / "split", "setup.toml", "1", "parts")
+        own = upstreams((DEPLOY / "nginx/offices.conf").read_text(encoding="utf-8"))
         self.assertEqual(upstreams(Path("parts/offices.conf").read_text(encoding="utf-8")),
-                         [text.replace("8080", "8081") for text
-                          in upstreams((DEPLOY / "nginx/offices.conf").read_text(
-                              encoding="utf-8"))] + ["upstream progress1 {\n"
-                                                     "    server 127.0.0.1:8081 max_fails=0;\n}"])
+                         [text.replace("8080", "8081") for text in own]
+                         + ["upstream progress1 {\n    server 127.0.0.1:8081 max_fails=0;\n}"])

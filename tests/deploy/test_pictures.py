@@ -9,10 +9,11 @@ from tests.support.case import Case, needs
 from tests.support.desks import modelled
 from tests.support.pages import press
 from tests.support.pictures import (
-    CELL, MOST, PICTURES, READY, STORE, STORED, against, all_pages, apart, as_picture, chromium,
+    CELL, MOST, READY, STORE, STORED, against, all_pages, apart, as_picture, chromium,
     clerks_pages, clerks_site, draw, office_of, opened, press_pages, read_picture, unless_it_hangs,
 )
 from tests.support.scripts import in_page
+from tests.support.shown import PICTURES
 from tests.support.site import BOTH
 
 # What is wrong with a page, as a style that makes it so, and the view that has to show it.
@@ -73,7 +74,7 @@ class Pictures(Case):
     @unless_it_hangs
     def test_the_pages_as_pictures(self):
         """Each page in each of its views is as it is stored."""
-        wrong, names = [], set()
+        names = set()
         with chromium() as it:
             for page, views in all_pages(it):
                 for view in views:
@@ -92,14 +93,13 @@ class Pictures(Case):
                         if len(cells) > MOST:
                             found, shot = draw(it, view)
                             cells = against(name, found)
-                    if len(cells) > MOST:
-                        (Path(tempfile.gettempdir()) / name).write_bytes(shot)
-                        wrong.append(f"{name}: {len(cells)} cells are apart, the first "
-                                     f"{[(CELL * row, CELL * column) for row, column in cells[:3]]} "
-                                     "from the top left")
-        self.assertFalse(wrong,
-                         "\n  ".join([f"what was drawn is in {tempfile.gettempdir()}. Look at it "
-                                      "before you store it", *wrong]))
+                    with self.subTest(name=name):
+                        if len(cells) > MOST:
+                            (Path(tempfile.gettempdir()) / name).write_bytes(shot)
+                            first = [(CELL * row, CELL * column) for row, column in cells[:3]]
+                            self.fail(f"{len(cells)} cells are apart, the first {first} from the "
+                                      f"top left; it is in {tempfile.gettempdir()}. Look at it "
+                                      "before you store it")
         self.assertEqual(sorted(file.name for file in STORED.iterdir()), sorted(names))
         self.assertEqual([name for name in names if (STORED / name).stat().st_size > 16_384], [])
 
@@ -119,9 +119,10 @@ class Pictures(Case):
             for page, _ in clerks_pages(it):
                 try_faults(it, page, seen, tried)
         self.assertEqual(tried, set(FAULTS))
-        print({words: many for words, many in seen.items()})
-        self.assertEqual(
-            [words for words, many in seen.items() if (words in FAULTS) != (many > MOST)], [])
+        print(seen)
+        for words, many in seen.items():
+            with self.subTest(words=words, many=many):
+                self.assertEqual(many > MOST, words in FAULTS)
 
     def tabbed(self, it, wanted, most=60):
         """Presses the tab key until this has the focus; each stop is seen. The stops."""

@@ -43,9 +43,9 @@ class PressPages(SiteCase):
             [["A Alpha", "100", "50.00 %", "yes"], ["B Beta", "100", "50.00 %", "yes"]])
         self.assertEqual(page.tables["Holders of the seats"][1:],
                          [["A", "1", "Ana"], ["B", "1", "Bea"], ["B", "–", "empty"]])
-        self.assertEqual(page.tables["Awards in order"][1:], [["1", "B", "1", "100", "1", "100"],
-                                                              ["2", "A", "1", "100", "1", "100"],
-                                                              ["3", "B", "2", "100", "2", "50"]])
+        self.assertEqual(page.tables["Awards in order"][1:], [
+            ["1", "B", "1", "100", "1", "100"], ["2", "A", "1", "100", "1", "100"],
+            ["3", "B", "2", "100", "2", "50"]])
         self.assertEqual(page.tables["Quotients of each list"][1:],
                          [["A", "100 ★ won", "50", "33"], ["B", "100 ★ won", "50 ★ won", "33"]])
         self.assertEqual(page.tables["Votes that a list lacked for one seat more, whatever lot is "
@@ -165,8 +165,8 @@ class PressPages(SiteCase):
                 self.assertEqual(
                     page_of("index.html").tables["Constituencies in the order of their names"][1],
                     [f"Twin Town {state.lower()}", "–", "–", "100.00 %"])
-                self.assertEqual("<b>Certificate withdrawn:</b> <a href=\"con-c1.html\">Twin "
-                                 "Town</a>." in read("index.html"), desk is REOPENED)
+                withdrawn = '<b>Certificate withdrawn:</b> <a href="con-c1.html">Twin Town</a>.'
+                self.assertEqual(withdrawn in read("index.html"), desk is REOPENED)
                 if desk is REOPENED:
                     self.assertIn("a &lt;recount&gt;", text)
                     self.assertEqual(page.tables["Certificate of edition 3, withdrawn"][1:],
@@ -222,11 +222,13 @@ class PressPages(SiteCase):
         """Names are texts, whatever is in them; a candidate who is gone has the name of the
         setup."""
         name = "<script>alert('&\"')</script> "
-        setup = with_stations(1).replace('"Alpha"', json.dumps(name)).replace('"Ana"',
-                                                                              '"<i>Ana</i>"')
+        setup = with_stations(1).replace('"Alpha"', json.dumps(name))
+        setup = setup.replace('"Ana"', '"<i>Ana</i>"')
         Path("setup.toml").write_text(setup, encoding="utf-8")
-        answers = {target: said.replace("Alpha", name).replace("Twin Town", "A & <B>").replace(
-            "1 Ana", "2 Abel") if isinstance(said, str) else said for target, said in TWIN.items()}
+        answers = {
+            target: said.replace("Alpha", name).replace("Twin Town", "A & <B>")
+            .replace("1 Ana", "2 Abel") if isinstance(said, str) else said
+            for target, said in TWIN.items()}
         answers["/con/c1"] = answers["/con/c1"] | {
             "gone": [{"list": "A", "note": "<b>ill</b>", "place": 1}]}
         with answering_desk(answers) as (port, _):
@@ -270,7 +272,7 @@ class PressPages(SiteCase):
             # Nothing has changed meanwhile: the page is as it was first written.
             self.assertEqual(read("con-c1.html"), first["con-c1.html"])
         # Nobody listens now: every page says so, and a page that is not there is not made.
-        self.assertEqual(" pages 0 failed 1 GETs 1 " in press(port, status=1), True)
+        self.assertIn(" pages 0 failed 1 GETs 1 ", press(port, status=1))
         self.assertTrue(all('class="old"' in read(name)
                             for name in ("index.html", "count.html", "con-c1.html")))
         press(port, folder="others", status=1)
@@ -312,9 +314,8 @@ class PressPages(SiteCase):
                         self.assertNotIn('class="old"', read("index.html"))
                         self.assertNotIn("No answer", read("index.html"))
                 # What only the progress says changes the page too.
-                answers["/"
-                        "progress"] = ("c1                    1      0      1      0      0      1 "
-                                       "     3 certified\n")
+                answers["/progress"] = (
+                    "c1                    1      0      1      0      0      1      3 certified\n")
                 until(lambda: page_of("con-c1.html").tables["Returns of the stations"][1]
                       == ["1", "0", "1", "0", "0", "1"])
             finally:

@@ -51,9 +51,8 @@ class Readers(SiteCase):
         with contextlib.ExitStack() as held:
             for n in stations:
                 if n % 20 not in connections:
-                    connections[n % 20] = held.enter_context(
-                        contextlib.closing(http.client.HTTPConnection(NAME, front.port,
-                                                                      timeout=PATIENCE)))
+                    connection = http.client.HTTPConnection(NAME, front.port, timeout=PATIENCE)
+                    connections[n % 20] = held.enter_context(contextlib.closing(connection))
                     connections[n % 20].sock = front.connect(f"127.0.6.{n % 20 + 1}")
                 body = json.dumps({"slip": f"p{n}", "votes": [n % 100, 1], "blank": 0,
                                    "spoiled": 0})

@@ -100,8 +100,8 @@ class Record(SiteCase):
     def test_a_record_whose_disk_is_full_all_the_same(self):
         """Lines are cut where the file system has less room than it says: what is not whole is not
         done, and the lines go on."""
-        with recording_desk() as (port, messages), small_disk(Path.cwd() / "proxy/log",
-                                                              400_000), proxy(port) as front:
+        disk = small_disk(Path.cwd() / "proxy/log", 400_000)
+        with recording_desk() as (port, messages), disk, proxy(port) as front:
             statuses = [front.ask("POST", "/con/c1/import", b"x" * 50_000, "clara").status
                         for _ in range(12)]
             self.assertIn(statuses.count(200), (4, 5, 6, 7), statuses)
@@ -121,11 +121,10 @@ class Record(SiteCase):
             lines = file.read_bytes().split(b"\n")
             self.assertEqual([json.loads(line)["n"] for line in lines[-3:-1]],
                              [whole + 2, whole + 3])
+            last = hashlib.sha256(lines[-2]).hexdigest()
             self.assertEqual(self.check(front), (
-                1,
-                f'line {whole + 1}: not a line of a record: {{"n": 1000, "ti\n'
-                f'to look at 1; lines {whole + 3}, '
-                f"the hash of the last {hashlib.sha256(lines[-2]).hexdigest()}\n"))
+                1, f'line {whole + 1}: not a line of a record: {{"n": 1000, "ti\n'
+                f'to look at 1; lines {whole + 3}, the hash of the last {last}\n'))
 
     @needs("nginx", "openssl", "mount")
     def test_logs_of_the_proxy_without_room(self):
@@ -193,10 +192,8 @@ class Record(SiteCase):
             done = subprocess.run([DEPLOY / "replay", "--check", *words], input=b"".join(changed),
                                   capture_output=True, timeout=PATIENCE)
             self.assertEqual(done.stderr, b"")
-            return done.returncode, {int(number)
-                                     for number in re.findall(rb"^line (\d+):", done.stdout,
-                                                              re.M)}, done.stdout.split()[
-                -1].decode()
+            found = re.findall(rb"^line (\d+):", done.stdout, re.M)
+            return done.returncode, set(map(int, found)), done.stdout.split()[-1].decode()
 
         last = hashlib.sha256(lines[-1].rstrip(b"\n")).hexdigest()
         self.assertEqual(checked(lines), (0, set(), last))

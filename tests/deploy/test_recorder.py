@@ -84,17 +84,17 @@ class Recorder(SiteCase):
         limit = recorder.Limit()
         is_over = lambda name: limit.is_over(name, "station", 16_384)
         self.assertEqual([is_over("s1") for _ in range(25)], [False] * 20 + [True] * 5)
-        self.assertEqual(is_over("s2"), False)
+        self.assertFalse(is_over("s2"))
         for seconds, wanted in ((14, [True]), (1, [False, True]), (30, [False, False, True]),
                                 (3600, [False] * 20 + [True])):
             with self.subTest(seconds=seconds, wanted=wanted):
                 clock[0] += seconds
                 self.assertEqual([is_over("s1") for _ in wanted], wanted)
         with recording_desk() as (port, _), recorder_alone(port):
-            self.assertEqual([command("/station/s1/lodge", name=name, role=role)
-                              for name, role in 25 * [("s1", "station")] + 25 * [("clara",
-                                                                                  "clerk")]],
-                             [200] * 20 + [429] * 5 + [200] * 25)
+            names = 25 * [("s1", "station")] + 25 * [("clara", "clerk")]
+            self.assertEqual(
+                [command("/station/s1/lodge", name=name, role=role) for name, role in names],
+                [200] * 20 + [429] * 5 + [200] * 25)
 
     def test_what_one_of_the_staff_may_send(self):
         """Whoever has a clerk's password fills no disk, and does not keep the office with trials,
@@ -114,7 +114,7 @@ class Recorder(SiteCase):
                 self.assertEqual(sent("clara", 1_048_576), wanted)
         for _ in range(600):
             clock[0] += 60
-            self.assertEqual(limit.is_over("bruno", "clerk", 1_048_576), False)
+            self.assertFalse(limit.is_over("bruno", "clerk", 1_048_576))
         # What counts is what was sent, whatever it was.
         recorder.STAFF_BYTES, asked = 10 << 20, []
         recorder.sys = type("Sys", (), {"stdout": open("copy", "wb")})

@@ -242,10 +242,9 @@ class Replay(SiteCase):
         for entry, words in ODD:
             with self.subTest(entry=entry, words=words):
                 with recording_desk() as (port, messages):
-                    status, said = replayed(port, chained(entry,
-                                                          {"to": 1, "status": 200, "answer": ""},
-                                                          a_command("[]"),
-                                                          {"to": 3, "status": 200, "answer": ""}))
+                    status, said = replayed(port, chained(
+                        entry, {"to": 1, "status": 200, "answer": ""},
+                        a_command("[]"), {"to": 3, "status": 200, "answer": ""}))
                 self.assertEqual((status, [body for _, body in messages]), (1, [b"[]"]))
                 self.assertTrue(f"line 1: {words}" in said or words in said.splitlines()[0], said)
         with recording_desk() as (port, messages):

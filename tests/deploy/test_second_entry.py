@@ -13,11 +13,12 @@ from tests.support.shown import shows_well
 from tests.support.site import SiteCase
 
 DIFFERS = ("The first entry says something else. Compare the slip’s code and each of your figures "
-           "with the paper, from the top. If the "
-           "paper says all that you typed, query the return: a clerk corrects it from the paper.")
+           "with the paper, from the top. If the paper says all that you typed, query the return: "
+           "a clerk corrects it from the paper.")
 # The groups of the stations that are not closed: head, codes of the links, whether it is unfolded.
 OPEN = """return [...document.querySelectorAll('#open-stations details')]
-    .map((e) => [e.firstChild.textContent, [...e.querySelectorAll('a')].map((a) => a.textContent), e.open])"""
+    .map((e) => [e.firstChild.textContent,
+                 [...e.querySelectorAll('a')].map((a) => a.textContent), e.open])"""
 ENTER, TAB = "\ue007", "\ue004"
 
 
@@ -176,9 +177,9 @@ class SecondEntry(SiteCase):
                         said(it, "Stations that are not closed: 5. They are listed below.")
                         self.assertEqual((it.run(OPEN), focused(it)[0], unspoken(it)),
                                          (wanted, "find", []))
-                        asked_for = it.run("return "
-                                           "performance.getEntriesByType('resource').map((one) => "
-                                           "new URL(one.name).pathname)")
+                        asked_for = it.run(
+                            "return performance.getEntriesByType('resource')"
+                            ".map((one) => new URL(one.name).pathname)")
                         self.assertEqual(asked_for, ["/now/con/c1/stations"])
                         # Over the heads of four groups and the links of three.
                         press_keys(it, *[TAB] * 9)
@@ -229,8 +230,8 @@ class SecondEntry(SiteCase):
             it.click("#find")
             said(it, "Stations that are not closed: 52.")
             self.assertEqual([one[2] for one in it.run(OPEN)], [False, True])
-            it.open(it.run("return document.querySelector('#open-stations details:last-child "
-                           "a').href"))
+            it.open(it.run(
+                "return document.querySelector('#open-stations details:last-child a').href"))
             it.of_session("POST", "/refresh", {})
             said(it, "This is what the office has now.")
             self.assertEqual((it.run("return document.getElementById('station').value"), forms(it)),
@@ -248,19 +249,21 @@ class SecondEntry(SiteCase):
         """Past the cache clerks and the board are shown the table of stations as the desk has it,
         and whoever enters slips a second time the same up to the revisions, whatever a client says
         of its role."""
-        with office_with_a_second(TWICE.replace("Twin Town", "12 towns 3 closed 4 p1")) as (desk,
-                                                                                            front):
+        setup = TWICE.replace("Twin Town", "12 towns 3 closed 4 p1")
+        with office_with_a_second(setup) as (desk, front):
             front.name("stations", "s1")
             post(desk, "/station/s1/lodge", SLIP)
             post(desk, "/station/s2/lodge", SLIP | {"slip": "2", "votes": [3, 4]})
             post(desk, "/station/s2/query", {"rev": 1, "note": "smudged"})
             rest = "".join(f"s{n}                   300 -\n" for n in range(3, 7))
             head = "STATIONS c1 12 towns 3 closed 4 p1\nstations 6 missing 4 closed 0\n"
-            whole = (head + "s1                   300 received     1 p1                   191      "
-                     " 2       1\n"
-                     "s2                   300 queried      2 2                      7       2     "
-                     "  1\n" + rest)
-            bare = (f"{head}s1                   300 received     1\n"
+            whole = (
+                f"{head}"
+                "s1                   300 received     1 p1                   191       2       1\n"
+                "s2                   300 queried      2 2                      7       2       1\n"
+                f"{rest}")
+            bare = (f"{head}"
+                    "s1                   300 received     1\n"
                     f"s2                   300 queried      2\n{rest}")
             target = "/now/con/c1/stations"
             for name, text in (("clara", whole), ("berta", whole), ("sara", bare), ("s1", bare)):
@@ -271,8 +274,10 @@ class SecondEntry(SiteCase):
                             self.assertEqual(
                                 (found.status, found.body.decode(), found.head["Content-Type"]),
                                 (200, text, "text/plain; charset=utf-8"))
-            ask = lambda method, target, name, **more: front.ask(method, target, name=name,
-                                                                 **more).status
+
+            def ask(method, target, name, **more):
+                return front.ask(method, target, name=name, **more).status
+
             self.assertEqual([ask("GET", target, None), ask("GET", target, "clara", password="x"),
                               ask("POST", target, "clara"), ask("HEAD", target, "clara"),
                               ask("GET", f"{target}?x", "clara"),

@@ -6,6 +6,7 @@ import json
 import os
 import re
 import shlex
+import shutil
 import signal
 import stat
 import subprocess
@@ -17,6 +18,7 @@ from tests.support.office import SETUP, with_stations
 from tests.support.proxy import proxy
 from tests.support.record import LODGED, a_command, chained
 from tests.support.running import PATIENCE, free_port, until
+from tests.support.scripts import PROGRAMS
 from tests.support.site import DEPLOY, SiteCase, backup, new, plain, ran, rows, serving
 
 # What systemd finds that each of the services may do: all may use the network, have the system's
@@ -88,21 +90,8 @@ def placed(line, places):
     return line
 
 
-# In place of systemctl: what it was called with, and whether the record was in its place; the
-# office alone is really stopped and started, and listens after a while.
-SYSTEMCTL = """#!/bin/sh
-echo "$(ls log):$*" >> said
-case " $* " in
-*" stop "*) kill "$OFFICE" ;;
-*" start office "*) (sleep 2; exec "$PROGRAM" serve --db lib/office.db --port "$PORT" --count 1000000) > /dev/null 2>&1 & echo $! > started ;;
-esac
-"""
-# In place of ssh: what it was called with, and the other end on this machine.
-SSH = """#!/bin/sh
-echo "$@" > asked
-while [ "$1" != rsync ]; do shift; done
-exec "$@"
-"""
+# In place of systemctl and of ssh, which write down what they were called with.
+SYSTEMCTL, SSH = PROGRAMS / "systemctl", PROGRAMS / "ssh"
 
 
 class Services(SiteCase):
@@ -204,8 +193,8 @@ class Services(SiteCase):
                       "/usr/bin/python3": sys.executable, "8080": port,
                       "www-data": grp.getgrgid(os.getgid()).gr_name}
             new(SETUP, front.folder / "lib/office.db")
-            with started("office.service", places) as office, started("office-recorder.service",
-                                                                      places):
+            recorder = started("office-recorder.service", places)
+            with started("office.service", places) as office, recorder:
                 self.assertTrue(office.stdout.readline().startswith("listening on "))
                 until(lambda: (front.folder / "recorder/head").exists())
                 self.assertEqual(front.ask("POST", "/station/s1/lodge", LODGED, "clara").status,
@@ -255,8 +244,7 @@ class Services(SiteCase):
                          {"to": 1, "status": 200, "answer": '{"ok":"lodged","rev":1}'})
         Path("commands.log").write_bytes(record)
 
-        Path("bin/systemctl").write_text(SYSTEMCTL, encoding="utf-8")
-        Path("bin/systemctl").chmod(0o755)
+        shutil.copy(SYSTEMCTL, "bin")
         with serving(with_stations(2), "lib/office.db") as fresh:
             places = {"8080": fresh.port, "-o office -g office ": "",
                       "-o office-recorder -g office-recorder ": "", "tar -C /": "tar -C new",
@@ -296,8 +284,7 @@ class Services(SiteCase):
             encoding="utf-8")
         for folder in ("log", "lib/backup", "elsewhere", "bin"):
             Path(folder).mkdir(parents=True)
-        Path("bin/ssh").write_text(SSH, encoding="utf-8")
-        Path("bin/ssh").chmod(0o755)
+        shutil.copy(SSH, "bin")
         Path("lib/backup/office-20261126T221400Z.db").write_bytes(b"a copy")
         [environment] = [shlex.split(line)[0].split("=", 1) for line in lines["Environment"]]
         send = shlex.split(placed(

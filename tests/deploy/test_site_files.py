@@ -113,7 +113,7 @@ class SiteFiles(SiteCase):
                                         (code, pair, ground))
                 drawn = [(code, "hole" in inner)
                          for code, inner in re.findall(r'<g class="list-([\w-]+)">(.*?)</g>', text)]
-                self.assertEqual(len(drawn) > 1, True)
+                self.assertGreater(len(drawn), 1)
                 for (one, ring), (other, next_ring) in zip(drawn, drawn[1:]):
                     self.assertTrue(ring != next_ring
                                     or all(contrast(a, b) >= 1.5

@@ -39,9 +39,10 @@ class SiteOpenapi(SiteCase):
             self.assertEqual(names, re.findall(r"{(\w+)}", path), path)
             [(method, operation)] = [(key, value) for key, value in item.items()
                                      if key != "parameters"]
-            roles = None if "security" not in operation else [role for one in operation["security"]
-                                                              for role in one["name"]] or list(
-                STAFF)
+            roles = None
+            if "security" in operation:
+                roles = [role for one in operation["security"] for role in one["name"]]
+                roles = roles or list(STAFF)
             yield method.upper(), path.format(**codes), roles, {
                 status: resolved(answer) for status, answer in operation["responses"].items()}
 
@@ -106,11 +107,10 @@ class SiteOpenapi(SiteCase):
                     answered["/logout"].add(front.ask("GET", "/logout", name="logout",
                                                       password="x").status)
                     for n, (method, target, roles, answers) in enumerate(self.operations()):
-                        answered[target] |= self.asked_in_every_way(front, f"127.0.11.{n + 1}",
-                                                                    method, target, roles, answers,
-                                                                    public)
-            for target in [target for _, target, _, answers in self.operations() if "304" in answers
-                           and "404" in answers]:
+                        answered[target] |= self.asked_in_every_way(
+                            front, f"127.0.11.{n + 1}", method, target, roles, answers, public)
+            for target in [target for _, target, _, answers in self.operations()
+                           if "304" in answers and "404" in answers]:
                 Path(front.folder, "share" if target == "/setup.json" else "pages",
                      target[1:]).unlink()
                 answered[target].add(front.ask("GET", target, name="clara").status)

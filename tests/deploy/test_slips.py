@@ -23,8 +23,8 @@ from tests.support.site import BOTH, SiteCase, plain
 
 WARNED = """return [...document.querySelectorAll('#lodge .warning > span')].map((e) =>
     [e.closest('.counts > div').querySelector('span').textContent.split(' ')[0], e.textContent])"""
-MORE, LESS = ("More than twice its share in the constituency so "
-              "far."), "Less than half of its share in the constituency so far."
+MORE = "More than twice its share in the constituency so far."
+LESS = "Less than half of its share in the constituency so far."
 # A slip of 1,000 electors, and what is unusual in it. What is closed so far has 300, 200 and 20
 # votes: of 520 again these are expected, of 560 some 323, 215 and 22, of 245 some 141, 94 and 9.
 UNUSUAL = (
@@ -44,10 +44,9 @@ UNUSUAL = (
 USUAL = (([300, 200, 20], 27, 27), ([300, 180, 38], 0, 0), ([300, 200, 10], 0, 0),
          ([115, 77, 8], 0, 0), ([549, 365, 36], 0, 0), ([300, 200, 29], 0, 0))
 # Rows that are named for each cause, and how the page says it.
-FILE = RETURNS.replace("30,40",
-                       "31,"
-                       "40") + ("s1,p1,0,0,10\ns?,p1,0,0,1,1\nt1,p1,0,0,1,1\ns1,?,0,0,1,1\n"
-                                "s1,p1,0,x,1,1\ns3,p4,0,1000001,1,1\ns3,p4,0,300,1,1\n")
+FILE = RETURNS.replace("30,40", "31,40") + (
+    "s1,p1,0,0,10\ns?,p1,0,0,1,1\nt1,p1,0,0,1,1\ns1,?,0,0,1,1\n"
+    "s1,p1,0,x,1,1\ns3,p4,0,1000001,1,1\ns3,p4,0,300,1,1\n")
 NAMED = ["Row 2, below the header: station s2: another return of its station is recorded.",
          "Row 4, below the header: it has 5 fields, and the header has 6.",
          "Row 5, below the header: its station is not a code.",
@@ -93,12 +92,12 @@ class Slips(SiteCase):
             self.assertEqual(
                 (len({left for _, left, _ in tops}), sorted(tops, key=lambda one: one[2])),
                 (1, tops))
-            for wrong, words in ((
-                {"votes": [120, 17]},
-                "the figures add up to 140, and the total that was typed is 194."),
-                                 ({"total": 149},
-                                  "the figures add up to 194, and the total that was typed is "
-                                  "149.")):
+            for wrong, words in (
+                ({"votes": [120, 17]},
+                 "the figures add up to 140, and the total that was typed is 194."),
+                ({"total": 149},
+                 "the figures add up to 194, and the total that was typed is 149."),
+            ):
                 with self.subTest(wrong=wrong, words=words):
                     enter(it, "lodge", SLIP | {"total": 194} | wrong)
                     said(it, words)
@@ -143,15 +142,16 @@ class Slips(SiteCase):
             (pages / "setup.json").write_text(json.dumps(setup), encoding="utf-8")
             (pages / "setup.json.gz").unlink()
             lodges = "fetch('/station/s2/lodge', { method: 'POST', body: '%s' })" % json.dumps(SLIP)
-            for name, text in (("own.html",
-                                '<html lang="en"><title>Own</title><body '
-                                f'onload="{html.escape(lodges)}"><script>document.title = "ran"; '
-                                f'{lodges}</script>'
-                                '<script src="own.js"></script>'),
-                               ("own.js", f"document.title = 'ran'; {lodges}"),
-                               ("own.svg",
-                                '<svg xmlns="http://www.w3.org/2000/svg"><title>Own</'
-                                f'title><script>{lodges}</script></svg>')):
+            for name, text in (
+                ("own.html",
+                 f'<html lang="en"><title>Own</title><body onload="{html.escape(lodges)}">'
+                 f'<script>document.title = "ran"; {lodges}</script>'
+                 '<script src="own.js"></script>'),
+                ("own.js", f"document.title = 'ran'; {lodges}"),
+                ("own.svg",
+                 '<svg xmlns="http://www.w3.org/2000/svg"><title>Own</title>'
+                 f'<script>{lodges}</script></svg>'),
+            ):
                 (pages / name).write_text(text, encoding="utf-8")
             with clerks_browser(front, "clara") as it:
                 choose_station(it, "s1")
@@ -195,9 +195,10 @@ class Slips(SiteCase):
                             f"Nothing was sent yet: {number} unusual."), it.text("#alert"))
                         # The figure has the focus, and what is said of it belongs to it.
                         self.assertEqual(focused(it)[1].split(" ")[0], wanted[0][0])
-                        self.assertEqual(it.run("return "
-                                                "document.getElementById(document.activeElement.getAttribute('aria-describedby')).textContent"),
-                                         wanted[0][1])
+                        described = "document.activeElement.getAttribute('aria-describedby')"
+                        self.assertEqual(
+                            it.run(f"return document.getElementById({described}).textContent"),
+                            wanted[0][1])
                         self.assertEqual(plain(desk.port, "GET", "/station/s2").status, 404)
                 shows_well(it, "unusual")
                 self.assertEqual(unspoken(it), [])
@@ -305,9 +306,9 @@ class Slips(SiteCase):
             slip = "return document.querySelector('#lodge input[name=slip]').value"
             with clerks_browser(front, "clara") as it:
                 choose_station(it, "s1")
-                self.assertEqual(it.run(leaves), True)
+                self.assertTrue(it.run(leaves))
                 type_slip(it, "lodge", SLIP)
-                self.assertEqual(it.run(leaves), False)
+                self.assertFalse(it.run(leaves))
                 it.click("#again")
                 said(it, "This is what the office has now.")
                 self.assertEqual(it.run("return [...document.querySelectorAll('#lodge .counts "
@@ -336,9 +337,9 @@ class Slips(SiteCase):
                 it.click("#compare")
                 self.assertEqual((it.visible("#lodge"), it.run(leaves)), (False, False))
                 it.run("document.getElementById('lodge').reset()")
-                self.assertEqual(it.run(leaves), True)
+                self.assertTrue(it.run(leaves))
                 it.type("#query input[name=note]", "smudged")
-                self.assertEqual(it.run(leaves), False)
+                self.assertFalse(it.run(leaves))
                 choose_station_again(it, "04-001-B")
             self.assertEqual(shown(desk, "s1")["rev"], 1)
 
@@ -356,7 +357,7 @@ class Slips(SiteCase):
                     with clerks_browser(front, name) as it:
                         if name == "clara":
                             choose_station(it, code)
-                        self.assertEqual(it.visible("#retry"), False)
+                        self.assertFalse(it.visible("#retry"))
                         type_slip(it, "lodge", SLIP)
                         offline(it, True)
                         it.click("#lodge button")
@@ -458,7 +459,7 @@ class Slips(SiteCase):
                 # On paper there is the receipt and nothing else.
                 it.run("window.print = () => { window.printed = true; }")
                 it.click("#print")
-                self.assertEqual(it.run("return window.printed"), True)
+                self.assertTrue(it.run("return window.printed"))
                 self.assertEqual(it.run(PRINTED), ["HEADER", "said", "receipt", "print", "MAIN"])
                 it.command("Emulation.setEmulatedMedia", media="print")
                 self.assertEqual(it.run(PRINTED), ["receipt"])

@@ -29,9 +29,8 @@ def rounds_of(answers, setup):
     Path("setup.toml").write_text(setup, encoding="utf-8")
     Path("pages").mkdir(exist_ok=True)
     with desk_with(answered) as port:
-        offices, seen, entries = [rounds.Office("http://"
-                                                f"127.0.0.1:{port}")], rounds.Seen(), rounds.read_setup(Path(
-            "setup.toml"))
+        offices, seen = [rounds.Office(f"http://127.0.0.1:{port}")], rounds.Seen()
+        entries = rounds.read_setup(Path("setup.toml"))
 
         def a_round(seconds=60.0):
             asked.clear()
@@ -172,8 +171,8 @@ class StationFiles(SiteCase):
                     with self.subTest(setup=setup):
                         with rounds_of(lambda target: desk.get(target, 404), setup) as a_round:
                             [failure], _ = a_round()
-                            self.assertTrue(failure.endswith(": other stations or lists than those "
-                                                             "of the setup"), failure)
+                            self.assertTrue(failure.endswith(
+                                ": other stations or lists than those of the setup"), failure)
                 for target in (RETURNS, *([] if certified else [TABLE])):
                     with self.subTest(target=target):
                         for text in texts:

@@ -159,10 +159,9 @@ class Weights(SiteCase):
                                          60 if method == "hare" else 0)
                         self.assertEqual(len(rows_of_pages(pages, "Awards in order")),
                                          0 if method == "hare" else 500)
-                        self.assertEqual(len(rows_of_pages(pages,
-                                                           "Votes that a list lacked for one seat "
-                                                           "more, whatever lot is drawn, with the "
-                                                           "same other votes and eligible lists")),
+                        lacked = ("Votes that a list lacked for one seat more, whatever lot is "
+                                  "drawn, with the same other votes and eligible lists")
+                        self.assertEqual(len(rows_of_pages(pages, lacked)),
                                          0 if method == "hare" else 60)
                         said = collections.defaultdict(str)
                         for page in pages:

@@ -1,4 +1,4 @@
-"""A browser without a window, driven over the WebDriver protocol (W3C) with Python alone: Chromium and its driver."""
+"""Chromium without a window, driven over the WebDriver protocol (W3C) with Python alone."""
 
 import base64
 import contextlib
@@ -13,7 +13,8 @@ import time
 
 from tests.support.running import PATIENCE
 
-DRIVER, CHROMIUM = shutil.which("chromedriver"), shutil.which("chromium") or shutil.which("chromium-browser")
+DRIVER, CHROMIUM = shutil.which("chromedriver"), shutil.which("chromium") or shutil.which(
+    "chromium-browser")
 KEY = "element-6066-11e4-a52e-4f735466cecf"  # the name of an element's number in the protocol
 
 
@@ -28,7 +29,8 @@ class Browser:
     def ask(self, method, path, body=None):
         connection = http.client.HTTPConnection("127.0.0.1", self.port, timeout=self.patience)
         with contextlib.closing(connection):
-            connection.request(method, path, None if body is None else json.dumps(body), {"Content-Type": "application/json"})
+            connection.request(method, path, None if body is None else json.dumps(body),
+                               {"Content-Type": "application/json"})
             answer = connection.getresponse()
             value = json.loads(answer.read())["value"]
         if answer.status != 200:
@@ -47,7 +49,8 @@ class Browser:
 
     def run_later(self, script, *arguments):
         """What a function's body gives to the function that is its last argument."""
-        return self.of_session("POST", "/execute/async", {"script": script, "args": list(arguments)})
+        return self.of_session("POST", "/execute/async",
+                               {"script": script, "args": list(arguments)})
 
     def command(self, name, **parameters):
         """A command of the browser's own protocol."""
@@ -68,7 +71,8 @@ class Browser:
         return self.of_session("GET", f"/element/{self.find(css)}/text")
 
     def visible(self, css):
-        return self.run("const e = document.querySelector(arguments[0]); return Boolean(e && e.getClientRects().length)", css)
+        return self.run("const e = document.querySelector(arguments[0]); return Boolean(e && "
+                        "e.getClientRects().length)", css)
 
     def accept(self):
         """Answers the page's question with yes, once it asks; the question."""
@@ -107,15 +111,19 @@ class Browser:
         return found
 
     def named(self, *roles):
-        """The parts of these roles in what the browser tells a screen reader: each with its role and its name."""
+        """The parts of these roles in what the browser tells a screen reader: each with its role
+        and its name."""
         found = self.command("Accessibility.getFullAXTree")["nodes"]
         return [(one["role"]["value"], one.get("name", {}).get("value", "")) for one in found
                 if not one["ignored"] and one["role"]["value"] in roles]
 
     def size(self, width, height, dark=False):
         """The size of the page's window, and its colours."""
-        self.command("Emulation.setDeviceMetricsOverride", width=width, height=height, deviceScaleFactor=1, mobile=False)
-        self.command("Emulation.setEmulatedMedia", features=[{"name": "prefers-color-scheme", "value": "dark" if dark else "light"}])
+        self.command("Emulation.setDeviceMetricsOverride", width=width, height=height,
+                     deviceScaleFactor=1, mobile=False)
+        self.command(
+            "Emulation.setEmulatedMedia",
+            features=[{"name": "prefers-color-scheme", "value": "dark" if dark else "light"}])
 
     def picture(self, file, whole=False):
         shot = self.command("Page.captureScreenshot", format="png", captureBeyondViewport=whole)
@@ -124,12 +132,15 @@ class Browser:
 
 @contextlib.contextmanager
 def browser(folder, *words, **environment):
-    """A browser with a profile of its own in the folder, and this added to its environment; it is ended at the end."""
+    """A browser with a profile of its own in the folder, and this added to its environment; it is
+    ended at the end."""
     with socket.create_server(("127.0.0.1", 0)) as free:
         port = free.getsockname()[1]
     # Both keep files in the folder of temporary files, here the given folder.
-    driver = subprocess.Popen([DRIVER, f"--port={port}"], stdout=subprocess.DEVNULL, stderr=subprocess.DEVNULL,
-                              env={**os.environ, "TMPDIR": str(folder), "HOME": str(folder), **environment}, start_new_session=True)
+    driver = subprocess.Popen(
+        [DRIVER, f"--port={port}"], stdout=subprocess.DEVNULL, stderr=subprocess.DEVNULL,
+        env={**os.environ, "TMPDIR": str(folder), "HOME": str(folder), **environment},
+        start_new_session=True)
     it = Browser(port)
     try:
         wait_for_driver(it)
@@ -148,11 +159,12 @@ def browser(folder, *words, **environment):
 
 def capabilities(words):
     # As root Chromium has no sandbox of its own; the pages here are this repository's.
-    arguments = ["--headless=new", "--no-sandbox", "--disable-gpu", "--disable-dev-shm-usage", "--hide-scrollbars",
+    arguments = ["--headless=new", "--no-sandbox", "--disable-gpu", "--disable-dev-shm-usage",
+                 "--hide-scrollbars",
                  "--no-first-run", "--disable-background-networking", *words]
     options = {"binary": CHROMIUM, "args": arguments}
-    always = {"browserName": "chrome", "acceptInsecureCerts": True, "goog:chromeOptions": options, "timeouts": {"script": PATIENCE * 1000},
-              "unhandledPromptBehavior": "ignore"}
+    always = {"browserName": "chrome", "acceptInsecureCerts": True, "goog:chromeOptions": options,
+              "timeouts": {"script": PATIENCE * 1000}, "unhandledPromptBehavior": "ignore"}
     return {"capabilities": {"alwaysMatch": always}}
 
 

@@ -18,9 +18,8 @@ FOUR_NAMES = {"A": "Alpha", "B": "Beta", "C": "Gamma", "D": "Delta"}
 FOUR_RETURNS = {"norte": "n1,p1,5,1,60,50,5\nn2,p2,0,2,40,40,0\n", "este": "e1,p1,0,0,30,80,10\n",
                 "sur": "s1,p1,0,0,10,20\n", "oeste": "o1,p1,0,0,7,3,90\n"}
 # A former result: in Norte A had 20 per cent of the valid votes and B 30, and in Este each a seat.
-FOUR_BEFORE = ("con,list,votes,seats,valid\nnorte,A,40,2,200\nnorte,B,60,1,200\neste,A,50,1,100\n"
-               "este,B,50,1,100\n"
-               "sur,A,50,2,100\noeste,A,1,1,100\n")
+FOUR_BEFORE = ("con,list,votes,seats,valid\nnorte,A,40,2,200\nnorte,B,60,1,200\n"
+               "este,A,50,1,100\neste,B,50,1,100\nsur,A,50,2,100\noeste,A,1,1,100\n")
 
 
 def setup_of_four():

@@ -22,9 +22,8 @@ from tests.support.scripts import in_page
 from tests.support.site import EXAMPLES, LATE, STATIONS, same
 
 STORED = ROOT / "tests/pictures"
-# Whether the pictures are stored again, and a folder in which the pages are left to look at.
+# Whether the pictures are stored again.
 STORE = bool(os.environ.get("OFFICE_STORE_PICTURES"))
-PICTURES = Path(os.environ["OFFICE_PICTURES"]) if "OFFICE_PICTURES" in os.environ else None
 # Points of a cell's side; how far the mean of a colour, of 255, may be from the stored one; and how
 # many cells of a picture may be further from it, each of which a moved line has.
 CELL, APART, MOST = 16, 10, 4
@@ -74,31 +73,11 @@ def apart(found, stored):
     return cells
 
 
-# A file's button is within its field, where no other selector reaches: Chromium draws it in Arial.
-FONTS = """*, ::file-selector-button { font-family: "DejaVu Sans" !important; caret-color: transparent !important; transition: none !important; }
-pre, code { font-family: "DejaVu Sans Mono" !important; }"""
-# Of all moments one, and the fonts.
-STILL = in_page("still.js")
+# One moment in the place of all, and the fonts.
+STILL, FONTS = in_page("still.js"), in_page("fonts.css")
 MEANS = in_page("means.js")
 # The only fonts that the browser is given, and how it draws them, whatever else is on the machine.
-DEJAVU = """<?xml version="1.0"?>
-<fontconfig>
-<include ignore_missing="yes">/etc/fonts/fonts.conf</include>
-<selectfont>
-<acceptfont><glob>*/DejaVuSans.ttf</glob><glob>*/DejaVuSans-Bold.ttf</glob></acceptfont>
-<acceptfont><glob>*/DejaVuSansMono.ttf</glob><glob>*/DejaVuSansMono-Bold.ttf</glob></acceptfont>
-<rejectfont><glob>*.?t?</glob><glob>*.pf?</glob><glob>*.pcf*</glob></rejectfont>
-</selectfont>
-<match target="font">
-<edit name="antialias" mode="assign"><bool>true</bool></edit>
-<edit name="hinting" mode="assign"><bool>false</bool></edit>
-<edit name="hintstyle" mode="assign"><const>hintnone</const></edit>
-<edit name="autohint" mode="assign"><bool>false</bool></edit>
-<edit name="rgba" mode="assign"><const>none</const></edit>
-</match>
-</fontconfig>
-"""
-# How wide a text is in a font, of which nothing else is known.
+DEJAVU = in_page("fonts.conf")
 WIDTH = in_page("text_width.js")
 
 
@@ -134,10 +113,10 @@ def unless_it_hangs(test):
     """A test that is made again, up to three times, where Chromium gives no picture at all, as it
     may on a machine that has much else to do."""
     @functools.wraps(test)
-    def run():
+    def run(self):
         for left in (2, 1, 0):
             try:
-                return test()
+                return test(self)
             except TimeoutError:
                 if not left:
                     raise

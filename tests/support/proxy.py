@@ -16,11 +16,11 @@ import sys
 import time
 from pathlib import Path
 
+from tests.support.case import find
 from tests.support.running import PATIENCE, free_port, until
 from tests.support.site import DEPLOY, NAME, Answer, ran, same, serving
 
-# nginx is mostly where only the administrator's PATH has it.
-NGINX = shutil.which("nginx", path=f"{os.environ.get('PATH', '')}:/usr/sbin:/usr/local/sbin")
+NGINX = find("nginx")
 
 
 def filled(text, pairs):
@@ -82,10 +82,10 @@ class Proxy:
         (self.folder / "office" / name).write_text(text, encoding="utf-8")
 
     def certify(self):
-        ran("openssl", "req", "-x509", "-newkey", "ec", "-pkeyopt", "ec_paramgen_curve:prime256v1",
-            "-nodes", "-days", "2",
-            "-keyout", self.folder / "office/key.pem", "-out",
-            self.folder / "office/certificate.pem",
+        ran("openssl", "req", "-x509", "-nodes", "-days", "2",
+            "-newkey", "ec", "-pkeyopt", "ec_paramgen_curve:prime256v1",
+            "-keyout", self.folder / "office/key.pem",
+            "-out", self.folder / "office/certificate.pem",
             "-subj", f"/CN={NAME}", "-addext", f"subjectAltName=DNS:{NAME}")
         self.tls = ssl.create_default_context(cafile=self.folder / "office/certificate.pem")
 
@@ -106,11 +106,11 @@ class Proxy:
 
     def start_recorder(self):
         desks = [word for desk in self.desks for word in ("--desk", f"127.0.0.1:{desk}")]
-        self.recorder = subprocess.Popen(
-            [sys.executable, DEPLOY / "recorder.py", self.folder / "recorder",
-             self.folder / "log/commands.log",
-             "--room", str(self.room), *desks], stdout=subprocess.DEVNULL,
-            stderr=open(self.folder / "log/recorder", "ab"))
+        with open(self.folder / "log/recorder", "ab") as said:
+            self.recorder = subprocess.Popen(
+                [sys.executable, DEPLOY / "recorder.py", self.folder / "recorder",
+                 self.folder / "log/commands.log", "--room", str(self.room), *desks],
+                stdout=subprocess.DEVNULL, stderr=said)
         until(lambda: (self.folder / "recorder/head").exists() or self.recorder.poll() is not None)
 
     def end_recorder(self, number=signal.SIGTERM):
@@ -132,7 +132,8 @@ class Proxy:
                 return
             except OSError:
                 log = self.folder / "log/error.log"
-                assert self.process.poll() is None and time.monotonic() < end, log.read_text() if log.exists() else "nginx"
+                said = log.read_text() if log.exists() else "nginx"
+                assert self.process.poll() is None and time.monotonic() < end, said
                 time.sleep(0.05)
 
     def end(self):

@@ -35,8 +35,9 @@ def command(target, body=b"{}", name="clara", role="clerk", allowed="1"):
     with socket.socket(socket.AF_UNIX) as it:
         it.settimeout(PATIENCE)
         it.connect("recorder/1.sock")
-        it.sendall(f"POST {target} HTTP/1.0\r\nHost: recorder1\r\nOffice-Name: {name}\r\n"
-                   f"Office-Role: {role}\r\nOffice-Address: 192.0.2.1\r\n"
-                   f"Office-Allowed: {allowed}\r\nContent-Length: {len(body)}\r\n\r\n".encode() + body)
+        head = (f"POST {target} HTTP/1.0\r\nHost: recorder1\r\nOffice-Name: {name}\r\n"
+                f"Office-Role: {role}\r\nOffice-Address: 192.0.2.1\r\n"
+                f"Office-Allowed: {allowed}\r\nContent-Length: {len(body)}\r\n\r\n")
+        it.sendall(head.encode() + body)
         answer = it.recv(65536)
         return int(answer[9:12]) if answer else None

@@ -8,8 +8,6 @@ import sys
 from tests.support.case import ROOT
 from tests.support.site import DEPLOY
 
-
-
 # The modules of deploy/ import one another by these names.
 sys.path.append(str(DEPLOY))
 # What tests start as processes of their own, and what they run in a page.

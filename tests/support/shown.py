@@ -1,6 +1,7 @@
 """How a page is shown in a browser."""
 
 import os
+from pathlib import Path
 
 from tests.support.scripts import in_page
 from tests.support.site import same

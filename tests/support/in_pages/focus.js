@@ -1,3 +1,4 @@
+// The part that has the focus, whether it is seen that it has it, and whether it is in the window.
 const e = document.activeElement, style = getComputedStyle(e), box = e.getBoundingClientRect();
 if (e === document.body) return ["", true, true];
 const seen = style.outlineStyle !== "none" && parseFloat(style.outlineWidth) >= 2;

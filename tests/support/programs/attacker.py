@@ -13,14 +13,16 @@ import sys
 import threading
 import time
 
-port, certificate, seconds, request_of, sources, each = int(sys.argv[1]), sys.argv[2], float(
-    sys.argv[3]), *json.loads(sys.argv[4])
+port, certificate, seconds = int(sys.argv[1]), sys.argv[2], float(sys.argv[3])
+request_of, sources, each = json.loads(sys.argv[4])
 tls = ssl.create_default_context(cafile=certificate)
 end, took, statuses, number, lock = 0, [], {}, iter(range(10**9)), threading.Lock()
+
 
 def connected(source):
     there = socket.create_connection(("127.0.0.1", port), timeout=600, source_address=(source, 0))
     return tls.wrap_socket(there, server_hostname="office.example")
+
 
 def answer(it):
     read = it.recv(65536)
@@ -43,6 +45,7 @@ def answer(it):
             body = (body + part)[-16:]
             chunked = not body.endswith(b"0\r\n\r\n")
     return int(head[9:12]), b"connection: close" in head.lower()
+
 
 def run(source):
     connections = {}
@@ -68,6 +71,7 @@ def run(source):
                     connections.pop(place).close()
             except OSError:
                 connections.pop(place, None)
+
 
 threads = [threading.Thread(target=run, args=(sources[place::each],), daemon=True)
            for place in range(each)]

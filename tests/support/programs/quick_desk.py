@@ -1,7 +1,6 @@
 """Stands in the place of an office, and answers at once. It prints its port."""
 
 import socket
-import sys
 
 listener = socket.create_server(("127.0.0.1", 0), backlog=512)
 print(listener.getsockname()[1], flush=True)

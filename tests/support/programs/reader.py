@@ -18,9 +18,11 @@ tls = ssl.create_default_context(cafile=certificate)
 request = b"GET /con/c1/tally HTTP/1.1\r\nHost: office.example\r\n\r\n"
 failed, asked, stop = [], [], threading.Event()
 
+
 def until_told():
     sys.stdin.read()
     stop.set()
+
 
 def read(client):
     # So often, or, if that is 0, until this is told to end.
@@ -45,11 +47,13 @@ def read(client):
                     failed.append(answer)
     asked.append(count)
 
+
 def tries_to_read(client):
     try:
         read(client)
     except Exception as error:
         failed.append(repr(error))
+
 
 threads = [threading.Thread(target=tries_to_read, args=(client,)) for client in range(clients)]
 threading.Thread(target=until_told, daemon=True).start()
