@@ -118,7 +118,7 @@ class AuditCommands(Case):
                      f"setup    {sums[0]}  setup.toml", f"returns  {sums[1]}  returns.csv"):
             with self.subTest(line=line):
                 self.assertIn(line, ran.out.splitlines(), (line, ran.out))
-        self.assertIn("U = 8.500000.", ran.out, ran.out)
+        self.assertIn("U = 8.500000.", ran.out)
 
     def test_a_draw(self):
         given()
@@ -183,10 +183,9 @@ class AuditCommands(Case):
         self.assertEqual((ran.status, ran.err), (0, ""))
         self.assertIn(
             "A lot decided between A's seat 2 and B's seat 2: the votes of the two are equal.\n",
-            ran.out, ran.out)
-        self.assertIn("No sample can confirm what a lot decided: count all papers.\n", ran.out,
-                      ran.out)
-        self.assertNotIn("U =", ran.out, ran.out)
+            ran.out)
+        self.assertIn("No sample can confirm what a lot decided: count all papers.\n", ran.out)
+        self.assertNotIn("U =", ran.out)
         self.assertEqual(run(f"draw {GIVEN} --seed {SEED} --draws 5"),
                          Ran(2, "",
                              "audit.py: no station is drawn: a lot decided a seat, so all papers "
@@ -207,7 +206,7 @@ class AuditCommands(Case):
                     (ran.status, ran.err, re.findall(r"^  ([A-E]) +\d+ +(\w+)", ran.out, re.M)),
                     (0, "", list(zip("ABCDE", wanted))))
         # (of six seats nobody's lot is needed)
-        self.assertNotIn("lot", ran.out, ran.out)
+        self.assertNotIn("lot", ran.out)
 
     def unusable(self, ran, words):
         self.assertEqual(ran.status, 2, (ran, words))

@@ -204,7 +204,7 @@ class CountryPage(SiteCase):
                         header = text[text.index("<header>"):text.index("</header>")]
                         self.assertRegex(header,
                                          r'<p class="moment">(As the office had it|Changed last) '
-                                         r'on <time datetime="\d{4}-', header)
+                                         r'on <time datetime="\d{4}-')
                 for target, old in (("/con/norte", ["con-norte.html", "stations-norte-1.html"]),
                                     ("/con/oeste", ["con-oeste.html", "stations-oeste-1.html"]),
                                     ("/progress", list(first))):

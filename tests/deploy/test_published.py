@@ -220,7 +220,7 @@ class Published(SiteCase):
                              {"ROBLE": 4, "ENCINA": 3, "HAYA": 2, "SAUCE": 0, "OLIVO": 0})
             self.assertTrue(typed(country).startswith("COUNTRY\nconstituencies 1 certified 1\n"),
                             typed(country))
-            self.assertIn("\nSAUCE               0          10\n", typed(short), typed(short))
+            self.assertIn("\nSAUCE               0          10\n", typed(short))
             self.assertEqual(json.loads(typed(certified)),
                              {"con": "montehondo", "certified": True, "edition": 2})
             self.assertEqual(

@@ -66,8 +66,8 @@ class Record(SiteCase):
                         for _ in range(30)]
             self.assertEqual((statuses[:15], set(statuses[20:])), ([400] * 15, {429}))
             size = (front.folder / "log/commands.log").stat().st_size
-            self.assertLess(15 * 16_384, size, size)
-            self.assertLess(size, 21 * 22_500, size)
+            self.assertLess(15 * 16_384, size)
+            self.assertLess(size, 21 * 22_500)
             # So the disk is filled by a file beside.
             disk = os.statvfs(front.folder / "log")
             (front.folder / "log/filler").write_bytes(
@@ -177,7 +177,7 @@ class Record(SiteCase):
             status, said = self.check(front)
             self.assertEqual(status, 1, said)
             self.assertIn("clara POST /station/s2/close {\"rev\":2}: it was not sent: nobody knows "
-                          "whether it was done", said, said)
+                          "whether it was done", said)
 
     def test_a_record_that_was_changed(self):
         """A line that is altered, removed, added or moved is found, wherever it is but the last,

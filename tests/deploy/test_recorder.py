@@ -208,7 +208,7 @@ class Recorder(SiteCase):
                               timeout=PATIENCE)
         self.assertEqual((done.returncode, done.stdout.splitlines()[0], done.stdout.count(b"\n")),
                          (1, b'line 201: not a line of a record: {"n": 201, "ti', 2))
-        self.assertIn(b"to look at 1; lines 401, ", done.stdout, done.stdout)
+        self.assertIn(b"to look at 1; lines 401, ", done.stdout)
 
     def test_a_line_that_the_disk_cuts(self):
         """A command whose line is not whole is not done; the line counts, and those that follow are

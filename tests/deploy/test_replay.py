@@ -115,7 +115,7 @@ class Replay(SiteCase):
             status, said = replay(desk, front)
             self.assertEqual(status, 1, said)
             self.assertTrue(said.endswith(f"\nsent 25, to look at 23; {end}"), said)
-            self.assertIn('"word":"stale"', said, said)
+            self.assertIn('"word":"stale"', said)
             self.assertEqual(replay(desk, front, "--since", "2100-01-01T00:00:00+00:00"),
                              (0, f"sent 0, to look at 0; {end}"))
             self.assertEqual(replay(desk, front, "--since", record[0]["time"])[1], said)
@@ -300,4 +300,4 @@ class Replay(SiteCase):
             status, said = replayed(port, chained(*entries))
         self.assertEqual((status, said.splitlines()[-1].split(";")[0]), (1, "sent 3, to look at 1"))
         self.assertTrue(said.startswith("line 1: "), said)
-        self.assertIn("no answer", said, said)
+        self.assertIn("no answer", said)

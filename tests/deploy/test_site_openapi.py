@@ -17,7 +17,7 @@ from tests.support.site import DEPLOY, SiteCase
 ROUTES = json.loads((DEPLOY / "openapi.json").read_text(encoding="utf-8"))
 PROGRAM = json.loads((ROOT / "docs/openapi.json").read_text(encoding="utf-8"))
 STAFF = {"clerk": "clara", "second": "sara", "board": "berta", "station": "s1"}
-# tests/deploy.py and tests/attacks.py ask too often, fill the disk of the record, end the desk.
+# Other suites ask too often, fill the disk of the record and end the desk.
 NOT_TRIED = {"429", "503", "504"}
 
 
