@@ -34,7 +34,7 @@ def run(words):
     return audit(*words.split())
 
 
-# What is wrong with papers, and what is said of it.
+# Papers that are wrong in some way, and the fault that is printed.
 PAPERS = """
 s1,3,0,0,60,20/s2,1,0,0,50,30/s9,1,0,0,1,1 => papers.csv, line 4: c1 has no station 's9'
 s1,3,0,0,60,20/s1,2,0,0,50,30 => papers.csv, line 3: station s1 comes twice
@@ -50,7 +50,7 @@ s2,2,0,0,50,30 => papers.csv: station s2 is drawn 0 times in 2 draws, and the fi
 s1,2,0,0,60,20/s2,2,0,0,50,30 => papers.csv: station s1 is drawn 3 times \
 in 4 draws, and the file says 2
 """
-# What is wrong with the words of the command line or with the files, besides.
+# Wrong command lines and wrong files, and the fault that is printed.
 WORDS = [
     (f"plan {GIVEN} --risk 0", "a limit is a number of per cent above 0 and below 100"),
     (f"plan {GIVEN} --risk 100", "a limit is a number of per cent above 0 and below 100"),
@@ -78,8 +78,8 @@ s2, which has 100 electors
 s2,p2,0,0,50,30 => s2,p2,0,0,,30 => returns.csv, line 3: '' of station s2 is not a number
 spoiled,A,B => spoiled,B,A => returns.csv: the header is not station,slip,blank,spoiled,A,B
 """
-# A plan of the whole country may take so many seconds of the processor, and on a slow one so many
-# times as many as Python takes to read the files and to add them up.
+# The seconds of the processor that a plan of the whole country may take. On a slow machine: how
+# many times as long as Python takes to read the files and to add them up.
 PLAN_SECONDS, AS_READING = 5, 15
 READING = """
 import csv, sys
@@ -91,7 +91,7 @@ for file in sys.argv[1:]:
 
 
 def spent(act):
-    """What an act gives, and the seconds of the processor of the programs that it ran."""
+    """The result of an act, and the seconds of the processor of the programs that it ran."""
     before = resource.getrusage(resource.RUSAGE_CHILDREN)
     found = act()
     after = resource.getrusage(resource.RUSAGE_CHILDREN)
@@ -124,7 +124,7 @@ class AuditCommands(Case):
         given()
         wanted = DRAWN + "s1,3,,,,\ns2,2,,,,\n"
         self.assertEqual(run(f"draw {GIVEN} --seed {SEED} --draws 5"), Ran(0, wanted, ""))
-        # What was counted stays in it, a semicolon is a comma, and a row of nothing else is none.
+        # Counted papers stay in it, a semicolon is a comma, and a row of nothing else is none.
         write("papers.csv",
               wanted.replace("s2,2,,,,", "s2,2,1,2,33,44").replace(",", ";") + ";;;;;\n")
         self.assertEqual(run(f"draw {GIVEN} --seed {SEED} --draws 6 --papers papers.csv"),

@@ -53,8 +53,8 @@ def asserted(it):
     return it.words, it.margin, it.low, it.high, math.ceil(it.votes())
 
 
-# What coreutils says of `printf SEED,1 | sha256sum` and of the next seven: the first eight of 64
-# digits.
+# The output of `printf SEED,1 | sha256sum` of coreutils and of the next seven: the first eight of
+# 64 digits.
 DIGESTS = ["2972ee61", "2cf6ac4f", "b640cabd", "0d5511a8", "8cd89903", "e586ce79", "289af8a7",
            "1552d4c5"]
 
@@ -86,8 +86,10 @@ def holds(it, asserted_of, counts):
 
 
 def at_most(tries, chance, beyond=Fraction(1, 1000)):
-    """The least number that so many tries, each with this chance, exceed with a chance below 1 in
-    1,000."""
+    """The least number that these tries, each with this chance, hardly exceed.
+
+    They exceed it with a chance below `beyond`.
+    """
     left, term = Fraction(1), (1 - chance)**tries
     for number in itertools.count():
         left -= term
@@ -339,9 +341,12 @@ class AuditRule(Case):
         self.assertLessEqual(confirmed, most)
 
     def test_right_seats_are_confirmed_within_the_expected_draws(self):
-        """Margins above 5 per cent of the votes, and 1 vote in 1,000 recorded for another list than
-        on paper: half at least are confirmed within what a plan says for so many errors, and
-        without errors all are, with as many draws as it says."""
+        """Margins are above 5 per cent of the votes, and 1 vote in 1,000 is recorded for another
+        list than on paper.
+
+        At least half are confirmed within the draws of the plan for such errors. Without errors
+        all are, with as many draws as the plan says.
+        """
         made, within, tried = random.Random(12), 0, 0
         while tried < 60:
             con, papers = made_election(made, METHODS[tried % 4])

@@ -143,7 +143,7 @@ class ClerksPage(SiteCase):
                   "A lot is needed among A, B, for one seat.")
         draw(it, "B", "B")
         said(it, "The lot has to name each of these lists once and no other: A, B.")
-        # What was chosen is there, and the first place has the focus.
+        # The choice is still there, and the first place has the focus.
         self.assertEqual(it.run("const all = [...document.querySelectorAll('#order select')]; "
                                 "return [...all.map((e) => e.value), "
                                 "all.indexOf(document.activeElement)]"), ["B", "B", 0])

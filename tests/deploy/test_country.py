@@ -21,12 +21,12 @@ from tests.support.site import DEPLOY, SiteCase, plain, ran, serving
 # How many stations each of the 52 constituencies has. With 1154 they are a country of 60,000, which
 # takes some minutes.
 COUNTRY_STATIONS = int(os.environ.get("COUNTRY_STATIONS", 20))
-# What a round of the pages may cost the office, however many stations there are: so many seconds of
-# a usual processor, with --every; and without the returns one request of it so many times as much
-# as the request for a return.
+# The limits of the cost of a round of pages to the office, however many stations there are. With
+# --every: seconds of a usual processor. Without the returns: one request of the round, in requests
+# for a return.
 ROUND_SECONDS = 1.05
 BESIDE_A_RETURN = 10
-# What a round may cost press.py, also one that writes every page and file.
+# The limit of the cost of a round to press.py, also where it writes every page and file.
 PAGES_SECONDS = 3
 
 
@@ -107,8 +107,10 @@ class Country(SiteCase):
                              b'{"edition":2,"ok":"edition"}')
 
     def round_of(self, desk, gets, what, *words):
-        """A round of press.py that is started for it and takes so many requests; seconds that the
-        office was on a processor."""
+        """Runs press.py for one round, which takes this number of requests.
+
+        The seconds that the office was on a processor.
+        """
         began = spent(desk.process)
         last = press(desk.port, *words)
         took = spent(desk.process) - began
@@ -236,7 +238,7 @@ class Country(SiteCase):
             self.assertEqual({con: sum(given.values()) for con, given in seats.items()},
                              dict.fromkeys(returns, 7))
             Path("office.db").unlink()
-            # What is imported is what was published, and no return of before.
+            # The import has what was published, and no return of before.
             with self.closed_country(setup, published, sums, "fresh.db") as desk:
                 self.certify_all(desk, returns)
                 press(desk.port, "--setup", "setup.toml", folder="fresh")

@@ -19,7 +19,7 @@ from tests.support.site import DEPLOY, SiteCase
 
 press_site = module("press_site")
 
-# What the page of the country says of the office's own sums.
+# The sentences of the country's page on the office's own sums.
 SAME = "The office adds up the same seats and votes itself, at one moment."
 OTHER = ("The office was asked for one constituency after the other, and had other sums at the "
          "end: returns came meanwhile.")

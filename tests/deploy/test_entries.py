@@ -43,7 +43,7 @@ def record_of(commands):
 
 class Entries(SiteCase):
     def entries(self, record, setup=TWICE):
-        """What the tool says of a record: its bytes, or commands."""
+        """The output of the tool for a record, which is given as bytes or as commands."""
         Path("entries.toml").write_text(setup, encoding="utf-8")
         done = subprocess.run([DEPLOY / "entries", "entries.toml"],
                               input=record if isinstance(record, bytes) else record_of(record),
@@ -72,7 +72,7 @@ class Entries(SiteCase):
             + given("sara", "/station/s3/correct") + given("sara", "/station/s3/confirm")
             + given("bruno", "/con/c1/import", rows) + given("bruno", "/station/s4/confirm")
             + given("clara", "/station/s5/lodge") + given("bruno", "/station/s5/confirm")
-            # What is answered `same`, or refused by the office or before it, is nobody's entry.
+            # A return that is answered `same`, or refused, is nobody's entry.
             + given("sara", "/station/s5/lodge") + given("sara", "/station/s5/lodge", "{}", 409)
             + given("sara", "/station/s5/confirm", "{}", 409)
             + refused_name("clara", "/station/s5/confirm") + given("sara", "/station/s6/confirm")
@@ -146,7 +146,7 @@ class Entries(SiteCase):
                 text = one.decode(errors="backslashreplace").replace("\\xe9", "\\udce9").replace(
                     "\0", "\\x00")[:200]
                 self.assertEqual(said_of[0], f"line 1 is no whole line of a record: {text}")
-        # What a terminal obeys is shown and not obeyed, in a line, a name or a time.
+        # Characters that a terminal obeys are escaped, in a line, a name or a time.
         odd = "\x1b[1A\x1b[2K\x9b\u202e\r"
         shown = "\\x1b[1A\\x1b[2K\\x9b\\u202e\\r"
         self.assertEqual(self.entries([odd.encode()] + twice)[1][0],
@@ -154,7 +154,7 @@ class Entries(SiteCase):
         named = [(command | {"name": odd, "time": odd}, statuses) for command, statuses in twice]
         self.assertEqual(self.entries(named)[1][0],
                          f"s1: both entries are by {shown} ({shown}, {shown})")
-        # What another office answered as done.
+        # Commands that another office answered as done.
         for path, what in (("/station/zz/lodge", "lodge zz"), ("/con/zz/certify", "certify zz"),
                            ("/con/zz/import", "import zz"), ("/con/c1/certify", "certify c1")):
             with self.subTest(path=path, what=what):

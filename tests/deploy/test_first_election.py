@@ -51,8 +51,8 @@ class FirstElection(SiteCase):
             ["ENCINA", "1,134 ★ won", "567 ★ won", "378 ★ won", "283", "226"],
             ["HAYA", "694 ★ won", "347 ★ won", "231", "173", "138"],
             ["SAUCE", "299", "149", "99", "74", "59"]])
-        # What is published can be added up again by the office's own check: all rows lodged, and
-        # the votes of above.
+        # The office's own check adds up the published file: all rows lodged, and the votes of
+        # above.
         checked = subprocess.run([PROGRAM, "check"], input=read("stations-montehondo-2.csv"),
                                  capture_output=True, text=True, timeout=PATIENCE)
         self.assertEqual(checked.stdout,

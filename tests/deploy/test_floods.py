@@ -26,8 +26,11 @@ CLIENT = PROGRAMS / "attacker.py"
 
 
 def clients(front, head, sources, threads, seconds, body="", name=None, password=None):
-    """Starts a process that asks again and again over kept connections, one from each of these
-    addresses, so many at once. `#` in what it asks is another number each time."""
+    """Starts a process that asks again and again over kept connections.
+
+    There is one connection from each of these addresses, and `threads` ask at once. `#` in the
+    request is another number each time.
+    """
     if name:
         head += f"Authorization: {front.authorization(name, password)}\r\n"
     asked = json.dumps([{"head": head, "body": body}, sources, threads])

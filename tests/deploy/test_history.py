@@ -108,7 +108,7 @@ class History(SiteCase):
             self.assertEqual(front.ask(
                 "GET", target, name="s1",
                 headers={"Office-Role": "clerk", "Office-Allowed": "1"}).status, 403)
-            # What is read is not recorded.
+            # Reading is not recorded.
             self.assertEqual(len(front.record()), 10)
 
     def test_a_history_reads_the_lines_of_its_station(self):
@@ -148,7 +148,7 @@ class History(SiteCase):
                          [["answer"], ["answer"], []])
         self.assertEqual([one["body"] for one in record.history("s8")["commands"]],
                          ["{}", '"' * 16_384])
-        # What is lodged over and over, or refused, pushes no act out.
+        # A return that is lodged over and over, or refused, pushes no act out.
         Path("commands.log").write_bytes(chained(
             a_command("{}", "/station/s1/lodge"), answered(1, '{"ok":"lodged","rev":1}'),
             a_command("{}", "/station/s1/query"), answered(3, '{"ok":"moved","rev":2}'),

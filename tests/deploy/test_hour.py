@@ -1,4 +1,4 @@
-"""What nobody gets before the hour."""
+"""Nothing is public before the hour."""
 
 import re
 from datetime import datetime, timedelta
@@ -58,7 +58,7 @@ class Hour(SiteCase):
 
     @needs("nginx", "openssl")
     def test_names_before_the_hour(self):
-        """What is no name gets into no log there either."""
+        """A name that cannot be one gets into no log there either."""
         with recording_desk() as (port, messages), proxy(port) as front:
             front.end()
             front.put("embargo.conf", ran(DEPLOY / "embargo", "2100-01-01T00:00:00+00:00"))

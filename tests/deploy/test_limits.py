@@ -21,7 +21,7 @@ from tests.support.running import PATIENCE, tries, until
 from tests.support.scripts import loaded
 from tests.support.site import DEPLOY, NAME, SiteCase
 
-# What is asked, how many answers come at once, and how many a second after that.
+# A request with its status, how many answers come at once, and how many a second after that.
 RATES = (("GET /con/c1/tally", b"200", 400, 200), ("GET /station/s1", b"200", 400, 200),
          ("GET /progress", b"200", 400, 200), ("GET /con/c1/stations", b"200", 10, 2),
          ("GET /nonesuch", b"404", 200, 50), ("GET /now/progress", b"401", 200, 50),
@@ -83,8 +83,10 @@ class Limits(SiteCase):
 
     @needs("nginx", "openssl")
     def test_what_no_limit_counts(self):
-        """What breaks a rule is answered at once, however often it comes, and is written into no
-        file."""
+        """A request that breaks a rule is answered at once, however often it comes.
+
+        It is written into no file.
+        """
         with recording_desk() as (port, messages), proxy(port) as front:
             for asked, headers, status in (
                 ("POST /con/c1/certify?x", "", b"404"), ("PUT /con/c1/certify", "", b"405"),
@@ -164,9 +166,11 @@ class Limits(SiteCase):
             self.assertEqual(late, ())
 
     def opened(self, front, held, number, net):
-        """So many connections of one address of a net, and that address: opened within four
-        seconds, since the proxy ends those that wait for ten. Where the machine is too busy for
-        that, others are opened, of another address."""
+        """An address of a net, and its connections, opened within four seconds.
+
+        The proxy ends those that wait for ten. Where the machine is too busy for that, others are
+        opened, of another address.
+        """
         for n in range(1, 21):
             began, source = time.monotonic(), f"{net}.{n}"
             with concurrent.futures.ThreadPoolExecutor(8) as some:

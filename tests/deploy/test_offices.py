@@ -98,7 +98,7 @@ class Offices(SiteCase):
                               for row in results}, {f"c{c}": [10 * c * c, c] for c in range(1, 8)})
             self.assertTrue(json.loads(read("index.json"))["constituencies"][0]["certified"])
             self.assertEqual([line["office"] for line in front.record(42)].count(1), 3 + 2 * 10)
-            # The same acts over three new offices.
+            # Those acts over three new offices.
             fresh, record = served("again"), (front.folder / "log/commands.log").read_bytes()
             done = subprocess.run(
                 [DEPLOY / "replay", *(f"http://127.0.0.1:{desk.port}" for desk in fresh)],

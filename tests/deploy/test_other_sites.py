@@ -1,4 +1,4 @@
-"""What other sites, browsers and clients without TLS get."""
+"""Other sites, TLS, and the fields that a browser goes by."""
 
 import contextlib
 import gzip
@@ -18,8 +18,8 @@ from tests.support.proxy import Proxy, children, errors, proxy
 from tests.support.running import PATIENCE
 from tests.support.site import DEPLOY, NAME, SiteCase
 
-# What a browser may say of the page that asks, and what a table, a read past the cache and a
-# command are answered.
+# Fields by which a browser names the page that asks, and the statuses of a table, of a read past
+# the cache and of a command.
 SITES = (
     ({}, 200, 200, 200),
     ({"Sec-Fetch-Site": "same-origin", "Sec-Fetch-Mode": "cors"}, 200, 200, 200),

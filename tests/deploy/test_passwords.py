@@ -215,7 +215,7 @@ class Passwords(SiteCase):
                 it.wait("return document.querySelector('h1').textContent === 'You are logged out'")
                 self.assertEqual(it.run("return [...document.body.children].map((e) => e.tagName)"),
                                  ["H1", "P", "P"])
-                # What it asks now bears nobody's name, or none, and is refused. (Chromium then asks
+                # Its requests now bear nobody's name, or none, and are refused. (Chromium then asks
                 # for one.)
                 it.run("fetch('/now/progress')")
                 asked = lambda: [line["name"] for line in front.refused()

@@ -16,7 +16,7 @@ from tests.support.scripts import in_page
 from tests.support.shown import PICTURES
 from tests.support.site import BOTH
 
-# What is wrong with a page, as a style that makes it so, and the view that has to show it.
+# Faults of a page: the page, the view that has to show it, and a style that makes it.
 FAULTS = {
     "a column of a table is not there": ("constituency", "desk",
                                          ".n2 tr > :nth-child(3) { display: none; }"),
@@ -38,7 +38,7 @@ FAULTS = {
     "a button like its ground": ("second", "desk",
                                  "#confirm button { background: none !important; }"),
 }
-# What a page may be drawn like: letters a little fatter, or a third of a point elsewhere.
+# Styles that are no fault: letters a little fatter, or a third of a point elsewhere.
 LIKE = ("body { -webkit-text-stroke: .1px; }", "body { transform: translate(.3px, .3px); }")
 
 

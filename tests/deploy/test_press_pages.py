@@ -313,7 +313,7 @@ class PressPages(SiteCase):
                         self.assertEqual(read("con-c1.html"), first)
                         self.assertNotIn('class="old"', read("index.html"))
                         self.assertNotIn("No answer", read("index.html"))
-                # What only the progress says changes the page too.
+                # A change of the progress alone changes the page too.
                 answers["/progress"] = (
                     "c1                    1      0      1      0      0      1      3 certified\n")
                 until(lambda: page_of("con-c1.html").tables["Returns of the stations"][1]

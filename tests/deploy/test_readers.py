@@ -24,8 +24,7 @@ READER = PROGRAMS / "reader.py"
 
 
 def readers(front, clients=50, asks=400, processes=2):
-    """Starts so many clients, each asking so often, or until it is told to end, in processes of
-    their own."""
+    """Starts clients in processes of their own: each asks `asks` times, or until told to end."""
     each = clients // processes
     return [subprocess.Popen([sys.executable, READER, str(front.port),
                               str(front.folder / "office/certificate.pem"),

@@ -23,7 +23,7 @@ from tests.support.site import DEPLOY, SiteCase, plain, serving
 
 @contextlib.contextmanager
 def small_disk(folder, size):
-    """A file system of so many bytes, in memory."""
+    """A file system of this size in memory."""
     folder.mkdir(parents=True)
     if os.geteuid() or subprocess.run(
         ["mount", "-t", "tmpfs", "-o", f"size={size}", "tmpfs", folder],
@@ -36,7 +36,7 @@ def small_disk(folder, size):
 
 
 def rows_of_open(desk):
-    """What the office shows of everything."""
+    """Everything that the office shows."""
     return [plain(desk.port, "GET", target).body
             for target in ("/progress", "/station/s1", "/station/s2", "/con/c1")]
 
@@ -137,7 +137,7 @@ class Record(SiteCase):
             with proxy(port) as front:
                 for _ in range(2000):
                     with socket.create_connection(("127.0.0.1", front.port)) as it:
-                        # What is no TLS, of which the proxy writes a line.
+                        # No TLS: the proxy writes a line of it.
                         it.sendall(b"\x16\x03\x01\xff\xff" + b"x" * 100)
                 until(lambda: os.statvfs(logs).f_bavail == 0)
                 size = (logs / "error.log").stat().st_size
@@ -222,7 +222,7 @@ class Record(SiteCase):
                                 ([], (1, {2, 4, 10}))):
             with self.subTest(changed=changed, wanted=wanted):
                 self.assertEqual(checked(changed, "--shown", "record.csv")[:2], wanted)
-        # What was shown twice, and otherwise the second time, was not one record.
+        # A file that is shown twice, and otherwise the second time, was not one record.
         Path("record.csv").write_text(f"{shown}2026-11-26T22:14:00+00:00,4,{'f' * 64}\n",
                                       encoding="utf-8")
         self.assertEqual(checked(lines, "--shown", "record.csv")[:2], (1, {4}))

@@ -115,7 +115,7 @@ class Recorder(SiteCase):
         for _ in range(600):
             clock[0] += 60
             self.assertFalse(limit.is_over("bruno", "clerk", 1_048_576))
-        # What counts is what was sent, whatever it was.
+        # Each byte that was sent counts, whatever it was.
         recorder.STAFF_BYTES, asked = 10 << 20, []
         recorder.sys = type("Sys", (), {"stdout": open("copy", "wb")})
         desk = type("Desk", (), {"lock": threading.Lock(),

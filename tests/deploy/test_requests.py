@@ -1,4 +1,4 @@
-"""What gets to the desk, and what never does."""
+"""Requests that get to the desk, and those that never do."""
 
 from pathlib import Path
 

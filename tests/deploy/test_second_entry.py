@@ -47,8 +47,8 @@ class SecondEntry(SiteCase):
                     with self.subTest(wrong=wrong):
                         enter(it, "confirm", SLIP | wrong)
                         said(it, DIFFERS)
-                        # What was typed is there, the office has what it had, and there is no
-                        # receipt.
+                        # The figures that were typed are there, the office has what it had, and
+                        # there is no receipt.
                         self.assertEqual(
                             (it.text("#alert"), focused(it)[0], it.visible("#receipt")),
                             (DIFFERS, "slip", False))

@@ -21,7 +21,7 @@ from tests.support.running import PATIENCE, free_port, until
 from tests.support.scripts import PROGRAMS
 from tests.support.site import DEPLOY, SiteCase, backup, new, plain, ran, rows, serving
 
-# What systemd finds that each of the services may do: all may use the network, have the system's
+# The rights that systemd finds of each service: all may use the network, have the system's
 # folders and see what every process sees.
 ALL_MAY = {"RootDirectory=/RootImage=", "PrivateMounts=",
            "RestrictAddressFamilies=~AF_(INET|INET6)", "ProcSubset=", "PrivateNetwork=",
@@ -35,14 +35,15 @@ MAY = {"office": ALL_MAY, "office-press": SCRIPTS_MAY | {"UMask="},
 
 
 def lines_of(unit):
-    """What a unit says, by its keys."""
+    """The values of a unit, by their keys."""
     lines = [line.split("=", 1) for line in (DEPLOY / unit).read_text(encoding="utf-8").splitlines()
              if "=" in line and not line.startswith("#")]
     return {key: [value for other, value in lines if other == key] for key, _ in lines}
 
 
-# What only a booted machine shows: that each starts with the machine and again whenever it ends, at
-# once and however often; what it finds when it starts; what ends first where the memory is short.
+# Lines whose effect only a booted machine shows: each starts with the machine and again whenever it
+# ends, at once and however often; what it finds when it starts; what ends first where the memory is
+# short.
 BOOTED = {
     "office.service": {"WantedBy": "multi-user.target", "Restart": "always", "RestartSec": "100ms",
                        "StartLimitIntervalSec": "0", "After": "network.target",
@@ -73,7 +74,7 @@ BOOTED = {
 
 @contextlib.contextmanager
 def started(unit, places):
-    """What a unit starts, with other places in its line; its process."""
+    """The process that a unit starts, with other places in its line."""
     process = subprocess.Popen(shlex.split(placed(lines_of(unit)["ExecStart"][0], places)),
                                stdout=subprocess.PIPE, stderr=subprocess.STDOUT, text=True)
     try:
@@ -161,7 +162,8 @@ class Services(SiteCase):
                      "-m 750 -o office-recorder -g office-recorder /var/log/office"):
             with self.subTest(line=line):
                 self.assertIn(f"\n    install -d {line}\n", page)
-        # What strangers can fill (logs_of_the_proxy_without_room) is a file system of its own.
+        # The logs, which strangers can fill (logs_of_the_proxy_without_room), have a file system of
+        # their own.
         self.assertIn("\n    mount /var/log/nginx\n", page)
         self.assertLess(page.index("    mount /var/log/nginx\n"),
                         page.index("    systemctl restart nginx\n"))

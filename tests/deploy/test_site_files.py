@@ -1,4 +1,4 @@
-"""What an office says of its pages: texts, colours, a map, names of stations."""
+"""The files of a site: texts, colours, a map, names of stations."""
 
 import os
 import re

@@ -22,7 +22,7 @@ NOT_TRIED = {"429", "503", "504"}
 
 
 def resolved(value):
-    """What a reference within openapi.json leads to, or the value itself."""
+    """The target of a reference within openapi.json, or the value itself."""
     for part in value["$ref"].removeprefix("#/").split("/") if "$ref" in value else ():
         value = ROUTES[part] if value.get("$ref") else value[part]
     return value

@@ -1,4 +1,4 @@
-"""What is typed into the clerks' page."""
+"""Slips, files and commands that are given to the clerks' page."""
 
 import html
 import json
@@ -39,8 +39,9 @@ UNUSUAL = (
     ([115, 77, 7], 0, 0, [["Total", "Less than 20 per cent of the 1000 electors."]]),
     ([549, 366, 36], 0, 0, [["Total", "More than 95 per cent of the 1000 electors."]]),
 )
-# What is just not: 27 and 27 of 574 are 4.7 per cent each; 38 is less than twice 19.9, 10 more than
-# half of 19.6; 200 and 950 of 1,000 are 20 and 95 per cent; of 20 votes fewer than 10 are chance.
+# Slips that are just usual: 27 and 27 of 574 are 4.7 per cent each; 38 is less than twice 19.9, 10
+# more than half of 19.6; 200 and 950 of 1,000 are 20 and 95 per cent; of 20 votes fewer than 10 are
+# chance.
 USUAL = (([300, 200, 20], 27, 27), ([300, 180, 38], 0, 0), ([300, 200, 10], 0, 0),
          ([115, 77, 8], 0, 0), ([549, 365, 36], 0, 0), ([300, 200, 29], 0, 0))
 # Rows that are named for each cause, and how the page says it.
@@ -329,7 +330,7 @@ class Slips(SiteCase):
                 self.assertEqual((it.run(slip), it.run(leaves),
                                   it.run("return document.getElementById('con').value")),
                                  ("", True, "montehondo"))
-                # What is not shown any more is asked for as well, and a note alone.
+                # It asks for a field that is not shown any more as well, and for a note alone.
                 post(desk, "/station/s1/lodge", SLIP)
                 choose_station(it, "s1")
                 it.click("#compare")
@@ -384,7 +385,7 @@ class Slips(SiteCase):
                 said(it, NO_ANSWER)
                 self.assertIn("Station s3: received, revision 1.", it.text("#return"))
                 self.assertEqual((it.run(typed), it.visible("#receipt")), ([""] * 6, False))
-                # What another one recorded meanwhile does not let what was typed go.
+                # A return that somebody else recorded meanwhile leaves what was typed.
                 choose_station(it, "s4")
                 type_slip(it, "lodge", SLIP)
                 post(desk, "/station/s4/lodge", SLIP | {"votes": [71, 120]})

@@ -77,7 +77,7 @@ class StationFiles(SiteCase):
             done(office, "/station/s1/close", {"rev": 1})
             self.assertEqual((a_round(), file(), a_round()),
                              (([], [TABLE, RETURNS]), f"{COLUMNS}s1,p1,1,2,10,20\n", ([], [])))
-            # What is received, and no more than that, changes no figure.
+            # A return that is only received changes no figure.
             done(office, "/station/s3/lodge", a_slip(1, 2))
             self.assertEqual((a_round(), file()),
                              (([], [TABLE, RETURNS]), f"{COLUMNS}s1,p1,1,2,10,20\n"))

@@ -1,4 +1,4 @@
-"""What pages weigh."""
+"""The weight of pages."""
 
 import collections
 import html.parser
@@ -22,8 +22,10 @@ LONGEST = 'Coalition "For all of us & more": ' + "Ñ" * 23  # 80 bytes
 
 
 def at_the_limits(method, name, seats, cons=1, lists=60):
-    """A setup of so many constituencies, whose lists and candidates have this name, with a station
-    each; and the votes in it, with which each list has a seat and none needs a lot."""
+    """A setup of constituencies, whose lists and candidates have this name, with a station each.
+
+    Beside it the votes of each, with which every list has a seat and none needs a lot.
+    """
     setup = profile("d0").replace('"dhondt"', f'"{method}"')
     for n in range(cons):
         setup += constituency(f"constituency{n:04}", name, seats, "d0")
@@ -180,7 +182,7 @@ class Weights(SiteCase):
                             self.assertEqual(rows[-1][0], f"{60 - len(rows) + 1} more lists")
 
     def test_the_weight_of_200_constituencies(self):
-        """So many have pages of their own, in the order of their names, with a search; the page of
+        """They have pages of their own, in the order of their names, with a search; the page of
         the country leads there."""
         setup, votes = at_the_limits("dhondt", "W" * 77, 12, cons=200, lists=6)
         setup = re.sub(r'(code = "constituency\d(\d{3})"\nname = ")', r"\1\2", setup)

@@ -44,11 +44,11 @@ class Browser:
         self.of_session("POST", "/url", {"url": url})
 
     def run(self, script, *arguments):
-        """What a function's body returns in the page."""
+        """Runs the body of a function in the page: the value that it returns."""
         return self.of_session("POST", "/execute/sync", {"script": script, "args": list(arguments)})
 
     def run_later(self, script, *arguments):
-        """What a function's body gives to the function that is its last argument."""
+        """Runs the body of a function: the value that it gives to its last argument, a function."""
         return self.of_session("POST", "/execute/async",
                                {"script": script, "args": list(arguments)})
 

@@ -103,7 +103,7 @@ def office_with_pages(setup):
 
 @contextlib.contextmanager
 def claras_page(setup):
-    """The same, and the clerks' page in Clara's browser."""
+    """The office with its pages, and the clerks' page in Clara's browser."""
     with office_with_pages(setup) as (desk, front), clerks_browser(front, "clara") as it:
         yield desk, front, it
 
@@ -134,8 +134,11 @@ TWICE_OR_IDLE = in_page("twice_or_idle.js")
 
 
 def unspoken(it):
-    """What is wrong for a screen reader: what acts, or is a part of the page, and has no name, two
-    forms of one name, an id that is there twice, and a tab stop that does not act."""
+    """The faults for a screen reader.
+
+    These are: a part that acts and has no name, two forms of one name, an id that is there twice,
+    and a tab stop that does not act.
+    """
     named = it.named("button", "checkbox", "combobox", "DisclosureTriangle", "form", "link",
                      "region", "textbox")
     names = [name for role, name in named if role == "form"]
@@ -144,7 +147,7 @@ def unspoken(it):
 
 
 def receipt(it):
-    """What the receipt says, by the heads of its rows."""
+    """The text of the receipt, by the heads of its rows."""
     return dict(it.run("return [...document.querySelectorAll('#receipt tr')].map((row) => "
                        "[...row.children].map((e) => e.textContent))"))
 

@@ -99,5 +99,5 @@ def modelled(setup):
 
 
 def done(office, target, body):
-    """What the model of an office did, as it has to."""
+    """Sends a command to the model of an office, which has to accept it."""
     same(office.ask("POST", target, body if isinstance(body, str) else json.dumps(body))[0], 200)

@@ -11,9 +11,9 @@ from pathlib import Path
 from tests.support.running import PATIENCE
 from tests.support.site import DEPLOY, same
 
-# What a page may weigh.
+# The bytes of the largest page.
 PAGE_BYTES = 60_000
-# What a desk answers of Twin Town, certified with the lot B, A: the texts of docs/FORMATS.md.
+# The answers of a desk for Twin Town, certified with the lot B, A: the texts of docs/FORMATS.md.
 TWIN = {
     "/progress": "c1                    1      0      0      0      0      1      3 certified\n",
     "/con/c1": {"blank": 0, "certified": True, "closed": 1, "con": "c1", "edition": 3, "gone": [],
@@ -95,7 +95,7 @@ class Page(html.parser.HTMLParser):
         self.look(tag, dict(attributes))
 
     def look(self, tag, attributes):
-        """What no element may have, and each picture has to."""
+        """Looks for attributes that no element may have, and for those that a picture needs."""
         if tag == "script":
             self.scripts += 1
         if tag == "meta" and attributes.get("http-equiv") == "Content-Security-Policy":

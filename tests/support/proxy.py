@@ -40,7 +40,7 @@ class Proxy:
         self.port, self.plain, self.desks = free_port(), free_port(), (desk, *more)
         self.passwords = {}
         self.process = self.recorder = None
-        # What is put into nginx.conf, and the room that the recorder leaves.
+        # Further places of nginx.conf to fill in, and the room that the recorder leaves.
         self.more, self.room = {}, 0
 
     def configure(self):
@@ -174,7 +174,7 @@ class Proxy:
                 for line in file.read_text(encoding="utf-8").splitlines()] if file.exists() else []
 
     def record(self, commands=0):
-        """The commands of the record, each with its answer, once there are so many."""
+        """The commands of the record, each with its answer, once it has this many."""
         def whole():
             answers = {line["to"]: line for line in self.lines() if "to" in line}
             found = [line | {key: answers[line["n"]][key] for key in ("status", "answer")
@@ -187,8 +187,10 @@ class Proxy:
         return whole()
 
     def refused(self, lines=0):
-        """The lines of the record of wrong passwords, once there are so many: a line comes after
-        its answer."""
+        """The lines of the record of wrong passwords, once it has this many.
+
+        A line comes after its answer.
+        """
         file = self.folder / "log/refused.log"
         until(lambda: file.read_bytes().count(b"\n") >= lines)
         return [json.loads(line) for line in file.read_text(encoding="utf-8").splitlines()]
@@ -213,8 +215,11 @@ def office_and_proxy(setup):
 
 
 def pipelined(front, asked, times, source, headers=""):
-    """Asks so often at once over one connection, with these fields or, of a list, with the next
-    each time; how many answers have each status."""
+    """Sends a request `times` times at once over one connection.
+
+    `headers` are the fields of each, or a list with those of one after the other. The result is how
+    many answers have each status.
+    """
     each = [headers] * times if isinstance(headers, str) else headers
     with front.connect(source) as it:
         it.sendall("".join(f"{asked} HTTP/1.1\r\nHost: {NAME}\r\n{one}Content-Length: 0\r\n\r\n"

@@ -1,4 +1,4 @@
-"""What is published for programs, and what describes it."""
+"""The published files for programs, and what describes them: schemas and the data package."""
 
 import contextlib
 import csv
@@ -24,7 +24,7 @@ KINDS = {"object": dict, "array": list, "string": str, "boolean": bool, "integer
 
 
 def faults(schema, value, at="it"):
-    """What a value has that its schema (JSON Schema, draft 2020-12) does not allow. A keyword that
+    """The faults of a value by its schema (JSON Schema, draft 2020-12). A keyword that
     is not known here is refused."""
     known = {"$schema", "title", "description", "type", "const", "enum", "properties", "required",
              "additionalProperties", "items", "pattern", "minimum", "maximum"}
@@ -77,7 +77,7 @@ CELLS = {"string": str, "integer": int, "number": float, "datetime": datetime.fr
 
 
 def cell_faults(field, cell):
-    """What a cell has that its field of Table Schema does not allow."""
+    """The faults of a cell by its field of Table Schema."""
     known = {"name", "type", "description", "constraints", "trueValues", "falseValues"}
     assert set(field) <= known and set(field.get("constraints", {})) <= {"pattern", "minimum",
                                                                          "maximum"}, field
@@ -103,7 +103,7 @@ def rows_of(name):
 
 
 def package_faults():
-    """What the CSV files have that the data package does not say."""
+    """The faults of the CSV files by the data package."""
     package = json.loads(read("datapackage.json"))
     tables = {resource["name"]: rows_of(resource["path"]) for resource in package["resources"]}
     found = []
@@ -177,7 +177,7 @@ AGAIN = TWIN | {
 
 
 def beside(answers, code="c2"):
-    """The same with another constituency."""
+    """These answers, with another constituency."""
     other = {target.replace("c1", code): said.replace("c1", code) if isinstance(said, str)
              else said | {"con": code}
              for target, said in answers.items() if target.startswith("/con/")}

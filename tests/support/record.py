@@ -11,7 +11,7 @@ from tests.support.site import DEPLOY, same
 
 
 def replayed(port, record, *words):
-    # What cannot be encoded is an error here, whatever the locale is.
+    # A character that cannot be encoded is an error here, whatever the locale is.
     done = subprocess.run([DEPLOY / "replay", f"http://127.0.0.1:{port}", *words], input=record,
                           capture_output=True, timeout=PATIENCE,
                           env={**os.environ, "PYTHONIOENCODING": "ascii:strict"})
@@ -44,7 +44,7 @@ LODGED = {"slip": "p1", "votes": [1, 2], "blank": 0, "spoiled": 0}
 
 
 def recorded_200(front):
-    """What the record says was done: method, path and answer of each."""
+    """The commands that were done, by the record: path and answer of each."""
     commands = {line["n"]: line for line in front.lines() if "to" not in line}
     return [(commands[line["to"]]["path"], line["answer"]) for line in front.lines()
             if line.get("status") == 200 and "to" in line]

@@ -10,7 +10,7 @@ from tests.support.site import DEPLOY
 
 # The modules of deploy/ import one another by these names.
 sys.path.append(str(DEPLOY))
-# What tests start as processes of their own, and what they run in a page.
+# The folders of programs that tests start, and of scripts that they run in a page.
 PROGRAMS = ROOT / "tests/support/programs"
 IN_PAGES = ROOT / "tests/support/in_pages"
 
