@@ -1,4 +1,4 @@
-"""The commands of the audit."""
+"""The commands of the audit of seats against papers."""
 
 import hashlib
 import json

@@ -1,4 +1,7 @@
-"""The audit: its assertions, and its limit."""
+"""The audit of seats against papers: its assertions and its limit.
+
+Made elections, from seeds that are fixed here, try that an audit keeps its limit.
+"""
 
 import itertools
 import math

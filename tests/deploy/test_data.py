@@ -1,6 +1,5 @@
 """Schemas and the data package of what is published."""
 
-import contextlib
 import csv
 import functools
 import io
@@ -88,21 +87,19 @@ class Data(SiteCase):
             for path in paths_of(json.loads(text)):
                 for to in ({"x": [1]}, -1, *([] if isinstance(path[-1], int)
                                              or may_be_missing(name, path) else [...])):
-                    with self.subTest(to=to):
-                        self.assertTrue(checked(schema, changed(json.loads(text), path, to)),
-                                        f"{name}: {path} may be {to!r}")
+                    with self.subTest(name=name, path=path, to=to):
+                        self.assertTrue(checked(schema, changed(json.loads(text), path, to)))
                         tried += 1
                 if isinstance(at(json.loads(text), path), dict):
-                    self.assertTrue(
-                        checked(schema, changed(json.loads(text), (*path, "more"), [1])),
-                        f"{name}: {path} may have more")
+                    with self.subTest(name=name, path=path):
+                        self.assertTrue(
+                            checked(schema, changed(json.loads(text), (*path, "more"), [1])))
         self.assertGreater(tried, 300)
         self.assertEqual(faults({"type": "object", "additionalProperties": False}, {"more": 1}),
                          ["it: has more"])
         for schema in ({"minItems": 1}, {"properties": {"a": {"format": "date"}}}):
-            with contextlib.suppress(AssertionError):
+            with self.subTest(schema=schema), self.assertRaises(AssertionError):
                 faults(schema, {"a": "x"})
-                raise SystemExit(f"{schema} was taken")
 
     def test_the_data_package_describes_each_csv(self):
         Path("setup.toml").write_text(with_stations(1), encoding="utf-8")

@@ -1,4 +1,11 @@
-"""The pages beside stored pictures of them, and by keys alone."""
+"""The pages beside stored pictures of them, and by keys alone.
+
+The pages are those of an invented election, without an office. The press pages are made of the
+model of an office (tests/support/model.py), and the clerks' page asks that model.
+
+A test of pictures is skipped where Chromium, its driver or the fonts DejaVu Sans and DejaVu Sans
+Mono are missing.
+"""
 
 import json
 import tempfile

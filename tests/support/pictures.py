@@ -1,4 +1,12 @@
-"""Pictures of pages: drawn, as PNG, and beside stored ones."""
+"""Pictures of pages: drawn, as PNG, and beside stored ones.
+
+Chromium draws each page on a desk and on a phone, light and dark, and some as they are printed. All
+is drawn in DejaVu fonts, so that the fonts of the machine do not matter.
+
+A picture in tests/pictures/ has a point for each cell of 16 by 16 points of the page, with the mean
+of its colours. Another build of Chromium may draw a little differently, which is allowed; a block
+that moved is not.
+"""
 
 import base64
 import contextlib

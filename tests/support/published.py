@@ -1,4 +1,8 @@
-"""The published files for programs, and what describes them: schemas and the data package."""
+"""The published files for programs, and what describes them: schemas and the data package.
+
+Schemas are tried by a checker of the few keywords that they have, and by the package jsonschema too
+where that is installed.
+"""
 
 import contextlib
 import csv
