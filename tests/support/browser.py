@@ -7,15 +7,15 @@ import json
 import os
 import shutil
 import signal
-import socket
 import subprocess
 import time
 
-from tests.support.running import PATIENCE
+from tests.support.running import PATIENCE, free_port
 
-DRIVER, CHROMIUM = shutil.which("chromedriver"), shutil.which("chromium") or shutil.which(
-    "chromium-browser")
-KEY = "element-6066-11e4-a52e-4f735466cecf"  # the name of an element's number in the protocol
+DRIVER = shutil.which("chromedriver")
+CHROMIUM = shutil.which("chromium") or shutil.which("chromium-browser")
+# The name of an element's number in the protocol.
+KEY = "element-6066-11e4-a52e-4f735466cecf"
 
 
 class Failed(Exception):
@@ -134,8 +134,7 @@ class Browser:
 def browser(folder, *words, **environment):
     """A browser with a profile of its own in the folder, and this added to its environment; it is
     ended at the end."""
-    with socket.create_server(("127.0.0.1", 0)) as free:
-        port = free.getsockname()[1]
+    port = free_port()
     # Both keep files in the folder of temporary files, here the given folder.
     driver = subprocess.Popen(
         [DRIVER, f"--port={port}"], stdout=subprocess.DEVNULL, stderr=subprocess.DEVNULL,
@@ -160,8 +159,7 @@ def browser(folder, *words, **environment):
 def capabilities(words):
     # As root Chromium has no sandbox of its own; the pages here are this repository's.
     arguments = ["--headless=new", "--no-sandbox", "--disable-gpu", "--disable-dev-shm-usage",
-                 "--hide-scrollbars",
-                 "--no-first-run", "--disable-background-networking", *words]
+                 "--hide-scrollbars", "--no-first-run", "--disable-background-networking", *words]
     options = {"binary": CHROMIUM, "args": arguments}
     always = {"browserName": "chrome", "acceptInsecureCerts": True, "goog:chromeOptions": options,
               "timeouts": {"script": PATIENCE * 1000}, "unhandledPromptBehavior": "ignore"}

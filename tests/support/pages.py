@@ -36,8 +36,9 @@ TWIN = {
     "/con/c1/holders": ("HOLDERS c1 Twin Town\nA                   1 Ana\n"
                         "B                   1 Bea\nB                   - empty\n"),
     "/con/c1/past": "PAST c1 Twin Town\n",
-    "/con/c1/stations": ("STATIONS c1 Twin Town\nstations 1 missing 0 closed 1\ns1                 "
-                         "  300 closed       2 p1                   200       0       0\n"),
+    "/con/c1/stations": (
+        "STATIONS c1 Twin Town\nstations 1 missing 0 closed 1\n"
+        "s1                   300 closed       2 p1                   200       0       0\n"),
     "/con/c1/returns": "station,slip,blank,spoiled,A,B\ns1,p1,0,0,100,100\n",
 }
 OF_STATIONS = ("/con/c1/stations", "/con/c1/returns")

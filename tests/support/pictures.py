@@ -44,8 +44,8 @@ SCREENS = ("desk", "desk-dark", "phone", "phone-dark")
 def as_picture(columns, rows, points):
     """A PNG of these points, three bytes each."""
     def part(kind, data):
-        return struct.pack(">I", len(data)) + kind + data + struct.pack(">I",
-                                                                        zlib.crc32(kind + data))
+        end = struct.pack(">I", zlib.crc32(kind + data))
+        return struct.pack(">I", len(data)) + kind + data + end
 
     lines = b"".join(b"\0" + points[row * columns * 3:(row + 1) * columns * 3]
                      for row in range(rows))

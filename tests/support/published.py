@@ -28,8 +28,10 @@ KINDS = {"object": dict, "array": list, "string": str, "boolean": bool, "integer
 
 
 def faults(schema, value, at="it"):
-    """The faults of a value by its schema (JSON Schema, draft 2020-12). A keyword that
-    is not known here is refused."""
+    """The faults of a value by its schema (JSON Schema, draft 2020-12).
+
+    A keyword that is not known here is refused.
+    """
     known = {"$schema", "title", "description", "type", "const", "enum", "properties", "required",
              "additionalProperties", "items", "pattern", "minimum", "maximum"}
     assert set(schema) <= known, f"{at}: a keyword that is not known: {set(schema) - known}"
@@ -39,12 +41,11 @@ def faults(schema, value, at="it"):
         return [f"{at}: not of type {kinds}"]
     found = [f"{at}: not {schema['const']!r}"] if value != schema.get("const", value) else []
     found += [f"{at}: none of {schema['enum']}"] if value not in schema.get("enum", [value]) else []
-    if isinstance(value, str):
-        found += [f"{at}: not like {schema['pattern']}"] if not re.search(schema.get("pattern", ""),
-                                                                          value) else []
-    if isinstance(value, int) and not schema.get("minimum", value) <= value <= schema.get("maximum",
-                                                                                          value):
-        found.append(f"{at}: out of bounds")
+    if isinstance(value, str) and not re.search(schema.get("pattern", ""), value):
+        found.append(f"{at}: not like {schema['pattern']}")
+    if isinstance(value, int):
+        if not schema.get("minimum", value) <= value <= schema.get("maximum", value):
+            found.append(f"{at}: out of bounds")
     if isinstance(value, list):
         found += [fault for n, one in enumerate(value)
                   for fault in faults(schema.get("items", {}), one, f"{at}[{n}]")]
@@ -52,8 +53,10 @@ def faults(schema, value, at="it"):
         found += [f"{at}: lacks {name}" for name in schema.get("required", []) if name not in value]
         for name, one in value.items():
             of_name = schema.get("properties", {}).get(name, schema.get("additionalProperties", {}))
-            found += [f"{at}: has {name}"] if of_name is False else faults(of_name, one,
-                                                                           f"{at}.{name}")
+            if of_name is False:
+                found.append(f"{at}: has {name}")
+            else:
+                found += faults(of_name, one, f"{at}.{name}")
     return found
 
 
@@ -83,14 +86,13 @@ CELLS = {"string": str, "integer": int, "number": float, "datetime": datetime.fr
 def cell_faults(field, cell):
     """The faults of a cell by its field of Table Schema."""
     known = {"name", "type", "description", "constraints", "trueValues", "falseValues"}
-    assert set(field) <= known and set(field.get("constraints", {})) <= {"pattern", "minimum",
-                                                                         "maximum"}, field
+    assert set(field) <= known, field
+    assert set(field.get("constraints", {})) <= {"pattern", "minimum", "maximum"}, field
     if cell == "":
         return []
     if field["type"] == "boolean":
-        return [] if cell in field.get("trueValues", ["true"]) + field.get("falseValues",
-                                                                           ["false"]) else [
-            f"{field['name']}: {cell!r}"]
+        values = field.get("trueValues", ["true"]) + field.get("falseValues", ["false"])
+        return [] if cell in values else [f"{field['name']}: {cell!r}"]
     bounds = field.get("constraints", {})
     try:
         value = CELLS[field["type"]](cell)
