@@ -1,4 +1,4 @@
-"""Servers that stand in the place of an office: with given answers, or its model."""
+"""Servers in the place of an office: with given answers, or with its model."""
 
 import contextlib
 import json

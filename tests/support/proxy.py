@@ -1,4 +1,4 @@
-"""nginx with the files of `deploy/`, and the recorder behind it."""
+"""nginx and the recorder, with the files of `deploy/`."""
 
 import base64
 import collections

@@ -1,4 +1,4 @@
-"""Stands in the place of an office, and answers at once. It prints its port."""
+"""Answers at once in the place of an office. It prints its port."""
 
 import socket
 
