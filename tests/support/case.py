@@ -5,6 +5,7 @@ import os
 import shutil
 import signal
 import tempfile
+import time
 import unittest
 from pathlib import Path
 
@@ -49,6 +50,17 @@ def needs(*names):
     return wrap
 
 
+class Cut:
+    """A value that is printed in part, where it is long."""
+
+    def __init__(self, value):
+        self.value = value
+
+    def __repr__(self):
+        text = repr(self.value)
+        return text if len(text) <= 300 else f"{text[:200]} .. {text[-60:]}"
+
+
 def too_long(*_):
     raise AssertionError("it takes more than two hours")
 
@@ -56,7 +68,8 @@ def too_long(*_):
 class Case(unittest.TestCase):
     """A test that runs in a temporary folder of its own, which is empty when it begins.
 
-    A class of tests of the program sets `of_the_program`.
+    A class of tests of the program sets `of_the_program`. With TIMES=1 the seconds of each test are
+    printed.
     """
 
     maxDiff = None
@@ -74,6 +87,8 @@ class Case(unittest.TestCase):
     def setUp(self):
         super().setUp()
         take_signals()
+        if os.environ.get("TIMES"):
+            self.addCleanup(self.print_seconds, time.monotonic())
         folder = tempfile.TemporaryDirectory(
             prefix=self.prefix, ignore_cleanup_errors=self.may_leave_files
         )
@@ -83,3 +98,10 @@ class Case(unittest.TestCase):
         self.addCleanup(signal.alarm, 0)
         signal.signal(signal.SIGALRM, too_long)
         signal.alarm(LONGEST)
+
+    def print_seconds(self, began):
+        print(f"{self._testMethodName} {time.monotonic() - began:.1f} s", flush=True)
+
+    def subTest(self, *words, **row):
+        """A row of a table, with the names and values that are printed where it fails."""
+        return super().subTest(*words, **{name: Cut(value) for name, value in row.items()})

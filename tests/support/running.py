@@ -1,6 +1,7 @@
 """Ports, waiting, measuring and signals, for everything that starts processes."""
 
 import contextlib
+import os
 import random
 import signal
 import socket
@@ -23,7 +24,9 @@ def take_signals():
         signal.signal(number, signal.default_int_handler)
 
 
-PORTS = set()
+# The ports to choose from: tests/run.py gives each suite that it runs beside others some of its own.
+FIRST, LAST = map(int, os.environ.get("TEST_PORTS", "10000-29999").split("-"))
+GIVEN = set()
 
 
 def free_port():
@@ -33,10 +36,10 @@ def free_port():
     is listened on.
     """
     while True:
-        port = random.randrange(10_000, 30_000)
+        port = random.randint(FIRST, LAST)
         with contextlib.suppress(OSError), socket.create_server(("127.0.0.1", port)):
-            if port not in PORTS:
-                PORTS.add(port)
+            if port not in GIVEN:
+                GIVEN.add(port)
                 return port
 
 
