@@ -226,7 +226,7 @@ class TimeLeft(LauncherCase):
         (copy.root / "bench").mkdir()
         shutil.copy(ROOT / "bench/building.py", copy.root / "bench")
         record = copy.root / "bench/crate_seconds.txt"
-        record.write_text("# a comment\nreading 900\ntally_message 40\ntally_gone 7\n")
+        record.write_text("# a comment\nreading 900\ntally_desk_message 40\ntally_gone 7\n")
         subprocess.run(
             [sys.executable, copy.root / "bench/building.py"], check=True, capture_output=True
         )
