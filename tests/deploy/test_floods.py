@@ -70,6 +70,10 @@ def a_country():
         desk.wait()
 
 
+# It measures time.
+ALONE = True
+
+
 class Floods(SiteCase):
     def lodging(self, front, first, seconds):
         """Four clerks lodge as fast as they may; how many a second, and how long a lodge took: half

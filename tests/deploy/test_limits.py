@@ -47,6 +47,10 @@ def address(words):
     return socket.inet_ntoa(struct.pack("=I", int(words[:8], 16))), int(words[9:], 16)
 
 
+# It measures time.
+ALONE = True
+
+
 class Limits(SiteCase):
     @needs("nginx", "openssl")
     def test_who_asks_too_often(self):

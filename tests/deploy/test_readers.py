@@ -42,6 +42,10 @@ def of_hundred(took, place):
 SLOWER = 10
 
 
+# It measures time.
+ALONE = True
+
+
 class Readers(SiteCase):
     def lodges(self, front, stations):
         """Lodges for each station in turn, from twenty addresses over connections that are kept;
