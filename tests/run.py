@@ -95,14 +95,11 @@ def suites():
 def named(parts, name):
     """The suites that a name stands for."""
     name = name.removesuffix(".py").removeprefix("tests/").removeprefix("tests.").replace(".", "/")
+    of_folder = [part for part in parts if part.name.startswith(f"{name.rstrip('/')}/")]
     folder, _, stem = name.rpartition("/")
-    stem = stem.removeprefix("test_")
-    return [
-        part
-        for part in parts
-        if part.name.startswith(f"{name.rstrip('/')}/")
-        or part.name.endswith(f"/test_{stem}")
-        and part.name.startswith(folder)
+    suite = f"/test_{stem.removeprefix('test_')}"
+    return of_folder or [
+        part for part in parts if part.name.endswith(suite) and part.name.startswith(folder)
     ]
 
 
@@ -197,8 +194,10 @@ class Runner:
         for note in result.notes:
             print(note)
         print(
-            f"test: {result.part.name}: {result.passed} passed, {result.failed} failed,"
-            f" {result.skipped} skipped, {result.seconds:.0f} s",
+            (
+                f"test: {result.part.name}: {result.passed} passed, {result.failed} failed,"
+                f" {result.skipped} skipped, {result.seconds:.0f} s"
+            ),
             flush=True,
         )
 
@@ -254,9 +253,9 @@ def store(results):
         if "unittest" in result.part.words and result.seconds and not result.failed:
             seconds[result.part.name] = round(result.seconds, 1)
     lines = [f"{name} {took}\n" for name, took in sorted(seconds.items())]
-    text = "# The seconds of each suite, by which ./test begins with the longest.\n" + "".join(lines)
+    title = "# The seconds of each suite, by which ./test begins with the longest.\n"
     beside = SECONDS.with_suffix(".new")
-    beside.write_text(text)
+    beside.write_text(title + "".join(lines))
     beside.replace(SECONDS)
 
 

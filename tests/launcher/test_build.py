@@ -11,7 +11,7 @@ from tests.support.running import PATIENCE
 
 
 def unpacked(file):
-    """Puts another text into the place of a file as archives are unpacked: with a time of long ago."""
+    """Replaces a file as archives are unpacked: by another text, with a time of long ago."""
     new = file.with_suffix(".new")
     new.write_text(file.read_text() + "// unpacked\n")
     os.utime(new, (1_000_000_000, 1_000_000_000))
@@ -175,18 +175,12 @@ class Build(LauncherCase):
         memory, limit = copy.folder / "meminfo", copy.folder / "limit"
         launcher = copy.root / "office"
         text = launcher.read_text()
-        for line, file in (
-            ("memory=/proc/meminfo", memory),
-            ("memory_limits=(/sys/fs/cgroup/memory.max ", limit),
+        for old, new in (
+            ("memory=/proc/meminfo", f"memory='{memory}'"),
+            ("memory_limits=(/sys/fs/cgroup/memory.max ", f"memory_limits=('{limit}' "),
         ):
-            with self.subTest(line=line, file=file):
-                self.assertEqual(text.count(line), 1)
-                text = text.replace(
-                    line,
-                    (
-                        f"{line.partition('=')[0]}={'(' if '(' in line else ''}'{file}'{' ' if '(' in line else ''}"
-                    ),
-                )
+            self.assertEqual(text.count(old), 1, old)
+            text = text.replace(old, new)
         launcher.write_text(text)
         memory.write_text("MemTotal: 99000000 kB\nMemAvailable: 24000000 kB\n")
         wanted = 2 * len(os.sched_getaffinity(0))

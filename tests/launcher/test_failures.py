@@ -13,11 +13,14 @@ OPEN = """
 cat <<'END'
 == tally_frac
 fn tally_frac::rank::RankKey::new: proved
-note: src/share.rt:60:5: it is not proved that what the function ensures holds when it returns (`returns`)
-fn tally_frac::share::Share::floor: no proof: expected answers in ./proofs/share/Share/floor/Answers.antt
+note: src/share.rt:60:5: it is not proved that what the function ensures holds when it returns \
+(`returns`)
+fn tally_frac::share::Share::floor: no proof: expected answers in \
+./proofs/share/Share/floor/Answers.antt
 fn tally_frac::share::ShareDebug::fmt: proved
 help: write ./proofs/share/Share/floor/Answers.antt with these lines
-note: `returns` of proofs/share/Share/floor/Answers.antt must prove: c.self.num ≡ whole_part c.args.self.now
+note: `returns` of proofs/share/Share/floor/Answers.antt must prove: \
+c.self.num ≡ whole_part c.args.self.now
   names you can use, by step:
 crate tally_frac: modules loaded=1088 checked=7
 logic=not-proved

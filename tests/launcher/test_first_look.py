@@ -7,9 +7,12 @@ from tests.support.running import PATIENCE
 
 
 UNPROVED = """\
-office: nothing will be proved: this compiles the program and runs it once, in some three minutes, and keeps nothing
-office: './office {0}', without --unproved, proves and builds the program, and then runs it (some 40 minutes, the first time)
-{1}office: nothing of this was proved: './office {0}', without --unproved, proves and builds the program, and then runs it
+office: nothing will be proved: this compiles the program and runs it once, in some \
+three minutes, and keeps nothing
+office: './office {0}', without --unproved, proves and builds the program, and then runs \
+it (some 40 minutes, the first time)
+{1}office: nothing of this was proved: './office {0}', without --unproved, proves and builds \
+the program, and then runs it
 """
 
 

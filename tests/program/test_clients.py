@@ -42,7 +42,8 @@ static void answered(int which)
 int accept4(int listener, struct sockaddr *address, socklen_t *length, int flags)
 {
     int pair[2];
-    struct sockaddr_in from = {.sin_family = AF_INET, .sin_port = htons(1), .sin_addr = {htonl(INADDR_LOOPBACK)}};
+    struct sockaddr_in from = {
+        .sin_family = AF_INET, .sin_port = htons(1), .sin_addr = {htonl(INADDR_LOOPBACK)}};
     if (other >= 0)
         answered(came % 50 == 1);
     came++;
@@ -51,7 +52,8 @@ int accept4(int listener, struct sockaddr *address, socklen_t *length, int flags
         return -1;
     }
     const char *message = MESSAGES[came % 50 == 1];
-    if (socketpair(AF_UNIX, SOCK_STREAM | SOCK_CLOEXEC, 0, pair) || write(pair[0], message, strlen(message)) < 0 || shutdown(pair[0], SHUT_WR))
+    if (socketpair(AF_UNIX, SOCK_STREAM | SOCK_CLOEXEC, 0, pair)
+        || write(pair[0], message, strlen(message)) < 0 || shutdown(pair[0], SHUT_WR))
         _exit(98);
     other = pair[0];
     memcpy(address, &from, sizeof from);

@@ -349,23 +349,41 @@ class Examples(ProgramCase):
         for state, text in (
             (
                 "new",
-                '{"blank":0,"certified":false,"closed":0,"con":"c1","edition":1,"gone":[],"lot":[],"note":"","seats":[],"spoiled":0,"stations":1,"votes":[0,0]}',
+                (
+                    '{"blank":0,"certified":false,"closed":0,"con":"c1","edition":1,"gone":[],'
+                    '"lot":[],"note":"","seats":[],"spoiled":0,"stations":1,"votes":[0,0]}'
+                ),
             ),
             (
                 "closed",
-                '{"blank":0,"certified":false,"closed":1,"con":"c1","edition":1,"gone":[],"lot":[],"note":"","seats":[],"spoiled":0,"stations":1,"votes":[100,100]}',
+                (
+                    '{"blank":0,"certified":false,"closed":1,"con":"c1","edition":1,"gone":[],'
+                    '"lot":[],"note":"","seats":[],"spoiled":0,"stations":1,"votes":[100,100]}'
+                ),
             ),
             (
                 "certified",
-                '{"blank":0,"certified":true,"closed":1,"con":"c1","edition":3,"gone":[],"lot":["B","A"],"note":"","seats":[1,2],"spoiled":0,"stations":1,"votes":[100,100]}',
+                (
+                    '{"blank":0,"certified":true,"closed":1,"con":"c1","edition":3,"gone":[],'
+                    '"lot":["B","A"],"note":"","seats":[1,2],"spoiled":0,"stations":1,'
+                    '"votes":[100,100]}'
+                ),
             ),
             (
                 "vacated",
-                '{"blank":0,"certified":true,"closed":1,"con":"c1","edition":3,"gone":[{"list":"B","note":"resigned","place":1}],"lot":["B","A"],"note":"","seats":[1,2],"spoiled":0,"stations":1,"votes":[100,100]}',
+                (
+                    '{"blank":0,"certified":true,"closed":1,"con":"c1","edition":3,'
+                    '"gone":[{"list":"B","note":"resigned","place":1}],"lot":["B","A"],'
+                    '"note":"","seats":[1,2],"spoiled":0,"stations":1,"votes":[100,100]}'
+                ),
             ),
             (
                 "reopened",
-                '{"blank":0,"certified":false,"closed":1,"con":"c1","edition":4,"gone":[{"list":"B","note":"resigned","place":1}],"lot":["B","A"],"note":"recount","seats":[],"spoiled":0,"stations":1,"votes":[100,100]}',
+                (
+                    '{"blank":0,"certified":false,"closed":1,"con":"c1","edition":4,'
+                    '"gone":[{"list":"B","note":"resigned","place":1}],"lot":["B","A"],'
+                    '"note":"recount","seats":[],"spoiled":0,"stations":1,"votes":[100,100]}'
+                ),
             ),
         ):
             with self.subTest(state=state, text=text):
@@ -375,7 +393,10 @@ class Examples(ProgramCase):
     def test_what_is_shown_of_a_return(self):
         """Received, queried with a note that needs escapes, and corrected."""
         new()
-        text = '{"blank":%d,"note":"%s","rev":%d,"slip":"%s","spoiled":%d,"station":"s1","status":"%s","votes":[%s]}'
+        text = (
+            '{"blank":%d,"note":"%s","rev":%d,"slip":"%s","spoiled":%d,'
+            '"station":"s1","status":"%s","votes":[%s]}'
+        )
         note = '"4\\5" de caña'
         with serving("office.db", 6) as desk:
             for path, body, shown in (

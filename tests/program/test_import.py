@@ -152,7 +152,8 @@ class Import(ProgramCase):
                         shutil.copy("new.db", "served.db")
                         with serving("served.db", 2) as desk:
                             counts = (
-                                '{"bad":1,"differs":0,"first":[%s],"lodged":1,"ok":"import","refused":0,"same":0}'
+                                '{"bad":1,"differs":0,"first":[%s],"lodged":1,"ok":"import",'
+                                '"refused":0,"same":0}'
                                 % first.replace(" ", ",")
                             )
                             self.assertEqual(
@@ -381,7 +382,8 @@ class Import(ProgramCase):
             header,
             header + "s1,p1,0,0,10,20\ns1,p1,0,0,10,21\ns2,p2,0,0,200,101\nt1,p1,0,0,1,1\n",
             header
-            + "?,p1,0,0,1,1\ns3,,0,0,1,1\ns3,p3,0,0,1\ns3,p3,x,y,1,1\ns3,p3,0,-1,1,1\ns3,p3,0,0,1,\n",
+            + "?,p1,0,0,1,1\ns3,,0,0,1,1\ns3,p3,0,0,1\n"
+            + "s3,p3,x,y,1,1\ns3,p3,0,-1,1,1\ns3,p3,0,0,1,\n",
             header + "x\n" * 19999 + "x" * 1000000 + "\n",
         )
         with serving("office.db", 6 * len(texts) + 8) as desk:

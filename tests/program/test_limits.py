@@ -577,7 +577,7 @@ class Limits(ProgramCase):
         looks_at_no_certificate("office.db", con, edited)
 
     def test_each_command_at_the_last_revision_and_edition(self):
-        """Of a constituency whose returns are entered once and of one where they are entered twice."""
+        """Of a constituency whose returns are entered once, and of one with two entries."""
         setup = PROFILE + "".join(
             constituency(code, "Town", 3, "d0")
             + entry

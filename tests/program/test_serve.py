@@ -57,7 +57,10 @@ class Serve(ProgramCase):
             self.assertEqual(json.loads(desk.ask("GET", "/con/c1")[2])["seats"], [2, 1])
             self.assertEqual(
                 desk.ask("GET", "/station/s1")[2],
-                '{"blank":0,"note":"sum","rev":5,"slip":"p2","spoiled":0,"station":"s1","status":"closed","votes":[120,120]}',
+                (
+                    '{"blank":0,"note":"sum","rev":5,"slip":"p2","spoiled":0,"station":"s1",'
+                    '"status":"closed","votes":[120,120]}'
+                ),
             )
             desk.get(
                 "/con/c1/holders",
@@ -182,7 +185,8 @@ class Serve(ProgramCase):
         new(SETUP.replace("Twin Town", "Ciudad Ñandú").replace("Alpha", "Αλφα"))
         with serving("office.db", 1) as desk:
             status, fields, text = desk.ask("GET", "/con/c1/tally")
-            assert "TALLY c1 Ciudad Ñandú\n" in text and text.splitlines()[3].endswith("Αλφα"), text
+            self.assertIn("TALLY c1 Ciudad Ñandú\n", text)
+            self.assertTrue(text.splitlines()[3].endswith("Αλφα"), text)
 
     def test_a_server_that_is_killed(self):
         """What was acknowledged is there at the next opening, and what was refused is not."""

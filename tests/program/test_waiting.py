@@ -74,7 +74,7 @@ def read_late(db):
 
 
 def never_read(db):
-    """The seconds for which a client that takes nothing of its answer keeps the next one waiting."""
+    """How many seconds a client that takes nothing of its answer keeps the next one waiting."""
     with serving(db, 2, failed=1) as desk, socket.socket() as it:
         it.setsockopt(socket.SOL_SOCKET, socket.SO_RCVBUF, 4096)
         it.settimeout(PATIENCE)

@@ -103,7 +103,8 @@ def setup():
     for n in range(ALL):
         method, lot, threshold, base = profile_of(n)
         text += (
-            f'[[profile]]\ncode="{code("P", n)}"\nmethod="{method}"\nthreshold={threshold}\nbase="{base}"\nlot="{lot}"\n'
+            f'[[profile]]\ncode="{code("P", n)}"\nmethod="{method}"\n'
+            f'threshold={threshold}\nbase="{base}"\nlot="{lot}"\n'
         )
     station = 0
     for n in range(ALL):

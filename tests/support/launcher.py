@@ -1,4 +1,4 @@
-"""Temporary copies of this repository, with a stub in the place of `rt`, for tests of the launcher."""
+"""Copies of this repository with a stub in the place of `rt`, for tests of the launcher."""
 
 import os
 import re
@@ -85,7 +85,8 @@ printf '== summary\\ntally_frac: ok\\n'
 TRIED = """
 printf '%s\\n' "$PWD" "$@"
 cat
-printf 'refused: bad_header\\nchecked: ended status=1\\nrun=ended status=1 runners=1 proved=no\\n' >&2
+printf 'refused: bad_header\\nchecked: ended status=1\\n' >&2
+printf 'run=ended status=1 runners=1 proved=no\\n' >&2
 exit 1
 """
 
@@ -245,14 +246,16 @@ def minutes_in(line):
     return int(re.search(r"(?:about|at most) (\d+) min\b", line)[1])
 
 
+# The commands that the launcher calls.
+COMMANDS = "bash sh readlink find sha256sum sort xargs awk head tail sed cat mkdir mv flock setsid"
+
+
 def path_without_rt(folder):
     """Returns a PATH with the commands that the launcher calls, and no `rt`."""
     found = Path(folder) / "commands"
     if not found.exists():
         found.mkdir()
-        for (
-            name
-        ) in "bash sh readlink find sha256sum sort xargs awk head tail sed cat mkdir mv flock setsid".split():
+        for name in COMMANDS.split():
             (found / name).symlink_to(shutil.which(name))
     return str(found)
 

@@ -209,7 +209,7 @@ def making(db):
 
 
 def held():
-    """All files below this folder, with the length and a checksum of their bytes, and all folders."""
+    """All files below this folder, with their length and a checksum, and all folders."""
     sums = {it: None if it.is_dir() else it.read_bytes() for it in Path(".").rglob("*")}
     return {
         str(it): "a folder" if text is None else (len(text), hashlib.sha256(text).hexdigest()[:16])

@@ -24,7 +24,7 @@ def take_signals():
         signal.signal(number, signal.default_int_handler)
 
 
-# The ports to choose from: tests/run.py gives each suite that it runs beside others some of its own.
+# The ports to choose from. tests/run.py gives each suite some of its own.
 FIRST, LAST = map(int, os.environ.get("TEST_PORTS", "10000-29999").split("-"))
 GIVEN = set()
 

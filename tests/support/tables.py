@@ -54,12 +54,8 @@ def request(line):
             body["order"] = words[1].split(",")
         elif len(words) > 1:
             body["note"] = words[1]
-    return (
-        (
-            f"/{'station' if verb in ('lodge', 'query', 'correct', 'close', 'confirm') else 'con'}/{of}/{verb}"
-        ),
-        body,
-    )
+    kind = "station" if verb in ("lodge", "query", "correct", "close", "confirm") else "con"
+    return f"/{kind}/{of}/{verb}", body
 
 
 def answer(text):
@@ -205,7 +201,7 @@ def answered(statements, good="good.db"):
 
 
 def ends(good="good.db"):
-    """The changed copy is gone, and the office itself agrees with a recount at the end of the test."""
+    """The changed copy is gone, and the office itself agrees with a recount at the test's end."""
     Path("office.db").unlink()
     only(good)
 

@@ -120,7 +120,7 @@ print(end=answer.read().decode())
 """
 
 
-class Documents(ProgramCase):
+class Readme(ProgramCase):
     def test_the_first_election_of_the_readme(self):
         """Each command of README.md prints what is written there, and leaves the database of the
         examples.
