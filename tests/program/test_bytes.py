@@ -4,11 +4,11 @@ import json
 import shutil
 import socket
 
+from tests.support import openapi
 from tests.support.desk import reset, serving
 from tests.support.program import ProgramCase, new, only, recount, same
 from tests.support.running import PATIENCE
 from tests.support.twin_town import LODGE, PROGRESS
-from tests.support import openapi
 
 
 def answered(message, desk):

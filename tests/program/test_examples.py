@@ -5,6 +5,7 @@ import os
 import resource
 import shutil
 
+from tests.support import openapi
 from tests.support.desk import Desk, serving
 from tests.support.office import (
     CONSTITUENCY,
@@ -31,7 +32,6 @@ from tests.support.program import (
     shows,
 )
 from tests.support.twin_town import LODGE, PROGRESS, SCRIPT
-from tests.support import openapi
 
 
 def counted(votes):

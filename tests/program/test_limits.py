@@ -6,6 +6,7 @@ import random
 import tomllib
 from pathlib import Path
 
+from tests.support import model
 from tests.support.beside import (
     CON_REPORTS,
     LOOKS_AT_ALL,
@@ -47,7 +48,6 @@ from tests.support.program import (
     only,
     write,
 )
-from tests.support import model
 
 
 def tied(con, votes):

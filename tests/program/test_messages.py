@@ -3,11 +3,11 @@
 import json
 import socket
 
+from tests.support import openapi
 from tests.support.desk import asking, serving, take
 from tests.support.program import ProgramCase, lines_of, new, rows, same
 from tests.support.running import PATIENCE
 from tests.support.twin_town import LODGE, SCRIPT, TALLY
-from tests.support import openapi
 
 
 # Targets without a route. Nothing of a target is decoded, and it has no query.

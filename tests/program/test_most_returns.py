@@ -7,6 +7,7 @@ import os
 import statistics
 import string
 
+from tests.support import model
 from tests.support.beside import LOOKS_AT_ALL, answered_as, get, post, shown_as
 from tests.support.costs import TIMES, closed_too_late, costs_no_more, lodged_again, spent
 from tests.support.desk import Desk, serving
@@ -28,7 +29,6 @@ from tests.support.largest import (
 )
 from tests.support.office import constituency, profile
 from tests.support.program import ProgramCase, database, new, only, same
-from tests.support import model
 
 
 # What is asked of a constituency that is not closed, or of a station of it, and its status.

@@ -11,9 +11,9 @@ import tomllib
 from functools import cache
 from pathlib import Path
 
+from tests.support import model
 from tests.support.beside import CON_REPORTS, get
 from tests.support.program import new, same, write
-from tests.support import model
 
 
 def code(letter, n):

@@ -8,9 +8,9 @@ import sqlite3
 import tomllib
 from pathlib import Path
 
+from tests.support import openapi
 from tests.support.desk import serving, take
 from tests.support.program import database, lines_of, new, only, same, show
-from tests.support import openapi
 
 
 # The tables but `setup`, and their columns, those of the key first.
