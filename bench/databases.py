@@ -11,8 +11,8 @@ from check import ELECTORS, LISTS, codes, short_row
 from measuring import Numbers, run_timed
 from serving import office, post
 
-sys.path.append(str(ROOT / "tests"))
-from office import constituency, party_list, profile, station
+sys.path.append(str(ROOT))
+from tests.support.office import constituency, party_list, profile, station
 
 # Where files are kept in memory.
 MEMORY = Path("/dev/shm")

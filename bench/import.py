@@ -20,8 +20,8 @@ from building import ROOT, keeper_program
 from check import ELECTORS, LISTS, codes, distinct_rows, long_row, short_row, text_of
 from measuring import Numbers
 
-sys.path.append(str(ROOT / "tests"))
-from office import constituency, party_list, profile, station
+sys.path.append(str(ROOT))
+from tests.support.office import constituency, party_list, profile, station
 
 # As many as a constituency may have.
 STATIONS = 5_000

@@ -20,9 +20,10 @@ from pathlib import Path
 
 # What is imported from here is not to be left beside it in compiled form.
 sys.dont_write_bytecode = True
-sys.path.insert(0, str(Path(__file__).resolve().parent.parent / "tests"))
-import deploy
-from office import CONSTITUENCY, PROFILE, party_list, station
+sys.path.insert(0, str(Path(__file__).resolve().parent.parent))
+from tests.support import site
+from tests.support.office import CONSTITUENCY, PROFILE, party_list, station
+from tests.support.proxy import NGINX, Proxy
 
 # Clients in a process of their own: threads that ask, over TLS or without. Where one of them fails,
 # so does the process.
@@ -69,9 +70,9 @@ def setup(many, stations):
 def fill(port, lists, stations):
     rows = "".join(f"s{n},p{n},0,0{''.join(f',{n + k}' for k in range(lists))}\n" for n in range(stations))
     head = "station,slip,blank,spoiled" + "".join(f",L{n}" for n in range(lists))
-    assert deploy.plain(port, "POST", "/con/c1/import", f"{head}\n{rows}").status == 200
+    assert site.plain(port, "POST", "/con/c1/import", f"{head}\n{rows}").status == 200
     for n in range(stations):
-        assert deploy.plain(port, "POST", f"/station/s{n}/close", '{"rev":1}').status == 200
+        assert site.plain(port, "POST", f"/station/s{n}/close", '{"rev":1}').status == 200
 
 
 def rate(port, certificate, clients, asks, processes=2):
@@ -89,9 +90,9 @@ def without(front, what):
 
 
 def measure(given):
-    with deploy.serving(setup(given.lists, given.stations)) as desk:
+    with site.serving(setup(given.lists, given.stations)) as desk:
         fill(desk.port, given.lists, given.stations)
-        cached, bare = deploy.Proxy(desk.port), deploy.Proxy(desk.port)
+        cached, bare = Proxy(desk.port), Proxy(desk.port)
         bare.folder = Path.cwd() / "bare"
         try:
             for front in (cached, bare):
@@ -116,15 +117,15 @@ def measure(given):
 
 def main():
     command = argparse.ArgumentParser(description=__doc__.splitlines()[0])
-    command.add_argument("--program", type=Path, default=deploy.PROGRAM)
+    command.add_argument("--program", type=Path, default=site.PROGRAM)
     command.add_argument("--rounds", type=int, default=5)
     command.add_argument("--clients", type=int, default=50)
     command.add_argument("--requests", type=int, default=20_000)
     command.add_argument("--lists", type=int, default=60)
     command.add_argument("--stations", type=int, default=100)
     given = command.parse_args()
-    deploy.PROGRAM = given.program.resolve()
-    if not deploy.NGINX:
+    site.PROGRAM = given.program.resolve()
+    if not NGINX:
         sys.exit("nginx is not there")
     with tempfile.TemporaryDirectory(prefix="office-proxy-") as folder:
         os.chdir(folder)

@@ -40,11 +40,12 @@ from pathlib import Path
 # What is imported from here is not to be left beside it in compiled form.
 sys.dont_write_bytecode = True
 ROOT = Path(__file__).resolve().parent.parent
-sys.path[:0] = [str(ROOT / "bench"), str(ROOT / "tests")]
+sys.path[:0] = [str(ROOT / "bench"), str(ROOT)]
 from building import PROGRAM
-from office import RETURNS, SETUP, THREE_STATIONS, constituency, party_list, profile, station
-from program import SCRIPT, close_return, database
 from refused_memory import WHOLE, NotPromised, Runs, ended, has_no_compiler, library_in
+from tests.support.office import RETURNS, SETUP, THREE_STATIONS, constituency, party_list, profile, station
+from tests.support.program import close_return, database
+from tests.support.twin_town import SCRIPT
 
 DB, LOG = "office.db", "office.db-wal"
 

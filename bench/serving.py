@@ -10,8 +10,8 @@ from pathlib import Path
 
 from building import ROOT
 
-sys.path.append(str(ROOT / "tests"))
-from running import free_port
+sys.path.append(str(ROOT))
+from tests.support.running import free_port
 
 
 @dataclass

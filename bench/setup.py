@@ -23,8 +23,8 @@ sys.dont_write_bytecode = True
 from building import HERE, ROOT, build_office, processor
 from measuring import run
 
-sys.path.append(str(ROOT / "tests"))
-from office import constituency, party_list, profile, station
+sys.path.append(str(ROOT))
+from tests.support.office import constituency, party_list, profile, station
 
 CONSTITUENCIES = 200
 LISTS = 60

@@ -1,12 +1,15 @@
 #!/usr/bin/env python3
-"""Tries the wrong bodies in `tests/wrong_bodies`, which `rt ci` does not try. The prover has to refuse each.
+"""Tries the wrong bodies in `tests/wrong_bodies`, which `rt ci` does not try.
+
+The prover has to refuse each.
 
     python3 tests/wrong_bodies.py [CRATE..]
 
-Each is an edit of the source of a crate, in the form of those in `crates/*/must-fail`, in a folder with the name of
-the crate; with names of crates, only theirs. They are tried in a copy of the sources, which may take 5 GB: a first
-check of each crate and of those below it, unless earlier checks on this machine kept that, then half a minute for each
-edit. The last line is `N passed, M failed`.
+Each is an edit of the source of a crate, in the form of those in `crates/*/must-fail`, in a folder
+with the name of the crate; with names of crates, only theirs. They are tried in a copy of the
+sources, which may take 5 GB: a first check of each crate and of those below it, unless earlier
+checks on this machine kept that, then half a minute for each edit. The last line is `N passed, M
+failed`.
 """
 
 import re
@@ -24,16 +27,22 @@ def copy_sources(to, crates):
     """Copies the sources, with the edits of these crates in place of those in `must-fail`."""
     for name in ("crates.txt", "HANDLES"):
         shutil.copy(ROOT / name, to / name)
-    shutil.copytree(ROOT / "crates", to / "crates", ignore=shutil.ignore_patterns("out", "must-fail"))
+    shutil.copytree(
+        ROOT / "crates", to / "crates", ignore=shutil.ignore_patterns("out", "must-fail")
+    )
     for crate in crates:
         shutil.copytree(EDITS / crate, to / "crates" / crate / "must-fail")
 
 
 def try_edits(folder, crates):
-    """Tries the edits of these crates, shows what is said of each, and gives the names of those that were refused."""
+    """Tries the edits of these crates, shows what is said of each, and gives the names of those
+    that were refused.
+    """
     refused = set()
     words = ["rt", "must-fail", *crates]
-    with subprocess.Popen(words, cwd=folder, stdout=subprocess.PIPE, stderr=subprocess.STDOUT, text=True) as tried:
+    with subprocess.Popen(
+        words, cwd=folder, stdout=subprocess.PIPE, stderr=subprocess.STDOUT, text=True
+    ) as tried:
         for line in tried.stdout:
             print(line, end="", flush=True)
             found = re.search(r"must-fail (\S+): refused, as it must be", line)

@@ -1,5 +1,5 @@
 //! A setup as it is read, what is found in it, and its faults. Which fault a text has is shown on
-//! the program, in `tests/setup.py`.
+//! the program, in `tests/program/test_setup.py`.
 
 use std::alloc::{AllocError, Global};
 use std::test::Fail;

@@ -1,5 +1,5 @@
 //! Checks of a text from a reader that gives few bytes at a time or fails, and into a writer that
-//! fails. What a text comes to is shown on the program, in `tests/check.py`.
+//! fails. What a text comes to is shown on the program, in `tests/program/test_check.py`.
 
 use crate::writers::Room;
 use std::alloc::{AllocError, Global};

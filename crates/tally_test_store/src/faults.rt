@@ -1,5 +1,5 @@
 //! Why an office is not made or opened: each fault once. Many more changes of the tables are tried
-//! from outside (`tests/database.py`).
+//! from outside (`tests/program/test_database.py`).
 
 use crate::offices::{create, database, empty, open};
 use sqlite::{Alter, Connection};

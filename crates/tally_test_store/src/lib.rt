@@ -1,7 +1,7 @@
 //! Tests of `tally_store` over a database in memory, and over two files in memory of which one
 //! stops at some call. They are checked once, over its finished proofs. Nothing here is public, so
 //! there are no must-fail edits. What the tables hold, and which tables are opened, is shown from
-//! outside as well (`tests/database.py`).
+//! outside as well (`tests/program/test_database.py`).
 #![tactic(auto)]
 
 #[cfg(test)]

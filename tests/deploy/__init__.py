@@ -1,0 +1,26 @@
+"""Tests of `deploy/`: an office as it is run for real.
+
+    OFFICE_PROGRAM=FILE python3 -m unittest tests.deploy.test_roles
+    python3 -m unittest tests.deploy.test_roles -k each_role
+
+Each test has a folder of its own, ports that are free and, where it needs one, an nginx of its own.
+So suites run side by side. A test that needs nginx, Chromium, openssl, rsync or systemd-analyze is
+skipped where that is missing. Clients and attackers are processes and threads of this machine, at
+addresses of its own (127.0.0.0/8).
+
+- The proxy: test_roles, test_passwords, test_other_sites, test_requests, test_limits, test_readers,
+  test_floods, test_hour, test_offices.
+- The record of commands: test_record, test_recorder, test_replay, test_entries, test_history.
+- The machine: test_backup, test_services.
+- The press pages: test_press_pages, test_country_page, test_first_election, test_site_files,
+  test_weights, test_country. In a browser: test_shown_pages, test_pictures.
+- The published data: test_data, test_station_files, test_published, test_feed, test_site_openapi.
+- The clerks' page: test_clerks_page, test_slips, test_second_entry.
+- The audit: test_audit_rule, test_audit_commands.
+
+These variables of the environment change a run:
+
+- OFFICE_PICTURES=FOLDER leaves pictures of the pages there, to look at.
+- OFFICE_STORE_PICTURES=1 stores the pictures of test_pictures again.
+- COUNTRY_STATIONS=1154 makes the country of test_country one of 60,000 stations.
+"""

@@ -1,0 +1,212 @@
+"""Who did what to a station."""
+
+import json
+from pathlib import Path
+
+from tests.support.case import needs
+from tests.support.clerks import (
+    SLIP, TWICE, choose_station, clerks_browser, office_with_a_second, said,
+)
+from tests.support.record import a_command, chained
+from tests.support.scripts import module
+from tests.support.shown import shows_well
+from tests.support.site import SiteCase
+
+recorder = module("recorder")
+
+
+def history(front, code, name):
+    return json.loads(front.ask("GET", f"/now/station/{code}/history", name=name).body)
+
+
+class History(SiteCase):
+    @needs("nginx", "openssl")
+    def test_who_did_what_to_a_station(self):
+        """From the record: the staff see who and when, what was answered and typed, and a second
+        nothing of what was typed or answered; stations and strangers see nothing. After a start of
+        the recorder it is the same."""
+        with office_with_a_second(TWICE) as (desk, front):
+            front.name("stations", "s1")
+            wrong = SLIP | {"votes": [120, 17]}
+            rows = "station,slip,blank,spoiled,A,B\r\ns2,p2,0,0,10,20\r\ns1,p1,2,1,120,71\r\n"
+            noted = {"rev": 1, "note": "the slip says 71 for B"}
+            given = (("clara", "/station/s1/lodge", wrong),
+                     ("sara", "/station/s1/confirm", {"rev": 1, **SLIP}),
+                     ("sara", "/station/s1/query", noted),
+                     ("berta", "/station/s1/close", {"rev": 2}),
+                     ("bruno", "/station/s1/correct", {"rev": 2, **SLIP}),
+                     ("sara", "/station/s1/confirm", {"rev": 3, **SLIP}),
+                     ("clara", "/con/c1/import", rows), ("clara", "/con/c1/import", rows),
+                     ("s1", "/station/s1/lodge", SLIP), ("clara", "/station/s3/lodge", SLIP))
+            statuses = [front.ask("POST", target, body, name).status
+                        for name, target, body in given]
+            self.assertEqual(statuses, [200, 409, 200, 403, 200, 200, 200, 200, 200, 200])
+            record = front.record(10)
+            for again in (False, True):
+                with self.subTest(again=again):
+                    if again:
+                        front.end_recorder()
+                        front.start_recorder()
+                    for name in ("clara", "berta"):
+                        with self.subTest(name=name):
+                            found = history(front, "s1", name)
+                            self.assertEqual((found["station"], found["whole"]), ("s1", True))
+                            # The second import lodged nothing.
+                            wanted = [("clara", "clerk", "lodge", 200, json.dumps(wrong),
+                                       '{"ok":"lodged","rev":1}'),
+                                      ("sara", "second", "confirm", 409, json.dumps(given[1][2]),
+                                       '{"refused":7,"rev":1,"word":"differs"}'),
+                                      ("sara", "second", "query", 200, json.dumps(noted),
+                                       '{"ok":"moved","rev":2}'),
+                                      ("berta", "board", "close", 403, None, None),
+                                      ("bruno", "clerk", "correct", 200, json.dumps(given[4][2]),
+                                       '{"ok":"moved","rev":3}'),
+                                      ("sara", "second", "confirm", 200, json.dumps(given[5][2]),
+                                       '{"ok":"moved","rev":4}'),
+                                      ("clara", "clerk", "import", 200, None,
+                                       '{"bad":0,"differs":0,"first":null,"lodged":1,"ok":"import",'
+                                       '"refused":0,"same":1}'),
+                                      ("s1", "station", "lodge", 200, json.dumps(SLIP),
+                                       '{"ok":"same","rev":4}')]
+                            self.assertEqual([(
+                                *(one[key] for key in ("name", "role", "act", "status")),
+                                one.get("body"), one.get("answer")) for one in found["commands"]],
+                                             wanted)
+                            self.assertEqual(
+                                [(one["n"], one["time"]) for one in found["commands"]],
+                                [(one["n"], one["time"]) for one in record[:7] + record[8:9]])
+                            self.assertEqual([(one["act"], one["n"])
+                                              for one in history(front, "s2", name)["commands"]],
+                                             [("import", record[6]["n"])])
+                            self.assertEqual(history(front, "s4", name),
+                                             {"station": "s4", "whole": True, "commands": []})
+                    seen = history(front, "s1", "sara")
+                    bare = ("n", "time", "name", "role", "act", "status")
+                    self.assertEqual(seen, {
+                        "station": "s1", "whole": True,
+                        "commands": [{key: one[key] for key in bare} for one in found["commands"]]})
+
+            def ask(method, target, name, **more):
+                return front.ask(method, target, name=name, **more).status
+
+            target = "/now/station/s1/history"
+            self.assertEqual([ask("GET", target, None),
+                              ask("GET", target, "clara", password="other"),
+                              ask("GET", target, "s1"), ask("GET", target, "nonesuch")],
+                             [401, 401, 403, 401])
+            self.assertEqual([
+                ask("POST", target, "clara"), ask("HEAD", target, "clara"),
+                ask("GET", target + "?x", "clara"), ask("GET", "/station/s1/history", "clara"),
+                ask("GET", "/history/s1", "clara"),
+                ask("GET", "/now/station/s%31/history", "clara"),
+                ask("GET", target, "clara", headers={"Sec-Fetch-Site": "cross-site"})],
+                             [405, 405, 404, 404, 404, 404, 403])
+            # A client says nothing of its role.
+            self.assertEqual(json.loads(front.ask(
+                "GET", target, name="sara",
+                headers={"Office-Role": "clerk", "Office-Allowed": "1"}).body), seen)
+            self.assertEqual(front.ask(
+                "GET", target, name="s1",
+                headers={"Office-Role": "clerk", "Office-Allowed": "1"}).status, 403)
+            # Reading is not recorded.
+            self.assertEqual(len(front.record()), 10)
+
+    def test_a_history_reads_the_lines_of_its_station(self):
+        """And no others, however many there are: what they are turned into afterwards changes
+        nothing. It has the last lines alone; long lines, commands without an answer and lines of no
+        recorder are no trouble."""
+        file = lambda body: a_command(body, "/con/c1/import/semicolon")
+        answered = lambda to, answer="": {"to": to, "status": 200, "answer": answer}
+        lodged, nothing = '{"lodged":1}', '{"lodged":0}'
+        lines = [b"5", b"[" * 20_000, b'{"to":1}', b"", b'{"path":"/station/s1/close"}',
+                 a_command("{}", "/station/s1/lodge"), a_command("{}", "/station/s2/lodge"),
+                 answered(7), answered(6), a_command("{}", "/station/s1/close"),
+                 file("s7;p\n" + "x" * 100_000), answered(11, lodged),
+                 file("s7;p\u00e9\n".encode("latin-1")), answered(13, lodged), file("s7;q"),
+                 file("s7;r"), answered(16, nothing), a_command("{}", "/con/s1/certify"),
+                 answered(18), a_command("{}", "/station/s8/lodge"),
+                 a_command('"' * 16_384, "/station/s8/lodge"), answered(21), answered(20)]
+        for n in range(24, 324, 2):
+            lines += [a_command("{}", "/station/s2/query"), answered(n)]
+        text = chained(*lines)
+        Path("commands.log").write_bytes(text)
+        record = recorder.Record("commands.log", 0)
+
+        def found(code):
+            history = record.history(code)
+            return history["whole"], [(one["n"], one["act"], one["status"])
+                                      for one in history["commands"]]
+
+        wanted = {"s1": (True, [(6, "lodge", 200), (10, "close", None)]),
+                  "s7": (True, [(11, "import", 200), (13, "import", 200), (15, "import", None)]),
+                  "s2": (False, [(n, "query", 200) for n in range(124, 324, 2)]),
+                  "s8": (True, [(20, "lodge", 200), (21, "lodge", 200)]), "s9": (True, [])}
+        self.assertEqual({code: found(code) for code in wanted}, wanted)
+        self.assertEqual([[key for key in one
+                           if key not in ("n", "time", "name", "role", "act", "status")]
+                          for one in record.history("s7")["commands"]],
+                         [["answer"], ["answer"], []])
+        self.assertEqual([one["body"] for one in record.history("s8")["commands"]],
+                         ["{}", '"' * 16_384])
+        # A return that is lodged over and over, or refused, pushes no act out.
+        Path("commands.log").write_bytes(chained(
+            a_command("{}", "/station/s1/lodge"), answered(1, '{"ok":"lodged","rev":1}'),
+            a_command("{}", "/station/s1/query"), answered(3, '{"ok":"moved","rev":2}'),
+            *(line for n in range(5, 605, 3)
+              for line in (
+                  a_command("{}", "/station/s1/lodge"), answered(n, '{"ok":"same","rev":2}'),
+                  a_command("{}", "/station/s1/lodge") | {"status": 403}))))
+        again = recorder.Record("commands.log", 0).history("s1")
+        self.assertEqual(
+            (again["whole"], [one["n"] for one in again["commands"]][:2], len(again["commands"])),
+            (False, [1, 3], 2 + 133))
+        # The lines of s2 say that they are of s1, and those of files that they are of other
+        # stations.
+        Path("commands.log").write_bytes(text.replace(b"/station/s2", b"/station/s1").replace(
+            b"s7;", b"s9;"))
+        self.assertEqual({code: found(code) for code in wanted}, wanted)
+
+    @needs("chromium", "nginx", "openssl")
+    def test_the_history_in_the_page(self):
+        """A clerk is shown what was typed and answered, a second who and when alone; a station has
+        no such button."""
+        with office_with_a_second(TWICE) as (desk, front):
+            front.name("stations", "s1")
+            for name, target, body in (
+                ("clara", "/station/s1/lodge", SLIP | {"votes": [120, 17]}),
+                ("sara", "/station/s1/confirm", {"rev": 1, **SLIP}),
+                ("sara", "/station/s1/query", {"rev": 1, "note": "<b>71</b> for B"}),
+                ("berta", "/station/s1/close", {"rev": 2})):
+                front.ask("POST", target, body, name)
+            times = [line["time"][:19].replace("T", " ") for line in front.record(4)]
+            shown_there = ("return [...document.querySelectorAll('#history li')].map((e) => "
+                           "e.textContent)")
+            seen = {"clara": ["clara (clerk) entered it: slip p1, A 120, B 17, blank 2, spoiled 1. "
+                              "Done: revision 1.",
+                              "sara (second entry) entered it a second time: slip p1, A 120, B 71, "
+                              "blank 2, spoiled 1. It was refused: differs.",
+                              "sara (second entry) queried it: “<b>71</b> for B”. "
+                              "Done: revision 2.",
+                              "berta (board) closed it. It was refused: the name may not do it."],
+                    "sara": ["clara (clerk) entered it. Done.",
+                             "sara (second entry) entered it a second time. It was refused.",
+                             "sara (second entry) queried it. Done.",
+                             "berta (board) closed it. It was refused: the name may not do it."]}
+            for name, lines in seen.items():
+                with self.subTest(name=name, lines=lines):
+                    with clerks_browser(front, name) as it:
+                        self.assertFalse(it.visible("#who"))
+                        choose_station(it, "s1")
+                        it.click("#who")
+                        said(it, "The history of station s1 is shown.")
+                        self.assertEqual(it.run(shown_there),
+                                         [f"{time} {line}" for time, line in zip(times, lines)])
+                        shows_well(it, f"history-{name}")
+                        # It is of this station, and of no other.
+                        choose_station(it, "s2")
+                        self.assertEqual(it.run(shown_there), [])
+                        it.click("#who")
+                        said(it, "The history of station s2 is shown.")
+                        self.assertEqual(it.text("#history"), "Nothing was done to station s2.")
+            with clerks_browser(front, "s1") as it:
+                self.assertFalse(it.visible("#who"))

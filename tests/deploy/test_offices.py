@@ -1,0 +1,170 @@
+"""More than one office behind a proxy."""
+
+import contextlib
+import json
+import re
+import signal
+import subprocess
+import sys
+import time
+from pathlib import Path
+
+from tests.support.case import PROGRAM, needs
+from tests.support.office import SETUP, constituency, party_list, profile, station
+from tests.support.pages import read
+from tests.support.proxy import Proxy
+from tests.support.running import PATIENCE, free_port, until
+from tests.support.site import DEPLOY, SiteCase, plain, ran, rows, serving
+
+
+def three_offices_setup():
+    """Seven constituencies of 1 to 7 stations each."""
+    setup = profile("d0")
+    for c in range(1, 8):
+        setup += constituency(f"c{c}", f"Town {c}", 3, "d0")
+        setup += party_list("A", "Alpha", "Ana") + party_list("B", "Beta", "Bea")
+        setup += "".join(station(f"s{c}-{n}") for n in range(1, c + 1))
+    return setup
+
+
+class Offices(SiteCase):
+    def test_a_setup_that_is_split(self):
+        """Each constituency is in one office, word for word, and no office has far more stations
+        than another."""
+        Path("setup.toml").write_text(three_offices_setup(), encoding="utf-8")
+        said = ran(DEPLOY / "split", "setup.toml", "3", "parts")
+        # 28 stations: 7 + 2 + 1, 6 + 3 and 5 + 4, by the rule of the largest first.
+        self.assertEqual(said,
+                         "office 1: 3 constituencies, 10 stations\n"
+                         "office 2: 2 constituencies, 9 stations\n"
+                         "office 3: 2 constituencies, 9 stations\n")
+        texts = [read(f"setup-{office}.toml", "parts") for office in (1, 2, 3)]
+        whole = three_offices_setup()
+        self.assertEqual([re.findall('^code = "(c.)"', text, re.M) for text in texts],
+                         [["c1", "c2", "c7"], ["c3", "c6"], ["c4", "c5"]])
+        self.assertTrue(all(part in whole for text in texts
+                            for part in re.split(r"(?=\[\[constituency\]\])", text)))
+        for office in (1, 2, 3):
+            ran(PROGRAM, "new", "--db", f"{office}.db", "--setup", f"parts/setup-{office}.toml")
+        Path("wrong.toml").write_text(three_offices_setup().replace("s1-1", "S7-1"),
+                                      encoding="utf-8")
+        self.assertIn("capitals", ran(DEPLOY / "split", "wrong.toml", "3", "wrong", status=1))
+        # A code would be a line of the proxy's configuration.
+        Path("wrong.toml").write_text(
+            three_offices_setup().replace('"s1-1"', '"s1-1 1;} map $uri $x {default"'),
+            encoding="utf-8")
+        self.assertIn("is no code", ran(DEPLOY / "split", "wrong.toml", "3", "wrong", status=1))
+        self.assertFalse(Path("wrong").exists())
+        self.assertIn("7 constituencies",
+                      ran(DEPLOY / "split", "setup.toml", "8", "wrong", status=1))
+
+    @needs("nginx", "openssl")
+    def test_three_offices(self):
+        """One site, one record and one set of pages for three offices; the record replays over
+        three new ones."""
+        Path("whole.toml").write_text(three_offices_setup(), encoding="utf-8")
+        ran(DEPLOY / "split", "whole.toml", "3", "parts")
+        with contextlib.ExitStack() as held:
+            def served(name):
+                return [held.enter_context(serving(read(f"setup-{office}.toml", "parts"),
+                                                   f"{name}{office}.db")) for office in (1, 2, 3)]
+
+            desks = served("office")
+            front = Proxy(*(desk.port for desk in desks))
+            front.configure()
+            for name in ("offices.conf", "progress.conf", "progress.txt", "now.txt"):
+                front.put(name, read(name, "parts"), {
+                    "/etc/nginx/office/": f"{front.folder}/office/", **{
+                        f"127.0.0.1:{8080 + office}": f"127.0.0.1:{desk.port}"
+                        for office, desk in enumerate(desks, 1)}})
+            front.start()
+            held.callback(front.end)
+            self.elect_three(front)
+            progress = "".join(plain(desk.port, "GET", "/progress").body.decode() for desk in desks)
+            self.assertEqual(sorted(line.split()[0] for line in progress.splitlines()),
+                             [f"c{c}" for c in range(1, 8)])
+            self.assertEqual(front.ask("GET", "/progress").body.decode(), progress)
+            self.assertEqual(front.ask("GET", "/now/progress", name="clara").body.decode(),
+                             progress)
+            self.assertEqual([front.ask("GET", target).status
+                              for target in ("/progress/1", "/now/progress/1", "/progress/x",
+                                             "/station/unknown")], [404, 404, 404, 404])
+            self.assertEqual(front.ask("GET", "/now/progress").status, 401)
+            addresses = [f"http://127.0.0.1:{desk.port}" for desk in desks]
+            ran(sys.executable, DEPLOY / "press.py", *addresses, "pages", "--setup", "whole.toml")
+            names, *results = [line.split(",") for line in read("results.csv").splitlines()]
+            votes = names.index("votes")
+            self.assertEqual({row[0]: [int(one[votes]) for one in results if one[0] == row[0]]
+                              for row in results}, {f"c{c}": [10 * c * c, c] for c in range(1, 8)})
+            self.assertTrue(json.loads(read("index.json"))["constituencies"][0]["certified"])
+            self.assertEqual([line["office"] for line in front.record(42)].count(1), 3 + 2 * 10)
+            # Those acts over three new offices.
+            fresh, record = served("again"), (front.folder / "log/commands.log").read_bytes()
+            done = subprocess.run(
+                [DEPLOY / "replay", *(f"http://127.0.0.1:{desk.port}" for desk in fresh)],
+                input=record, capture_output=True, text=False, timeout=PATIENCE)
+            self.assertEqual(done.returncode, 0, done)
+            self.assertTrue(done.stdout.startswith(b"sent 63, to look at 0; lines 126,"), done)
+            # One that is away, or does not answer, holds up nobody who asks for all of them.
+            first, _, third = (plain(desk.port, "GET", "/progress").body.decode() for desk in desks)
+            for away in (lambda: desks[1].process.send_signal(signal.SIGSTOP), desks[1].end):
+                with self.subTest(away=away):
+                    away()
+                    for target, name in (("/now/progress", "clara"), ("/progress", None)):
+                        with self.subTest(target=target, name=name):
+                            # (an answer is kept for a second)
+                            until(lambda: front.ask("GET", target, name=name).body.decode()
+                                  == f"{first}an office does not answer\n{third}")
+                            began = time.monotonic()
+                            self.assertEqual(front.ask("GET", target, name=name).status, 200)
+                            self.assertLess(time.monotonic() - began, 9)
+                    desks[1].process.send_signal(signal.SIGCONT) if desks[1].process else None
+            for desk in desks + fresh:
+                desk.end()
+            for office in (1, 2, 3):
+                with self.subTest(office=office):
+                    self.assertEqual(rows(f"again{office}.db"), rows(f"office{office}.db"))
+        # One of them does not answer: its pages say how old they are, and those of others go on.
+        with serving(read("setup-2.toml", "parts"), "two.db") as two:
+            ran(sys.executable, DEPLOY / "press.py", f"http://127.0.0.1:{free_port()}",
+                f"http://127.0.0.1:{two.port}", "pages", status=1)
+        self.assertEqual([f"c{c}" for c in range(1, 8) if 'class="old"' in read(f"con-c{c}.html")],
+                         ["c1", "c2", "c4", "c5", "c7"])
+        self.assertIn('class="old"', read("index.html"))
+
+    def elect_three(self, front):
+        """Lodges and closes the return of each station, and certifies each constituency: 28 + 28 +
+        7 commands."""
+        def ask(target, body, name, c):
+            found = front.ask("POST", target, body, name, source=f"127.0.11.{c}")
+            self.assertEqual(found.status, 200, target)
+
+        for c in range(1, 8):
+            for n in range(1, c + 1):
+                ask(f"/station/s{c}-{n}/lodge",
+                    {"slip": "p1", "votes": [10 * c, 1], "blank": 0, "spoiled": 0}, "clara", c)
+                ask(f"/station/s{c}-{n}/close", {"rev": 1}, "clara", c)
+            ask(f"/con/c{c}/certify", {"edition": 1}, "berta", c)
+
+    def test_a_setup_that_cannot_be_split(self):
+        """Its constituencies are in a form whose lines belong to none of them."""
+        Path("setup.toml").write_text(
+            'profile = [{ code = "d0", method = "dhondt", threshold = 0, base = "valid" }]\n'
+            'constituency = [{ code = "c1", station = [{ code = "s1" }] }, '
+            '{ code = "c2", station = [{ code = "s2" }] }]\n', encoding="utf-8")
+        self.assertIn("[[constituency]]",
+                      ran(DEPLOY / "split", "setup.toml", "2", "parts", status=1))
+        self.assertFalse(Path("parts").exists())
+
+    def test_how_the_proxy_reaches_each_office(self):
+        """As it does one: the recorder waits for it while it starts again, but not for its part of
+        the progress of all."""
+        def upstreams(text):
+            return re.findall(r"upstream .*?^}", text, re.M | re.S)
+
+        Path("setup.toml").write_text(SETUP, encoding="utf-8")
+        ran(DEPLOY / "split", "setup.toml", "1", "parts")
+        own = upstreams((DEPLOY / "nginx/offices.conf").read_text(encoding="utf-8"))
+        self.assertEqual(upstreams(Path("parts/offices.conf").read_text(encoding="utf-8")),
+                         [text.replace("8080", "8081") for text in own]
+                         + ["upstream progress1 {\n    server 127.0.0.1:8081 max_fails=0;\n}"])

@@ -1,0 +1,411 @@
+"""The press pages of a constituency."""
+
+import json
+import os
+import re
+import subprocess
+import sys
+from pathlib import Path
+
+from tests.support.case import ROOT
+from tests.support.desks import answering_desk, done, modelled
+from tests.support.office import PROFILE, profile, with_stations
+from tests.support.pages import (
+    OF_STATIONS, REOPENED, TWIN, page_of, press, read, shown_text, site_folder,
+)
+from tests.support.record import LODGED
+from tests.support.running import PATIENCE, until
+from tests.support.site import DEPLOY, SiteCase, plain, ran, serving
+
+# Three seats of two lists with as many votes, by the lot B, A: the rule, those of each list, and
+# whether the page says that the order is turned round.
+LOTS = (("dhondt", "fixed", [1, 2], False), ("dhondt", "alternating", [2, 1], True),
+        ("hare", "alternating", [1, 2], False))
+
+
+class PressPages(SiteCase):
+    def test_a_page_of_the_press(self):
+        """Twin Town: every number of the office's texts is in a table, and the texts are there word
+        for word."""
+        Path("setup.toml").write_text(with_stations(1), encoding="utf-8")
+        with answering_desk(TWIN) as (port, asked):
+            last = press(port, "--setup", "setup.toml")
+            self.assertTrue(
+                re.fullmatch(r"\d\d:\d\d:\d\d pages 2 failed 0 GETs 13 in \d+\.\d s", last), last)
+            self.assertEqual((len(asked), [target for target in asked if target in OF_STATIONS]),
+                             (13, ["/con/c1/returns"]))
+        page = page_of("con-c1.html")
+        self.assertEqual(page.figures, 2)
+        self.assertEqual(page.tables["Seats of each list"],
+                         [["List", "seats"], ["A Alpha", "1"], ["B Beta", "2"], ["Total", "3"]])
+        self.assertEqual(
+            page.tables["Votes of each list"][1:],
+            [["A Alpha", "100", "50.00 %", "yes"], ["B Beta", "100", "50.00 %", "yes"]])
+        self.assertEqual(page.tables["Holders of the seats"][1:],
+                         [["A", "1", "Ana"], ["B", "1", "Bea"], ["B", "–", "empty"]])
+        self.assertEqual(page.tables["Awards in order"][1:], [
+            ["1", "B", "1", "100", "1", "100"], ["2", "A", "1", "100", "1", "100"],
+            ["3", "B", "2", "100", "2", "50"]])
+        self.assertEqual(page.tables["Quotients of each list"][1:],
+                         [["A", "100 ★ won", "50", "33"], ["B", "100 ★ won", "50 ★ won", "33"]])
+        self.assertEqual(page.tables["Votes that a list lacked for one seat more, whatever lot is "
+                                     "drawn, with the same other votes and eligible lists"][1:],
+                         [["A", "1", "1"], ["B", "2", "200"]])
+        self.assertEqual(page.tables["Returns of the stations"][1:],
+                         [["1", "0", "0", "0", "0", "1"]])
+        text = read("con-c1.html")
+        self.assertIn("A lot was drawn: first B, then A.", text)
+        self.assertIn("No certificate was withdrawn.", text)
+        for target, said in TWIN.items():
+            with self.subTest(target=target, said=said):
+                if target.startswith("/con/c1/") and target not in OF_STATIONS:
+                    self.assertIn(f">{said}</pre>", text)
+        self.assertEqual(text.count("h0"), 3)
+        self.assertEqual(read("con-c1.csv"),
+                         "list,name,votes,share,takes_part,seats\nA,Alpha,100,50.00,yes,1\n"
+                         "B,Beta,100,50.00,yes,2\n")
+        self.assertEqual(read("results.csv"),
+                         "con,con_name,stations,closed,edition,certified,electors,valid,blank,"
+                         "spoiled,list,name,votes,share,takes_part,seats\n"
+                         "c1,Twin Town,1,1,3,true,300,200,0,0,A,Alpha,100,50.00,yes,1\n"
+                         "c1,Twin Town,1,1,3,true,300,200,0,0,B,Beta,100,50.00,yes,2\n")
+        self.assertEqual(read("stations-c1-3.csv"),
+                         "station,slip,blank,spoiled,A,B\ns1,p1,0,0,100,100\n")
+        self.assertEqual(read("index.csv"),
+                         "con,stations,missing,received,queried,corrected,closed,edition,"
+                         "certified\nc1,1,0,0,0,0,1,3,true\n")
+        found = json.loads(read("con-c1.json"))
+        self.assertEqual((found["view"], found["texts"]["seats"]),
+                         (TWIN["/con/c1"], TWIN["/con/c1/seats"]))
+        self.assertEqual(json.loads(read("setup.json")), [{
+            "code": "c1", "name": "Twin Town", "seats": 3, "method": "dhondt", "threshold": 0,
+            "base": "valid", "lot": "fixed",
+            "lists": [{"code": "A", "name": "Alpha", "candidates": ["Ana", "Abel"]},
+                      {"code": "B", "name": "Beta", "candidates": ["Bea"]}],
+            "stations": [{"code": "s1", "electors": 300}]}])
+        self.assertEqual([name for name in os.listdir("pages") if name.startswith(".")], [])
+
+    def test_a_page_after_a_lot(self):
+        """Where lots alternate the page says so, and setup.json. The list that the lot left out
+        lacked no vote: with one more it would have one more seat. The published files, with the
+        setup, are counted to the same seats again by the lot that is published."""
+        os.mkdir("returns")
+        for method, lot, seats, turned in LOTS:
+            with self.subTest(method=method, lot=lot, seats=seats, turned=turned):
+                setup = with_stations(1).replace(PROFILE, f'{profile("d0", method)}lot = "{lot}"\n')
+                Path("setup.toml").write_text(setup, encoding="utf-8")
+                with modelled(setup) as (office, port):
+                    done(office, "/station/s1/lodge",
+                         {"slip": "p1", "votes": [100, 100], "blank": 0, "spoiled": 0})
+                    done(office, "/station/s1/close", {"rev": 1})
+                    done(office, "/con/c1/draw", {"edition": 1, "order": ["B", "A"]})
+                    done(office, "/con/c1/certify", {"edition": 2})
+                    press(port, "--setup", "setup.toml")
+                    press(port, "--setup", "setup.toml", *site_folder(site='language = "es"\n'),
+                          folder="es")
+                self.assertEqual(
+                    page_of("con-c1.html").tables["Seats of each list"][1:],
+                    [["A Alpha", str(seats[0])], ["B Beta", str(seats[1])], ["Total", "3"]])
+                for folder, said, more in (
+                    ("pages", "A lot was drawn: first B, then A.",
+                     " For a list’s second seat, its fourth and so on this order is turned round."),
+                    ("es", "Hubo sorteo: primero B, después A.",
+                     " Para el segundo escaño de una lista, el cuarto y así sucesivamente, este "
+                     "orden se invierte.")):
+                    with self.subTest(folder=folder, said=said, more=more):
+                        self.assertIn(f"<p>{said}{more if turned else ''}</p>",
+                                      read("con-c1.html", folder))
+                self.assertEqual([entry["lot"] for entry in json.loads(read("setup.json"))], [lot])
+                least = "AB"[seats.index(1)]
+                for folder, said in (
+                    ("pages", f"{least} would have one more seat in Twin Town with 1 more vote"),
+                    ("es", f"{least} tendría un escaño más en Twin Town con 1 voto más")):
+                    with self.subTest(folder=folder, said=said):
+                        text = shown_text(read("index.html", folder))
+                        self.assertEqual((said in text, "lacked 1" in text),
+                                         (method != "hare", False))
+                Path("returns/c1.csv").write_text(read("stations-c1-3.csv"), encoding="utf-8")
+                Path("lots").write_text(
+                    " ".join(["c1", *json.loads(read("con-c1.json"))["view"]["lot"]]),
+                    encoding="utf-8")
+                words = [sys.executable, ROOT / "examples/recount.py", "--setup", "setup.toml",
+                         "--returns", "returns"]
+                self.assertEqual(ran(*words, "--lots", "lots"),
+                                 f"c1 A {seats[0]} B {seats[1]} (1 of 1 stations)\n")
+                self.assertTrue(ran(*words, status=1).endswith("; a lot is missing)\n"))
+
+    def test_a_code_in_capitals(self):
+        """Codes differ by the case of their letters: each file has them as they are."""
+        answers = {target.replace("c1", "C1"): said.replace("c1", "C1") if isinstance(said, str)
+                   else said | {"con": "C1"}
+                   for target, said in TWIN.items()}
+        with answering_desk(answers) as (port, _):
+            press(port)
+        self.assertEqual(read("index.csv").splitlines()[1:], ["C1,1,0,0,0,0,1,3,true"])
+        self.assertEqual([line.split(",")[0] for line in read("results.csv").splitlines()[1:]],
+                         ["C1", "C1"])
+        self.assertEqual(json.loads(read("index.json"))["constituencies"][0]["con"], "C1")
+
+    def test_a_page_without_a_certificate(self):
+        """A reopened constituency: the certificate is shown as withdrawn, on top and with its note,
+        and no seat as given. One that never had a certificate has none yet."""
+        never = REOPENED | {"/con/c1/past": TWIN["/con/c1/past"]}
+        for desk, state in ((REOPENED, "Certificate withdrawn"), (never, "No certificate yet")):
+            with self.subTest(desk=desk, state=state):
+                with answering_desk(desk) as (port, _):
+                    press(port)
+                page, text = page_of("con-c1.html"), read("con-c1.html")
+                self.assertIn(f">{state}, edition 4</p>\n<h1>Twin Town</h1>", text)
+                self.assertIn(f"<b>{state}.</b>", text)
+                self.assertNotIn("Seats of each list", page.tables)
+                self.assertEqual((page.figures, text.count("h0")), (1, 0))
+                self.assertEqual(
+                    page_of("count.html").tables["Progress of the constituencies"][1][:2],
+                    ["Twin Town", state.lower()])
+                self.assertEqual(
+                    page_of("index.html").tables["Constituencies in the order of their names"][1],
+                    [f"Twin Town {state.lower()}", "–", "–", "100.00 %"])
+                withdrawn = '<b>Certificate withdrawn:</b> <a href="con-c1.html">Twin Town</a>.'
+                self.assertEqual(withdrawn in read("index.html"), desk is REOPENED)
+                if desk is REOPENED:
+                    self.assertIn("a &lt;recount&gt;", text)
+                    self.assertEqual(page.tables["Certificate of edition 3, withdrawn"][1:],
+                                     [["A Alpha", "1"], ["B Beta", "2"]])
+        self.assertEqual(read("con-c1.csv").splitlines()[1:],
+                         ["A,Alpha,100,50.00,yes,", "B,Beta,100,50.00,yes,"])
+
+    def test_a_page_of_a_part_of_the_votes(self):
+        """While returns are open the page says so where the votes are, and not once all are
+        closed."""
+        answers = REOPENED | {
+            "/progress": "c1                    3      2      0      0      0      1      4 open\n",
+            "/con/c1": REOPENED["/con/c1"] | {"stations": 3},
+            "/con/c1/tally": TWIN["/con/c1/tally"].replace("stations 1", "stations 3")}
+        for desk, partly in ((answers, True), (REOPENED, False)):
+            with self.subTest(desk=desk, partly=partly):
+                with answering_desk(desk) as (port, _):
+                    press(port)
+                page_of("con-c1.html")
+                self.assertEqual("<b>Not all votes.</b> 1 of 3 returns are closed, and these are "
+                                 "their votes." in read("con-c1.html"), partly)
+                self.assertEqual("Not all votes" in read("con-c1.html"), partly)
+
+    def test_a_page_by_quotas(self):
+        """Hare's rule, which has no quotients: LOREG's numbers of A and E, as in
+        docs/FORMATS.md."""
+        quota = ("QUOTA c1 Twin Town\nvotes 208000 seats 3\n"
+                 "A                     168000    2          384000    3\n"
+                 "E                      40000    0          320000    0\n")
+        tally = ("TALLY c1 Twin Town\nstations 1 closed 1\nvalid 208000 blank 0 spoiled 0\n"
+                 "A                     168000   80.76 in  Alpha\n"
+                 "E                      40000   19.23 in  Beta\n")
+        other = (409, '{"word":"other_method"}')
+        answers = TWIN | {
+            "/con/c1": TWIN["/con/c1"] | {"seats": [3, 0], "votes": [168000, 40000], "lot": []},
+            "/con/c1/quota": quota, "/con/c1/tally": tally, "/con/c1/quotients": other,
+            "/con/c1/awards": other, "/con/c1/short": other,
+            "/con/c1/seats": ("SEATS c1 Twin Town\nedition 3\nA                   3 Alpha\n"
+                              "E                   0 Beta\ntotal               3\n"),
+            "/con/c1/holders": ("HOLDERS c1 Twin Town\nA                   1 Ana\n"
+                                "A                   2 Abel\nA                   - empty\n")}
+        with answering_desk(answers) as (port, asked):
+            press(port)
+            self.assertEqual(len(asked), 10)
+        page = page_of("con-c1.html")
+        self.assertEqual(
+            page.tables["Quotas of each list"][1:],
+            [["A", "168,000", "2", "384,000", "3"], ["E", "40,000", "0", "320,000", "0"]])
+        self.assertNotIn("Quotients of each list", page.tables)
+        self.assertNotIn("Awards in order", page.tables)
+
+    def test_names_on_a_page(self):
+        """Names are texts, whatever is in them; a candidate who is gone has the name of the
+        setup."""
+        name = "<script>alert('&\"')</script> "
+        setup = with_stations(1).replace('"Alpha"', json.dumps(name))
+        setup = setup.replace('"Ana"', '"<i>Ana</i>"')
+        Path("setup.toml").write_text(setup, encoding="utf-8")
+        answers = {
+            target: said.replace("Alpha", name).replace("Twin Town", "A & <B>")
+            .replace("1 Ana", "2 Abel") if isinstance(said, str) else said
+            for target, said in TWIN.items()}
+        answers["/con/c1"] = answers["/con/c1"] | {
+            "gone": [{"list": "A", "note": "<b>ill</b>", "place": 1}]}
+        with answering_desk(answers) as (port, _):
+            press(port, "--setup", "setup.toml")
+        page, text = page_of("con-c1.html"), read("con-c1.html")
+        self.assertEqual(page.tables["Votes of each list"][1][0], f"A {name}".strip())
+        self.assertIn("place 1, &lt;i&gt;Ana&lt;/i&gt;: <q>&lt;b&gt;ill&lt;/b&gt;</q>", text)
+        self.assertIn("<h1>A &amp; &lt;B&gt;</h1>", text)
+        page_of("index.html")
+
+    def test_a_page_that_gets_old(self):
+        """The page that was there stays, with its age; its numbers do not change, and the line goes
+        once the office answers."""
+        answers = dict(TWIN)
+        with answering_desk(answers) as (port, _):
+            press(port)
+            first = {name: read(name) for name in ("con-c1.html", "con-c1.csv")}
+            for broken, target in ((503, "/con/c1/seats"), ("no such text\n", "/con/c1/tally"),
+                                   (404, "/con/c1"), ("{", "/con/c1")):
+                with self.subTest(broken=broken, target=target):
+                    answers[target] = broken
+                    said = press(port, status=1)
+                    self.assertIn(" pages 1 failed 1 ", said)
+                    answers[target] = TWIN[target]
+                    old = read("con-c1.html")
+                    self.assertRegex(old,
+                                     r'<!--age--><p class="old" role="status"><b>The office gave '
+                                     r'no answer that could be used at '
+                                     r"[\d:]{8}\.</b> This page stays as it is until there is one; "
+                                     r"it was changed last \d+ (second|minute)s? before\.</p>",
+                                     old[:9000])
+                    # The page of the country says of which constituency it has no numbers of now.
+                    self.assertIn("<b>No answer that could be used:</b> <a href=\"con-c1.html\">",
+                                  read("index.html"))
+                    self.assertEqual(
+                        re.sub("<!--age-->.*<!--/age-->", "<!--age--><!--/age-->", old),
+                        first["con-c1.html"])
+                    self.assertEqual(read("con-c1.csv"), first["con-c1.csv"])
+                    page_of("con-c1.html")
+            press(port)
+            # Nothing has changed meanwhile: the page is as it was first written.
+            self.assertEqual(read("con-c1.html"), first["con-c1.html"])
+        # Nobody listens now: every page says so, and a page that is not there is not made.
+        self.assertIn(" pages 0 failed 1 GETs 1 ", press(port, status=1))
+        self.assertTrue(all('class="old"' in read(name)
+                            for name in ("index.html", "count.html", "con-c1.html")))
+        press(port, folder="others", status=1)
+        self.assertEqual(os.listdir("others"), [])
+
+    def test_a_page_that_gets_old_and_is_written_again(self):
+        """While a constituency gives no answer, the country goes on with what it said before, and
+        says so; later its page has no age."""
+        answers = dict(TWIN)
+
+        def round_with(words):
+            """Waits for a round whose line has these words, if none before has."""
+            self.assertTrue(any(words in process.stdout.readline() for _ in range(1000)), words)
+
+        with answering_desk(answers) as (port, _):
+            process = subprocess.Popen([sys.executable, DEPLOY / "press.py",
+                                        f"http://127.0.0.1:{port}", "pages", "--every", "0.1"],
+                                       stdout=subprocess.PIPE, stderr=subprocess.DEVNULL, text=True)
+            try:
+                self.assertIn(" pages 2 failed 0 ", process.stdout.readline())
+                first = read("con-c1.html")
+                for broken, old in (("/con/c1", ("con-c1.html",)),
+                                    ("/progress", ("con-c1.html", "index.html", "count.html"))):
+                    with self.subTest(broken=broken, old=old):
+                        answers[broken] = 503
+                        round_with(" failed 1 ")
+                        self.assertEqual([name
+                                          for name in ("con-c1.html", "index.html", "count.html")
+                                          if 'class="old"' in read(name)], list(old))
+                        self.assertEqual(
+                            page_of("index.html").tables["Seats and votes of each list"][1:3],
+                            [["B Beta", "2", "100", "50.00 %"], ["A Alpha", "1", "100", "50.00 %"]])
+                        self.assertEqual(
+                            "<b>No answer that could be used:</b>" in read("index.html"),
+                            broken == "/con/c1")
+                        answers[broken] = TWIN[broken]
+                        round_with(" pages 2 failed 0 ")
+                        self.assertEqual(read("con-c1.html"), first)
+                        self.assertNotIn('class="old"', read("index.html"))
+                        self.assertNotIn("No answer", read("index.html"))
+                # A change of the progress alone changes the page too.
+                answers["/progress"] = (
+                    "c1                    1      0      1      0      0      1      3 certified\n")
+                until(lambda: page_of("con-c1.html").tables["Returns of the stations"][1]
+                      == ["1", "0", "1", "0", "0", "1"])
+            finally:
+                process.terminate()
+                process.wait(timeout=PATIENCE)
+                process.stdout.close()
+
+    def test_a_page_of_one_moment(self):
+        """Reports of two moments are not shown together: they are asked for again."""
+        answers = dict(TWIN)
+        later = ("TALLY c1 Twin Town\nstations 1 closed 1\nvalid 201 blank 0 spoiled 0\n"
+                 "A                        101   50.24 in  Alpha\n"
+                 "B                        100   49.75 in  Beta\n")
+        first = iter([later])
+        answers["/con/c1/tally"] = lambda: next(first, TWIN["/con/c1/tally"])
+        with answering_desk(answers) as (port, asked):
+            press(port)
+            self.assertEqual(asked.count("/con/c1/tally"), 2)
+            self.assertEqual(page_of("con-c1.html").tables["Votes of each list"][1][1], "100")
+            answers["/con/c1/tally"] = later
+            self.assertIn(" failed 1 ", press(port, status=1))
+            self.assertEqual(page_of("con-c1.html").tables["Votes of each list"][1][1], "100")
+
+    def test_pages_through_a_proxy_that_limits(self):
+        """It answers 429 for a while: what it did not answer is asked again, and the page is
+        written."""
+        first = iter([429, 429])
+        with answering_desk(TWIN
+                            | {"/con/c1/tally": lambda: next(first, TWIN["/con/c1/tally"])}) as (
+            port, asked):
+            self.assertIn(" pages 2 failed 0 GETs 13 ", press(port), asked)
+            self.assertEqual(asked.count("/con/c1/tally"), 3)
+
+    def test_pages_that_are_written_again_and_again(self):
+        """Where nothing has changed a round takes two GETs; a file is whole whenever it is read."""
+        with answering_desk(TWIN) as (port, asked):
+            process = subprocess.Popen([sys.executable, DEPLOY / "press.py",
+                                        f"http://127.0.0.1:{port}", "pages", "--every", "0.1"],
+                                       stdout=subprocess.PIPE, text=True)
+            try:
+                lines = [process.stdout.readline()]
+                for _ in range(5):
+                    lines.append(process.stdout.readline())
+                    self.assertTrue(read("con-c1.html").endswith("</html>\n"))
+            finally:
+                process.terminate()
+                process.wait(timeout=PATIENCE)
+                process.stdout.close()
+        self.assertEqual([int(re.search(r"GETs (\d+)", line)[1]) for line in lines],
+                         [11, 2, 2, 2, 2, 2])
+
+    def test_returns_of_a_former_certificate(self):
+        """A copy from before takes the office's place, and edition 2 is certified once more: its
+        page has the returns of that one."""
+        setup = with_stations(2)
+
+        def elect(desk, first, *steps):
+            for target, body in (("/station/s1/lodge", LODGED | {"votes": first}),
+                                 ("/station/s2/lodge", LODGED | {"votes": [0, 0]}),
+                                 ("/station/s1/close", {"rev": 1}),
+                                 ("/station/s2/close", {"rev": 1}),
+                                 ("/con/c1/certify", {"edition": 1}), *steps):
+                self.assertEqual(plain(desk.port, "POST", target, json.dumps(body)).status, 200)
+
+        with serving(setup) as desk:
+            elect(desk, [100, 50])
+            press(desk.port, "--setup", "setup.toml")
+        self.assertEqual(read("stations-c1-2.csv").splitlines()[1:],
+                         ["s1,p1,0,0,100,50", "s2,p1,0,0,0,0"])
+        Path("office.db").unlink()
+        with serving(setup) as desk:
+            # No certificate yet: the file is nobody's.
+            press(desk.port, "--setup", "setup.toml")
+            self.assertEqual([name for name in os.listdir("pages") if name.startswith("stations-")],
+                             [])
+        Path("office.db").unlink()
+        Path("pages/stations-c1-2.csv").write_text(
+            "station,slip,blank,spoiled,A,B\ns1,p1,0,0,100,50\ns2,p1,0,0,0,0\n", encoding="utf-8")
+        with serving(setup) as desk:
+            elect(desk, [10, 50])
+            # Without the setup it cannot be written, and is not linked.
+            press(desk.port)
+            self.assertNotIn("stations-c1-2.csv", read("con-c1.html"))
+            press(desk.port, "--setup", "setup.toml")
+            self.assertEqual(read("stations-c1-2.csv").splitlines()[1:],
+                             ["s1,p1,0,0,10,50", "s2,p1,0,0,0,0"])
+            self.assertIn("The returns of edition 2", read("con-c1.html"))
+            # A certificate that was withdrawn keeps its file.
+            self.assertEqual(
+                plain(desk.port, "POST", "/con/c1/reopen", '{"edition":2,"note":"again"}').status,
+                200)
+            press(desk.port, "--setup", "setup.toml")
+            self.assertIn('href="stations-c1-2.csv"', read("con-c1.html"))

@@ -1,0 +1,303 @@
+"""The record sent again to a fresh office."""
+
+import collections
+import hashlib
+import json
+import re
+import subprocess
+import time
+
+from tests.support.case import ROOT, needs
+from tests.support.desks import answer_of, answering_desk, desk_with, recording_desk
+from tests.support.proxy import office_and_proxy, proxy
+from tests.support.record import a_command, chained, replayed
+from tests.support.running import PATIENCE
+from tests.support.site import DEPLOY, EXAMPLES, LATE, NAME, STATIONS, SiteCase, rows, serving
+
+
+def elect(ask):
+    """README's election, with a query, a lot, a vacancy and a reopening, and some commands that are
+    refused."""
+    csv = (ROOT / "examples/returns.csv").read_bytes()
+    ask("/con/montehondo/import", csv, "clara", 200)
+    for station, lodged in LATE.items():
+        ask(f"/station/{station}/lodge", json.dumps(lodged), station, 200)
+    ask("/station/04-001-B/lodge", json.dumps(LATE["04-002-A"]), "clara", 409)
+    ask("/con/montehondo/certify", '{"edition":1}', "berta", 409)
+    for station in STATIONS:
+        ask(f"/station/{station}/close", '{"rev":1}', "clara", 200)
+    ask("/station/03-002-A/query", '{"rev":2,"note":"«88» or \\"38\\"?\\u00e1"}', "bruno", 200)
+    ask("/station/03-002-A/correct",
+        '{"rev":3,"slip":"r310","votes":[88,90,44,21,6],"blank":2,"spoiled":1}', "bruno", 200)
+    ask("/station/03-002-A/close", '{"rev":4}', "clara", 200)
+    ask("/con/montehondo/certify", '{"edition":1}', "clara", 403)
+    ask("/con/montehondo/certify", '{"edition":1}', "berta", 200)
+    ask("/con/montehondo/vacate", '{"list":"HAYA","place":1,"note":"resigned"}', "berta", 200)
+    ask("/con/montehondo/reopen", '{"edition":2,"note":"a recount\\nof two stations"}', "berta",
+        400)
+    ask("/con/montehondo/reopen", '{"edition":2,"note":"recount of 03-002-A"}', "berta", 200)
+    ask("/con/montehondo/certify", '{"edition":3}', "berta", 200)
+
+
+def hash_of_last(front):
+    """As in sed -n '$p' commands.log | tr -d '\\n' | sha256sum."""
+    return hashlib.sha256((front.folder / "log/commands.log").read_bytes().split(b"\n")[
+        -2]).hexdigest()
+
+
+def replay(desk, front, *words):
+    return replayed(desk.port, (front.folder / "log/commands.log").read_bytes(), *words)
+
+
+SPOILED = (b"", b"5", b"[]", b"null", b"{}", b'"text"', b"{", b"\xff\xfe", b"\0" * 100,
+           b"[" * 20_000, b'{"n": 1}', b'{"n": {}, "before": ""}', b"1e999", b"x" * 100_000)
+
+
+def spoiled_lines():
+    """A hundred lines that no recorder wrote, each another."""
+    good = {"n": 1, "time": "2026-11-26T22:14:00.000+00:00", **a_command("{}", "/station/s1/close"),
+            "before": "0" * 64}
+    answer = {"n": 2, "time": good["time"], "to": 1, "status": 200, "answer": "",
+              "before": "0" * 64}
+    values = (None, 5, "", [], {}, "\ud800", "two words", [["a"]], 1e300, True)
+    lines = list(SPOILED)
+    for entry, keys in ((good, ("n", "time", "name", "office", "method", "path", "body", "before")),
+                        (answer, ("n", "time", "to", "status"))):
+        lines += [json.dumps({name: value for name, value in entry.items() if name != key}).encode()
+                  for key in keys]
+        lines += [json.dumps(entry | {key: value}).encode() for key in keys for value in values]
+    return lines[:100]
+
+
+# Commands that no recorder has written, and what is said of them.
+ODD = ((a_command("{}") | {"n": 99}, "not as it was written, or one before it: its number is 99"),
+       (a_command("{}") | {"method": "POST /x"}, "not a line of a record"),
+       (a_command("{}") | {"name": "cl ara"}, "not a line of a record"),
+       (a_command("{}") | {"path": "/con/c1/é"}, "not a line of a record"),
+       (a_command("{}") | {"time": "2026-11-26T22:14:00"}, "not a line of a record"),
+       (a_command(b"") | {"body_base64": "e30=!"}, "not a line of a record"),
+       (a_command("{}") | {"office": 2}, "office 2 is not named"),
+       (a_command("{}") | {"office": "\ud800"}, "office \\ud800 is not named"))
+
+
+class Replay(SiteCase):
+    @needs("nginx", "openssl")
+    def test_the_record_replayed(self):
+        """The lines of the record that the desk accepted, over a fresh database, lead to the same
+        rows of all tables."""
+        with office_and_proxy(EXAMPLES) as (desk, front):
+            for station in LATE:
+                front.name("stations", station)
+
+            def ask(target, body, name, status):
+                found = front.ask("POST", target, body, name, source=f"127.0.8.{len(target)}")
+                self.assertEqual(found.status, status, f"{target} {body}: {found}")
+
+            elect(ask)
+            record = front.record(29)
+            desk.end()
+        keys = {"n", "time", "name", "role", "address", "office", "method", "path", "before",
+                "status"}
+        self.assertTrue(all(set(line) == keys
+                            | ({"bytes"} if line["status"] == 403 else {"body", "answer"}) for line
+                            in record))
+        self.assertEqual(collections.Counter(line["status"] for line in record),
+                         {200: 25, 409: 2, 400: 1, 403: 1})
+        self.assertEqual([line["role"] for line in record[:3]], ["clerk", "station", "station"])
+        self.assertTrue(all(re.fullmatch(r"\d{4}-\d\d-\d\dT\d\d:\d\d:\d\d\.\d{3}[+-]\d\d:\d\d",
+                                         line["time"]) for line in record))
+        with serving(EXAMPLES, "again.db") as desk:
+            # 28 commands with their answers, and a line for the one that clara might not give.
+            end = f"lines 57, the hash of the last {hash_of_last(front)}\n"
+            self.assertEqual(replay(desk, front), (0, f"sent 25, to look at 0; {end}"))
+            # Once more: the two returns are the same, and so is the import but for the row that was
+            # corrected since; nothing else is done a second time.
+            status, said = replay(desk, front)
+            self.assertEqual(status, 1, said)
+            self.assertTrue(said.endswith(f"\nsent 25, to look at 23; {end}"), said)
+            self.assertIn('"word":"stale"', said)
+            self.assertEqual(replay(desk, front, "--since", "2100-01-01T00:00:00+00:00"),
+                             (0, f"sent 0, to look at 0; {end}"))
+            self.assertEqual(replay(desk, front, "--since", record[0]["time"])[1], said)
+        self.assertEqual(rows("again.db"), rows("office.db"))
+
+    def test_a_record_of_troubles(self):
+        """What may have been done is named and not sent. A body that is no UTF-8 is sent as it is;
+        so is what comes after it, and after a command that has no answer. They are sent in the
+        order of their answers."""
+        latin = "p\u00e9".encode("latin-1")
+        record = chained(
+            a_command(latin), {"to": 1, "status": 504, "answer": ""}, a_command("full"),
+            {"to": 3, "status": 503, "answer": ""}, a_command("ended"),
+            {"to": 5, "status": None, "answer": ""}, a_command("second"), a_command(latin),
+            {"to": 8, "status": 200, "answer": ""}, {"to": 7, "status": 200, "answer": ""},
+            a_command("cut"), {"to": 11, "status": 200, "answer": ""},
+            a_command("wrong"), {"to": 13, "status": 400, "answer": ""},
+            a_command("") | {"bytes": 3, "status": 403},
+            b'{"time":"2026', a_command("last"), {"to": 17, "status": 200, "answer": ""},
+            a_command("lost"))
+        messages = []
+
+        def answered(_, body):
+            messages.append(body)
+            return b"" if body == b"cut" else answer_of((409 if body == latin else 200, "{}"))
+
+        with desk_with(answered) as port:
+            status, said = replayed(port, record)
+            self.assertEqual((status, messages), (1, [latin, b"second", b"cut", b"last"]))
+            head = "2026-11-26T22:14:{:02}.000+00:00 clara POST /con/c1/import"
+            unknown = "it was not sent: nobody knows whether it was done"
+            self.assertEqual(re.sub("(no answer): .*", r"\1", said).splitlines()[:-1], [
+                f"line 1: {head.format(1)} p\\xe9: {unknown}",
+                f"line 3: {head.format(3)} full: {unknown}",
+                f"line 5: {head.format(5)} ended: {unknown}",
+                f"line 8: {head.format(8)} p\\xe9: 409 {{}}",
+                f"line 11: {head.format(11)} cut:  no answer",
+                'line 16: not a line of a record: {"time":"2026',
+                f"line 19: {head.format(19)} lost: {unknown}"])
+            self.assertTrue(said.splitlines()[-1].startswith("sent 4, to look at 7; lines 19, "),
+                            said)
+            messages.clear()
+            # Of 22:14:12 and later: by the time of the answer.
+            replayed(port, record, "--since", "2026-11-26T22:14:12+00:00")
+            self.assertEqual(messages, [b"cut", b"last"])
+        for words in ("127.0.0.1:8080", "localhost:8080", "https://127.0.0.1",
+                      "http://127.0.0.1 --since 2026-11-26T22:14:00", "",
+                      "--check http://127.0.0.1"):
+            with self.subTest(words=words):
+                done = subprocess.run([DEPLOY / "replay", *words.split()], input=record,
+                                      capture_output=True, timeout=PATIENCE)
+                self.assertEqual((done.returncode, done.stdout, b"usage:" in done.stderr),
+                                 (2, b"", True))
+
+    def test_a_record_of_a_hundred_spoiled_lines(self):
+        """Each is named by its number, and what comes between and after them is sent."""
+        spoiled, messages = spoiled_lines(), []
+        self.assertEqual(len(spoiled), 100)
+        entries = []
+        for place, line in enumerate(spoiled):
+            entries += [a_command(f"{place}", "/station/s1/close"), line,
+                        {"to": 3 * place + 1, "status": 200, "answer": ""}]
+
+        def answered(head, body):
+            messages.append(body)
+            return answer_of("{}")
+
+        with desk_with(answered) as port:
+            status, said = replayed(port, chained(*entries))
+        self.assertEqual((status, [body for body in messages if body.isdigit()]),
+                         (1, [b"%d" % place for place in range(100)]))
+        named = {int(number) for number in re.findall(r"^line (\d+):", said, re.M)}
+        self.assertEqual(sorted(set(range(2, 301, 3)) - named), [])
+        self.assertRegex(
+            said.splitlines()[-1],
+            r"^sent 1\d\d, to look at 1\d\d; lines 300, the hash of the last [0-9a-f]{64}$",
+            said[-300:])
+
+    def test_a_record_whose_clock_was_put_back(self):
+        """A copy of 22:14:10 lacks what was done after it, also where the clock said 22:12 then: it
+        is sent, and the line is named."""
+        done = ((11, "22:13:00"), (12, "22:14:10"), (13, "22:12:20"), (14, "22:12:30"),
+                (15, "22:14:20"))
+        entries = []
+        for n, time_of in done:
+            moment = {"time": f"2026-11-26T{time_of}.000+00:00"}
+            entries += [a_command(f"{n}", f"/station/s{n}/close") | moment,
+                        {"to": len(entries) + 1, "status": 200, "answer": ""} | moment]
+        with recording_desk() as (port, messages):
+            status, said = replayed(port, chained(*entries), "--since", "2026-11-26T22:14:10+00:00")
+            self.assertEqual((status, [body for _, body in messages]),
+                             (1, [b"12", b"13", b"14", b"15"]))
+            self.assertEqual(said.splitlines()[0],
+                             "line 5: the clock was put back before it. What was answered from "
+                             "here on is sent, whatever its time")
+            self.assertIn("\nsent 4, to look at 1; lines 10, ", said)
+            # Over a new office it is nothing to look at.
+            self.assertEqual((replayed(port, chained(*entries))[0], len(messages)), (0, 9))
+
+    @needs("nginx", "openssl")
+    def test_a_record_of_odd_requests(self):
+        """Two spaces, a space at the end, an absolute target: what the desk did, the record has as
+        the desk got it, and replay sends it."""
+        with recording_desk() as (port, messages), proxy(port) as front:
+            head = (f"Host: {NAME}\r\nAuthorization: {front.authorization('clara')}\r\n"
+                    f"Content-Length: 2\r\nConnection: close\r\n\r\n{{}}")
+            for line in ("POST  /station/s1/close HTTP/1.1", "POST /station/s2/close  HTTP/1.1",
+                         f"POST https://{NAME}/station/s3/close HTTP/1.1",
+                         "POST /station/s4/close HTTP/1.1"):
+                with self.subTest(line=line):
+                    with front.connect() as it:
+                        it.sendall(f"{line}\r\n{head}".encode())
+                        self.assertTrue(it.recv(65536).startswith(b"HTTP/1.1 200 "))
+            wanted = [f"/station/s{n}/close" for n in range(1, 5)]
+            self.assertEqual([line["path"] for line in front.record(4)], wanted)
+            self.assertEqual([head.split(b" ")[1].decode() for head, _ in messages], wanted)
+            record = (front.folder / "log/commands.log").read_bytes()
+            messages.clear()
+            self.assertEqual(replayed(port, record)[0], 0)
+            self.assertEqual([head.split(b" ")[1].decode() for head, _ in messages], wanted)
+
+    def test_what_is_not_sent_again(self):
+        """Each is named, and an answer to what is not there too."""
+        for entry, words in ODD:
+            with self.subTest(entry=entry, words=words):
+                with recording_desk() as (port, messages):
+                    status, said = replayed(port, chained(
+                        entry, {"to": 1, "status": 200, "answer": ""},
+                        a_command("[]"), {"to": 3, "status": 200, "answer": ""}))
+                self.assertEqual((status, [body for _, body in messages]), (1, [b"[]"]))
+                self.assertTrue(f"line 1: {words}" in said or words in said.splitlines()[0], said)
+        with recording_desk() as (port, messages):
+            status, said = replayed(port, chained({"to": 7, "status": 200, "answer": ""},
+                                                  {"to": 8, "status": 409, "answer": ""}))
+        self.assertEqual((status, messages, said.splitlines()[0]),
+                         (1, [],
+                          "line 1: it answers line 7, which is not there: that was done, and "
+                          "cannot be sent"))
+        self.assertTrue(said.splitlines()[1].startswith("sent 0, to look at 1; lines 2, "), said)
+
+    def test_an_import_that_is_taken_in_part(self):
+        """Of a file of which fourteen rows were recorded thirteen are now, as where the setup lacks
+        a station: it is named; all of them may be the same as those that are there."""
+        def said_of(lodged, same_as, ok="import"):
+            return {"bad": 2, "differs": 0, "first": [11, 7], "lodged": lodged, "ok": ok,
+                    "refused": 0, "same": same_as}
+
+        before = json.dumps(said_of(13, 1))
+        for now, wanted in ((said_of(13, 1), 0), (said_of(0, 14), 0), (said_of(12, 1), 1),
+                            ({"ok": "moved", "rev": 2}, 1)):
+            with self.subTest(now=now, wanted=wanted):
+                with answering_desk({"/con/c1/import": now}) as (port, _):
+                    status, said = replayed(
+                        port, chained(a_command("x"), {"to": 1, "status": 200, "answer": before}))
+                self.assertEqual((status,
+                                  said.count("\nsent 1, to look at 1; ")
+                                  or said.startswith("sent 1, to look at 0; ")), (wanted, 1))
+                self.assertTrue(
+                    not wanted or said.startswith("line 1: ") and json.dumps(now) in said, said)
+
+    def test_what_replay_prints(self):
+        """A line for each of what is to be looked at, whatever a body, an answer or a line has in
+        it."""
+        odd = "\nsent 9, to look at 0\x1b[2J\r\u2028é"
+        with answering_desk({"/con/c1/import": (409, odd)}) as (port, _):
+            status, said = replayed(port, chained(a_command(odd),
+                                                  {"to": 1, "status": 200, "answer": ""},
+                                                  a_command(odd), odd.replace("\n", " ").encode()))
+        self.assertEqual((status, len(said.split("\n")), said.count("\\x1b[2J\\r\\u2028\\xe9")),
+                         (1, 5, 4))
+        self.assertTrue(all(c.isprintable() or c == "\n" for c in said), said)
+
+    def test_a_desk_that_answers_no_http(self):
+        """What is sent to it is named, and the rest is sent; one that takes two seconds is waited
+        for."""
+        answers = iter([b"x\r\n\r\n", b"HTTP/1.1 200 OK\r\nContent-Length: x\r\n\r\n",
+                        answer_of("{}")])
+        entries = [entry for n in (1, 3, 5)
+                   for entry in (a_command("{}", f"/station/s{n}/close"),
+                                 {"to": n, "status": 200, "answer": ""})]
+        with desk_with(lambda *_: time.sleep(2) or next(answers)) as port:
+            status, said = replayed(port, chained(*entries))
+        self.assertEqual((status, said.splitlines()[-1].split(";")[0]), (1, "sent 3, to look at 1"))
+        self.assertTrue(said.startswith("line 1: "), said)
+        self.assertIn("no answer", said)

@@ -1,0 +1,1 @@
+"""Tests of the documents and of the words of sources, which need nothing but Python."""

@@ -1,0 +1,1 @@
+"""Tests of the launcher `office`, in copies of this repository with a stub in the place of `rt`."""

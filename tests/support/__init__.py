@@ -1,0 +1,1 @@
+"""What suites share: nothing here is a test."""

@@ -1,0 +1,99 @@
+"""The program as it serves, and its clients."""
+
+import contextlib
+import http.client
+import json
+import socket
+import struct
+import subprocess
+import time
+
+from tests.support.case import PROGRAM
+from tests.support.program import STARTED, Ran, same
+from tests.support.running import PATIENCE, free_port
+
+
+def answering(port):
+    """A connection to a server that may only be about to listen."""
+    for _ in range(PATIENCE * 20):
+        with contextlib.suppress(ConnectionRefusedError):
+            connection = http.client.HTTPConnection("127.0.0.1", port, timeout=PATIENCE)
+            connection.connect()
+            return connection
+        time.sleep(0.05)
+    raise AssertionError("nobody listens")
+
+
+class Desk:
+    """The program as it serves."""
+
+    def __init__(self, db, count, port=None, **how):
+        self.port, self.count = port or free_port(), count
+        words = [PROGRAM, "serve", "--db", db, "--port", str(self.port), "--count", str(count)]
+        self.process = subprocess.Popen(
+            words, stdout=subprocess.PIPE, stderr=subprocess.PIPE, **how
+        )
+        STARTED.append(self.process)
+        same(
+            self.process.stderr.readline().decode(),
+            f"listening on 127.0.0.1:{self.port} for {count} connections\n",
+        )
+
+    def ask(self, method, path, body=None):
+        """The status, the fields and the body of an answer."""
+        connection = http.client.HTTPConnection("127.0.0.1", self.port, timeout=PATIENCE)
+        connection.request(method, path, body)
+        answer = connection.getresponse()
+        found = answer.status, dict(answer.getheaders()), answer.read().decode()
+        connection.close()
+        return found
+
+    def get(self, path, text):
+        status, fields, body = self.ask("GET", path)
+        same((status, fields["Content-Type"], body), (200, "text/plain; charset=utf-8", text))
+
+    def send(self, message, hang_up=False):
+        """All bytes of what is answered to these bytes."""
+        with socket.create_connection(("127.0.0.1", self.port), timeout=PATIENCE) as it:
+            it.sendall(message)
+            it.shutdown(socket.SHUT_WR)
+            if hang_up:
+                return b""
+            found = b""
+            while piece := it.recv(65536):
+                found += piece
+            return found
+
+    def end(self):
+        out, err = self.process.communicate(timeout=PATIENCE)
+        return Ran(self.process.returncode, out.decode(), err.decode())
+
+
+def reset(connection):
+    """The connection ends at once: a read at its other end fails."""
+    connection.setsockopt(socket.SOL_SOCKET, socket.SO_LINGER, struct.pack("ii", 1, 0))
+    connection.close()
+
+
+@contextlib.contextmanager
+def serving(db, count, failed=0):
+    """A desk for so many connections, of which so many fail; with None, as many as it says."""
+    desk = Desk(db, count)
+    yield desk
+    ran = desk.end()
+    if failed is None:
+        failed = int(ran.out.rpartition(" ")[2] or -1)
+    same(ran, Ran(0, f"answered {count - failed} failed {failed}\n", ""))
+
+
+def take(desk, step):
+    path, body, status, text = step
+    found, fields, answer = desk.ask("POST", path, json.dumps(body))
+    same((found, answer), (status, text))
+    same((fields["Content-Type"], fields["Connection"]), ("application/json", "close"))
+
+
+def asking(method, target, body=""):
+    """The bytes of a message, with a length where it is a POST."""
+    length = f"Content-Length: {len(body.encode())}\r\n" if method == "POST" else ""
+    return f"{method} {target} HTTP/1.1\r\n{length}\r\n{body}".encode()

@@ -1,0 +1,683 @@
+"""An office in plain Python: what the law and docs/FORMATS.md say of allotments, reports and
+commands, in whole numbers.
+
+Tests compare the program with it. It keeps all in dictionaries and counts everything again at each
+request.
+"""
+
+import json
+import math
+import re
+from functools import cached_property
+
+# The divisors of the rules, and what the votes are multiplied by: the modified rule divides by 1.4,
+# 3, 5 and so on, in fifths.
+DIVISORS = {
+    "dhondt": lambda k: k,
+    "sainte-lague": lambda k: 2 * k - 1,
+    "modified-sainte-lague": lambda k: 7 if k == 1 else 10 * k - 5,
+}
+UNITS = {"dhondt": 1, "sainte-lague": 1, "modified-sainte-lague": 5}
+
+REFUSALS = dict(
+    enumerate(
+        (
+            ("no_station", 404),
+            ("no_constituency", 404),
+            ("no_candidate", 404),
+            ("bad_counts", 400),
+            ("bad_note", 400),
+            ("too_many_votes", 400),
+            ("differs", 409),
+            ("no_return", 404),
+            ("certified", 409),
+            ("not_certified", 409),
+            ("stale", 409),
+            ("exhausted", 409),
+            ("wrong_status", 409),
+            ("not_all_closed", 409),
+            ("no_eligible", 409),
+            ("lot_stands", 409),
+            ("lot_not_needed", 409),
+            ("lot_wrong_group", 409),
+            ("lot_missing", 409),
+            ("already_gone", 409),
+            ("not_holder", 409),
+        ),
+        1,
+    )
+) | {24: ("not_confirmed", 409)}
+
+STATUSES = ("received", "queried", "corrected", "closed")
+
+LAST = 9999
+
+CODE = "[A-Za-z0-9_-]{1,16}"
+
+
+class Refused(Exception):
+    """A command is refused with this number, and with what belongs to it."""
+
+    def __init__(self, number, **more):
+        super().__init__(number)
+        self.number, self.more = number, more
+
+
+class Unreported(Exception):
+    """A report cannot be given, in a word."""
+
+
+def need(holds, number, **more):
+    if not holds:
+        raise Refused(number, **more)
+
+
+def compact(value):
+    return json.dumps(value, ensure_ascii=False, sort_keys=True, separators=(",", ":"))
+
+
+# ---- allotments
+
+
+def tied(ranked, seats):
+    """Of ranks in falling order those that are equal to the last one that wins, and how many of
+    them win.
+    """
+    if seats == 0:
+        return [], 0
+    last = ranked[seats - 1][:2]
+    equal = [rank for rank in ranked if rank[:2] == last]
+    return equal, sum(rank[:2] == last for rank in ranked[:seats])
+
+
+class Poll:
+    """The allotment of so many seats among votes for lists, which are numbered from 0.
+
+    A lot is the numbers of its lists in its order.
+    """
+
+    def __init__(self, profile, seats, votes, blank, lot=()):
+        self.method, self.seats, self.votes = profile["method"], seats, votes
+        self.turns = {n: turn for turn, n in enumerate(lot)}
+        self.alternates = profile.get("lot", "fixed") == "alternating"
+        self.base = sum(votes) + (blank if profile["base"] == "valid" else 0)
+        self.eligible = [
+            n
+            for n, v in enumerate(votes)
+            if v > 0 and v * 10000 >= profile["threshold"] * self.base
+        ]
+        self.total = sum(votes[n] for n in self.eligible)
+
+    def place(self, n, k=1):
+        """The place of a list among equals: the least one comes first.
+
+        An alternating lot is turned round for each even seat of its lists.
+        """
+        if n not in self.turns:
+            return n
+        return -self.turns[n] if self.alternates and k % 2 == 0 else self.turns[n]
+
+    def divisor(self, k):
+        return DIVISORS[self.method](k)
+
+    def in_units(self, n):
+        """The votes of a list in the unit in which the rule counts, of which its divisors make
+        quotients.
+        """
+        return self.votes[n] * UNITS[self.method]
+
+    @cached_property
+    def scale(self):
+        """What each divisor divides, so that a quotient times this is a whole number."""
+        return math.lcm(*map(self.divisor, range(1, self.seats + 1)))
+
+    def quotient(self, votes, k):
+        return votes * (self.scale // self.divisor(k))
+
+    @cached_property
+    def pairs(self):
+        """The pairs of an eligible list and one of its seats, those of a greater quotient first,
+        then of more votes, then by place.
+        """
+        votes = self.votes
+        found = [
+            (self.quotient(votes[n], k), votes[n], -self.place(n, k), n, k)
+            for n in self.eligible
+            for k in range(1, self.seats + 1)
+        ]
+        return sorted(found, reverse=True)
+
+    def claims(self):
+        """Under Hare the claims to a seat that the whole quotas leave, those of a greater remainder
+        first, and how many such seats are left.
+        """
+        found = [(self.quota(n)[1], self.votes[n], -self.place(n), n) for n in self.eligible]
+        return sorted(found, reverse=True), self.seats - sum(
+            self.quota(n)[0] for n in self.eligible
+        )
+
+    def quota(self, n):
+        """The whole quotas of a list, and what they leave of its votes times the seats."""
+        return divmod(self.votes[n] * self.seats, self.total)
+
+    def ranked(self):
+        return self.claims() if self.method == "hare" else (self.pairs, self.seats)
+
+    def group(self):
+        """The lists among which a lot is needed, and how many seats are in question: none and 0
+        where the votes decide.
+        """
+        equal, win = tied(*self.ranked())
+        return (sorted(rank[3] for rank in equal), win) if 0 < win < len(equal) else ([], 0)
+
+    def awards(self):
+        return [(n, k) for _, _, _, n, k in self.pairs[: self.seats]]
+
+    def allotted(self):
+        ranked, left = self.ranked()
+        won = [rank[3] for rank in ranked[:left]]
+        whole = [
+            self.quota(n)[0] if self.method == "hare" and n in self.eligible else 0
+            for n in range(len(self.votes))
+        ]
+        return [whole[n] + won.count(n) for n in range(len(self.votes))]
+
+    def short(self, n, held):
+        """The least number of votes more with which a list is sure of one more seat: its next pair
+        is then above all but so many of others.
+        """
+        if held == self.seats:
+            return None
+        lowest = [pair for pair in self.pairs if pair[3] != n][self.seats - held - 1]
+        least = -(-lowest[0] // self.quotient(1, held + 1))
+        # With an equal quotient the list of more votes is above.
+        enough = least if (self.quotient(least, held + 1), least) > lowest[:2] else least + 1
+        return enough - self.votes[n]
+
+
+# ---- the office
+
+
+class Con:
+    """A constituency of a setup, with what it has come to.
+
+    Lists are numbered from 0, candidates from 1.
+    """
+
+    def __init__(self, setup, profile):
+        self.setup, self.profile, self.code, self.seats = (
+            setup,
+            profile,
+            setup["code"],
+            setup["seats"],
+        )
+        self.lists = [one["code"] for one in setup["list"]]
+        self.names = [one["name"] for one in setup["list"]]
+        self.candidates = [one["candidates"] for one in setup["list"]]
+        self.electors = {station["code"]: station["electors"] for station in setup["station"]}
+        self.twice = setup.get("entry", "single") == "double"
+        self.returns, self.edition, self.certified, self.note = {}, 1, None, ""
+        self.lot, self.gone, self.past = [], {}, {}
+        self.polled = None, None
+
+    def statuses(self):
+        return [sum(it["status"] == status for it in self.returns.values()) for status in STATUSES]
+
+    def closed(self):
+        """The closed votes: those of each list, blank ones, spoiled ones."""
+        found = [it for it in self.returns.values() if it["status"] == "closed"]
+        votes = list(map(sum, zip(*(it["votes"] for it in found)))) or [0] * len(self.lists)
+        return votes, sum(it["blank"] for it in found), sum(it["spoiled"] for it in found)
+
+    def poll(self):
+        """The allotment of the closed votes: the last one, unless they or the lot have changed."""
+        votes, blank, _ = self.closed()
+        if self.polled[0] != (votes, blank, self.lot):
+            self.polled = (votes, blank, self.lot), Poll(
+                self.profile, self.seats, votes, blank, self.lot
+            )
+        return self.polled[1]
+
+    def holders(self, n):
+        left = [
+            place for place in range(1, len(self.candidates[n]) + 1) if (n, place) not in self.gone
+        ]
+        return left[: self.certified[n]]
+
+
+def wrong_in(con, fields):
+    """The first of what is wrong with a row that cannot be read."""
+    header = ["station", "slip", "blank", "spoiled", *con.lists]
+    if len(fields) != len(header):
+        return f"fields {len(fields)}"
+    station, slip, *numbers = fields
+    if not re.fullmatch(CODE, station):
+        return "bad_station"
+    if station not in con.electors:
+        return "no_station"
+    if not re.fullmatch(CODE, slip):
+        return "bad_slip"
+    return next(
+        (
+            f"bad_number {column}"
+            for column, n in zip(header[2:], numbers)
+            if not re.fullmatch("[0-9]{1,9}", n)
+        ),
+        None,
+    )
+
+
+def counted(answers):
+    """How many rows came to what, and the first that is named, with its number."""
+    counts = dict.fromkeys(("lodged", "same", "differs", "refused", "bad"), 0) | {"first": None}
+    for row, (answer, of, _) in enumerate(answers, 1):
+        counts[answer] += 1
+        if of is not None and counts["first"] is None:
+            counts["first"] = [row, of]
+    return counts
+
+
+class Office:
+    """What an office is and answers, by its setup as `tomllib` reads it."""
+
+    def __init__(self, setup):
+        profiles = {profile["code"]: profile for profile in setup["profile"]}
+        self.cons = {
+            con["code"]: Con(con, profiles[con["profile"]]) for con in setup["constituency"]
+        }
+
+    def ask(self, method, path, body=None):
+        """The status and the body of the answer to a request."""
+        try:
+            if method == "GET":
+                return 200, self.show(*path.split("/")[1:])
+            _, kind, code, verb = path.split("/")[:4]
+            if kind == "station":
+                return 200, compact(self.on_station(verb, code, **json.loads(body)))
+            con = self.con(code)
+            if verb == "import":
+                return 200, compact(self.imported(con, body))
+            if verb == "trial":
+                return 200, self.tried(con, body)
+            return 200, compact(getattr(self, verb)(con, **json.loads(body)))
+        except Refused as it:
+            word, status = REFUSALS[it.number]
+            return status, compact({"refused": it.number, "word": word, **it.more})
+        except Unreported as it:
+            return 409, compact({"word": str(it)})
+
+    def con(self, code):
+        need(code in self.cons, 2)
+        return self.cons[code]
+
+    def show(self, kind, code=None, report=None):
+        if kind == "progress":
+            return "".join(map(progress, self.cons.values()))
+        if kind == "country":
+            return country(list(self.cons.values()))
+        if kind == "station":
+            con = self.con_of(code)
+            need(code in con.returns, 8)
+            return compact({"station": code, **con.returns[code]})
+        con = self.con(code)
+        return REPORTS[report](con) if report else compact(shown(con))
+
+    # Returns.
+
+    def con_of(self, station):
+        found = [con for con in self.cons.values() if station in con.electors]
+        need(found, 1)
+        return found[0]
+
+    def on_station(self, verb, station, **body):
+        con = self.con_of(station)
+        if verb == "lodge":
+            return self.lodge(con, station, **body)
+        return self.move(con, station, verb, **body)
+
+    def check_counts(self, con, station, votes, blank, spoiled):
+        need(
+            len(votes) == len(con.lists) and all(n <= 1000000 for n in [*votes, blank, spoiled]), 4
+        )
+        need(sum(votes) + blank + spoiled <= con.electors[station], 6)
+
+    def lodge(self, con, station, slip, votes, blank, spoiled):
+        self.check_counts(con, station, votes, blank, spoiled)
+        stands = con.returns.get(station)
+        given = {"slip": slip, "votes": votes, "blank": blank, "spoiled": spoiled}
+        if stands:
+            need(given.items() <= stands.items(), 7, rev=stands["rev"])
+            return {"ok": "same", "rev": stands["rev"]}
+        con.returns[station] = {**given, "rev": 1, "status": "received", "note": ""}
+        return {"ok": "lodged", "rev": 1}
+
+    def move(self, con, station, verb, rev, note=None, **given):
+        if verb == "query":
+            need(1 <= len(note.encode()) <= 200, 5)
+        if verb in ("correct", "confirm"):
+            self.check_counts(con, station, given["votes"], given["blank"], given["spoiled"])
+        need(station in con.returns, 8)
+        stands = con.returns[station]
+        need(con.certified is None, 9)
+        need(stands["rev"] == rev, 11, now=stands["rev"])
+        need(rev < LAST, 12)
+        starts, ends = {
+            "query": (("received", "corrected", "closed"), "queried"),
+            "correct": (("queried",), "corrected"),
+            "close": (("received", "corrected"), "closed"),
+            "confirm": (("received", "corrected"), "closed"),
+        }[verb]
+        need(stands["status"] in starts, 13, status=stands["status"])
+        if verb == "close":
+            need(not con.twice, 24)
+        if verb == "confirm":
+            need(given.items() <= stands.items(), 7, rev=rev)
+        if verb == "query":
+            con.lot, stands["note"] = [], note
+        stands.update(given, status=ends, rev=rev + 1)
+        return {"ok": "moved", "rev": rev + 1}
+
+    def answers(self, con, text):
+        """What rows come to that are lodged one by one: a word, and of those that are named the
+        number and the words. No field of them is in quotes.
+        """
+        header, *rows = text.splitlines()
+        assert header.split(",") == ["station", "slip", "blank", "spoiled", *con.lists]
+        for row in rows:
+            fields = row.split(",")
+            if why := wrong_in(con, fields):
+                yield "bad", 0, why
+                continue
+            station, slip, (blank, spoiled, *votes) = *fields[:2], map(int, fields[2:])
+            try:
+                yield self.lodge(con, station, slip, votes, blank, spoiled)["ok"], None, None
+            except Refused as it:
+                yield (
+                    "differs" if it.number == 7 else "refused"
+                ), it.number, f"{REFUSALS[it.number][0]} {station}"
+
+    def imported(self, con, text):
+        return counted(self.answers(con, text)) | {"ok": "import"}
+
+    def tried(self, con, text):
+        """The text of what an import would come to, which lodges nothing."""
+        before = dict(con.returns)
+        answers = list(self.answers(con, text))
+        con.returns = before
+        counts = counted(answers)
+        counts["first"] = " ".join(map(str, counts["first"] or "-"))
+        lines = [f"{word} {n}" for word, n in counts.items()]
+        lines += [
+            f"row {number} {of} {words}"
+            for number, (_, of, words) in enumerate(answers, 1)
+            if words
+        ]
+        return "".join(f"{line}\n" for line in lines)
+
+    # Constituencies.
+
+    def check_open(self, con, edition):
+        """What a lot and a certificate need alike."""
+        need(con.certified is None, 9)
+        need(con.edition == edition, 11, now=con.edition)
+        need(edition < LAST, 12)
+        left = len(con.electors) - con.statuses()[3]
+        need(left == 0, 14, left=left)
+        need(con.poll().eligible, 15)
+
+    def raised(self, con):
+        con.edition += 1
+        return {"ok": "edition", "edition": con.edition}
+
+    def draw(self, con, edition, order):
+        self.check_open(con, edition)
+        need(not con.lot, 16)
+        group, _ = con.poll().group()
+        need(group, 17)
+        codes = [con.lists[n] for n in group]
+        need(sorted(order) == sorted(codes), 18, group=codes)
+        con.lot = [con.lists.index(code) for code in order]
+        return self.raised(con)
+
+    def certify(self, con, edition):
+        self.check_open(con, edition)
+        group, seats = con.poll().group()
+        need(not group or con.lot, 19, group=[con.lists[n] for n in group], seats=seats)
+        con.certified = con.poll().allotted()
+        return self.raised(con)
+
+    def reopen(self, con, edition, note):
+        need(1 <= len(note.encode()) <= 200, 5)
+        need(con.certified is not None, 10)
+        need(con.edition == edition, 11, now=con.edition)
+        need(edition < LAST, 12)
+        con.past[edition] = con.certified
+        con.certified, con.note = None, note
+        return self.raised(con)
+
+    def vacate(self, con, place, note, **of):
+        n = con.lists.index(of["list"]) if of["list"] in con.lists else None
+        need(n is not None and 1 <= place <= len(con.candidates[n]), 3)
+        need(1 <= len(note.encode()) <= 200, 5)
+        need(con.certified is not None, 10)
+        need((n, place) not in con.gone, 20)
+        before = con.holders(n)
+        need(place in before, 21)
+        con.gone[n, place] = note
+        return {
+            "ok": "vacated",
+            "next": next((it for it in con.holders(n) if it not in before), None),
+        }
+
+
+# ---- what is shown
+
+
+def shown(con):
+    votes, blank, spoiled = con.closed()
+    return {
+        "con": con.code,
+        "edition": con.edition,
+        "certified": con.certified is not None,
+        "note": con.note,
+        "closed": con.statuses()[3],
+        "stations": len(con.electors),
+        "votes": votes,
+        "blank": blank,
+        "spoiled": spoiled,
+        "lot": [con.lists[n] for n in con.lot],
+        "seats": con.certified or [],
+        **({"entry": "double"} if con.twice else {}),
+        "gone": [
+            {"list": con.lists[n], "place": place, "note": con.gone[n, place]}
+            for n, place in sorted(con.gone)
+        ],
+    }
+
+
+def progress(con):
+    numbers = len(con.electors), len(con.electors) - len(con.returns), *con.statuses(), con.edition
+    return (
+        f"{con.code:16}"
+        + "".join(f"{n:7}" for n in numbers)
+        + f" {'open' if con.certified is None else 'certified'}\n"
+    )
+
+
+def titled(report, con, lines):
+    return "".join(
+        f"{line}\n" for line in [f"{report.upper()} {con.code} {con.setup['name']}", *lines]
+    )
+
+
+def tally(con):
+    votes, blank, spoiled = con.closed()
+    poll = con.poll()
+    shares = [v * 10000 // poll.base if poll.base else 0 for v in votes]
+    return titled(
+        "tally",
+        con,
+        [
+            f"stations {len(con.electors)} closed {con.statuses()[3]}",
+            f"valid {sum(votes) + blank} blank {blank} spoiled {spoiled}",
+            *(
+                f"{code:16}{votes[n]:12}{f'{shares[n] // 100}.{shares[n] % 100:02}':>8}"
+                f" {'in' if n in poll.eligible else 'out':4}{con.names[n]}"
+                for n, code in enumerate(con.lists)
+            ),
+        ],
+    )
+
+
+def of_certified(of_hare=None):
+    """A report of certified constituencies alone, and of those by quotas or by divisors alone."""
+
+    def decorated(lines):
+        def report(con):
+            if con.certified is None:
+                raise Unreported("not_certified")
+            if of_hare not in (None, con.profile["method"] == "hare"):
+                raise Unreported("other_method")
+            return titled(lines.__name__, con, lines(con))
+
+        return report
+
+    return decorated
+
+
+@of_certified()
+def seats(con):
+    rows = [f"{code:16}{con.certified[n]:5} {con.names[n]}" for n, code in enumerate(con.lists)]
+    return [f"edition {con.edition}", *rows, f"{'total':16}{sum(con.certified):5}"]
+
+
+@of_certified(of_hare=False)
+def quotients(con):
+    poll = con.poll()
+    columns = range(1, max(con.certified) + 2)
+    return [
+        f"{con.lists[n]:16}"
+        + "".join(
+            f"{'*' if k <= con.certified[n] else ' '}{poll.in_units(n) // poll.divisor(k):11}"
+            for k in columns
+        )
+        for n in poll.eligible
+    ]
+
+
+@of_certified(of_hare=False)
+def awards(con):
+    poll = con.poll()
+    return [
+        f"{number:4} {con.lists[n]:16}{k:4}{poll.in_units(n):14}{poll.divisor(k):6}"
+        f"{poll.in_units(n) // poll.divisor(k):12}"
+        for number, (n, k) in enumerate(poll.awards(), 1)
+    ]
+
+
+@of_certified(of_hare=True)
+def quota(con):
+    poll = con.poll()
+    rows = [
+        f"{con.lists[n]:16}{poll.votes[n]:12}"
+        f"{poll.quota(n)[0]:5}{poll.quota(n)[1]:16}{con.certified[n]:5}"
+        for n in poll.eligible
+    ]
+    return [f"votes {poll.total} seats {con.seats}", *rows]
+
+
+@of_certified(of_hare=False)
+def short(con):
+    poll = con.poll()
+    numbers = {n: poll.short(n, con.certified[n]) for n in poll.eligible}
+    return [
+        f"{con.lists[n]:16}{con.certified[n]:5}{'-' if more is None else more:>12}"
+        for n, more in numbers.items()
+    ]
+
+
+@of_certified()
+def holders(con):
+    rows = []
+    for n, code in enumerate(con.lists):
+        held = con.holders(n)
+        rows += [f"{code:16}{place:5} {con.candidates[n][place - 1]}" for place in held]
+        rows += [f"{code:16}    - empty"] * (con.certified[n] - len(held))
+    return rows
+
+
+def past(con):
+    rows = []
+    for edition, won in sorted(con.past.items()):
+        rows += [
+            f"edition {edition}",
+            *(f"{code:16}{won[n]:5} {con.names[n]}" for n, code in enumerate(con.lists)),
+        ]
+    return titled("past", con, rows)
+
+
+def stations(con):
+    def entry(code, it):
+        votes = (
+            f"{it['status']:9}{it['rev']:5} {it['slip']:16}"
+            f"{sum(it['votes']):8}{it['blank']:8}{it['spoiled']:8}"
+            if it
+            else "-"
+        )
+        return f"{code:16}{con.electors[code]:8} {votes}"
+
+    missing = len(con.electors) - len(con.returns)
+    head = f"stations {len(con.electors)} missing {missing} closed {con.statuses()[3]}"
+    return titled(
+        "stations", con, [head, *(entry(code, con.returns.get(code)) for code in con.electors)]
+    )
+
+
+def returns(con):
+    rows = [["station", "slip", "blank", "spoiled", *con.lists]]
+    for code in con.electors:
+        if it := con.returns.get(code):
+            rows.append([code, it["slip"], it["blank"], it["spoiled"], *it["votes"]])
+    return "".join(",".join(map(str, row)) + "\n" for row in rows)
+
+
+def country(cons):
+    won, polled, names = {}, {}, {}
+    for con in cons:
+        for code, name, seats, votes in zip(
+            con.lists, con.names, con.certified or [0] * len(con.lists), con.closed()[0]
+        ):
+            won[code], polled[code] = won.get(code, 0) + seats, polled.get(code, 0) + votes
+            names.setdefault(code, name)
+    total = sum(con.seats for con in cons)
+    return "".join(
+        f"{line}\n"
+        for line in [
+            "COUNTRY",
+            (
+                f"constituencies {len(cons)} certified"
+                f" {sum(con.certified is not None for con in cons)}"
+            ),
+            (
+                f"stations {sum(len(con.electors) for con in cons)} closed"
+                f" {sum(con.statuses()[3] for con in cons)}"
+            ),
+            *(f"{code:16}{won[code]:7}{polled[code]:14} {name}" for code, name in names.items()),
+            f"{'total':16}{sum(won.values()):7}{sum(polled.values()):14}",
+            f"seats {total} majority {total // 2 + 1}",
+        ]
+    )
+
+
+REPORTS = {
+    "stations": stations,
+    "returns": returns,
+    "tally": tally,
+    "seats": seats,
+    "quotients": quotients,
+    "awards": awards,
+    "quota": quota,
+    "short": short,
+    "holders": holders,
+    "past": past,
+}

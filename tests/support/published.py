@@ -1,0 +1,259 @@
+"""The published files for programs, and what describes them: schemas and the data package.
+
+Schemas are tried by a checker of the few keywords that they have, and by the package jsonschema too
+where that is installed.
+"""
+
+import contextlib
+import csv
+import json
+import os
+import re
+import xml.etree.ElementTree as ET
+from datetime import datetime, timedelta
+from pathlib import Path
+
+from tests.support.desks import answering_desk, recording_desk
+from tests.support.pages import REOPENED, TWIN, press, read
+from tests.support.proxy import with_a_second
+from tests.support.site import DEPLOY, ran, same
+
+try:
+    import jsonschema
+except ImportError:
+    jsonschema = None
+
+KINDS = {"object": dict, "array": list, "string": str, "boolean": bool, "integer": int,
+         "null": type(None)}
+
+
+def faults(schema, value, at="it"):
+    """The faults of a value by its schema (JSON Schema, draft 2020-12).
+
+    A keyword that is not known here is refused.
+    """
+    known = {"$schema", "title", "description", "type", "const", "enum", "properties", "required",
+             "additionalProperties", "items", "pattern", "minimum", "maximum"}
+    assert set(schema) <= known, f"{at}: a keyword that is not known: {set(schema) - known}"
+    kinds = [schema["type"]] if isinstance(schema.get("type"), str) else schema.get("type", KINDS)
+    if not any(isinstance(value, KINDS[kind]) and (kind == "boolean") == isinstance(value, bool)
+               for kind in kinds):
+        return [f"{at}: not of type {kinds}"]
+    found = [f"{at}: not {schema['const']!r}"] if value != schema.get("const", value) else []
+    found += [f"{at}: none of {schema['enum']}"] if value not in schema.get("enum", [value]) else []
+    if isinstance(value, str) and not re.search(schema.get("pattern", ""), value):
+        found.append(f"{at}: not like {schema['pattern']}")
+    if isinstance(value, int):
+        if not schema.get("minimum", value) <= value <= schema.get("maximum", value):
+            found.append(f"{at}: out of bounds")
+    if isinstance(value, list):
+        found += [fault for n, one in enumerate(value)
+                  for fault in faults(schema.get("items", {}), one, f"{at}[{n}]")]
+    if isinstance(value, dict):
+        found += [f"{at}: lacks {name}" for name in schema.get("required", []) if name not in value]
+        for name, one in value.items():
+            of_name = schema.get("properties", {}).get(name, schema.get("additionalProperties", {}))
+            if of_name is False:
+                found.append(f"{at}: has {name}")
+            else:
+                found += faults(of_name, one, f"{at}.{name}")
+    return found
+
+
+def checked(schema, value):
+    """The faults of a value. Where jsonschema is installed, it finds some too, or none as well."""
+    found = faults(schema, value)
+    if jsonschema:
+        same(jsonschema.Draft202012Validator(schema).is_valid(value), not found)
+    return found
+
+
+def schema_of(name):
+    """The schema of a file: con.schema.json of con-CODE.json."""
+    return json.loads(read(re.sub(r"(-.*)?\.json$", ".schema.json", name)))
+
+
+def json_files():
+    """The JSON files of a folder whose schemas are published there."""
+    others = ("datapackage.json", "openapi.json")
+    return sorted(name for name in os.listdir("pages") if name.endswith(".json")
+                  and not name.endswith(".schema.json") and name not in others)
+
+
+CELLS = {"string": str, "integer": int, "number": float, "datetime": datetime.fromisoformat}
+
+
+def cell_faults(field, cell):
+    """The faults of a cell by its field of Table Schema."""
+    known = {"name", "type", "description", "constraints", "trueValues", "falseValues"}
+    assert set(field) <= known, field
+    assert set(field.get("constraints", {})) <= {"pattern", "minimum", "maximum"}, field
+    if cell == "":
+        return []
+    if field["type"] == "boolean":
+        values = field.get("trueValues", ["true"]) + field.get("falseValues", ["false"])
+        return [] if cell in values else [f"{field['name']}: {cell!r}"]
+    bounds = field.get("constraints", {})
+    try:
+        value = CELLS[field["type"]](cell)
+    except ValueError:
+        return [f"{field['name']}: {cell!r} is no {field['type']}"]
+    inside = bounds.get("minimum", value) <= value <= bounds.get("maximum", value)
+    return [] if inside and re.search(bounds.get("pattern", ""), cell) else [
+        f"{field['name']}: {cell!r} is out of bounds"]
+
+
+def rows_of(name):
+    with Path("pages", name).open(encoding="utf-8", newline="") as lines:
+        return list(csv.reader(lines))
+
+
+def package_faults():
+    """The faults of the CSV files by the data package."""
+    package = json.loads(read("datapackage.json"))
+    tables = {resource["name"]: rows_of(resource["path"]) for resource in package["resources"]}
+    found = []
+    for resource in package["resources"]:
+        (head, *rows), schema = tables[resource["name"]], resource["schema"]
+        if head != [field["name"] for field in schema["fields"]]:
+            found.append(f"{resource['path']}: {head}")
+            continue
+        found += [f"{resource['path']}: {fault}" for row in rows
+                  for field, cell in zip(schema["fields"], row, strict=True)
+                  for fault in cell_faults(field, cell)]
+        keys = [tuple(row[head.index(name)] for name in schema["primaryKey"]) for row in rows]
+        found += [f"{resource['path']}: {key} twice" for key in keys if keys.count(key) > 1
+                  or "" in key]
+        for foreign in schema.get("foreignKeys", []):
+            [name], [there] = foreign["fields"], foreign["reference"]["fields"]
+            top, *others = tables[foreign["reference"]["resource"]]
+            found += [f"{resource['path']}: {row}" for row in rows
+                      if row[head.index(name)] not in [other[top.index(there)] for other in others]]
+    return found
+
+
+HARE = TWIN | {
+    "/con/c1": TWIN["/con/c1"] | {"seats": [3, 0], "votes": [168000, 40000], "lot": []},
+    "/con/c1/tally": ("TALLY c1 Twin Town\nstations 1 closed 1\nvalid 208000 blank 0 spoiled 0\n"
+                      "A                     168000   80.76 in  Alpha\n"
+                      "E                      40000   19.23 out Beta\n"),
+    "/con/c1/quota": ("QUOTA c1 Twin Town\nvotes 208000 seats 3\n"
+                      "A                     168000    2          384000    3\n"
+                      "E                      40000    0          320000    0\n"),
+    **{f"/con/c1/{name}": (409, '{"word":"other_method"}')
+       for name in ("quotients", "awards", "short")},
+    "/con/c1/seats": ("SEATS c1 Twin Town\nedition 3\nA                   3 Alpha\n"
+                      "E                   0 Beta\ntotal               3\n"),
+    "/con/c1/holders": ("HOLDERS c1 Twin Town\nA                   1 Ana\n"
+                        "A                   2 Abel\nA                   - empty\n"),
+}
+VACATED = TWIN | {
+    "/con/c1": TWIN["/con/c1"]
+    | {"gone": [{"list": "A", "note": "resigned <today>", "place": 1}], "entry": "double"},
+    "/con/c1/holders": ("HOLDERS c1 Twin Town\nA                   2 Abel\n"
+                        "B                   1 Bea\nB                   - empty\n"),
+}
+OPEN = REOPENED | {
+    "/progress": "c1                    1      0      1      0      0      0      1 open\n",
+    "/con/c1/past": "PAST c1 Twin Town\n",
+    "/con/c1": REOPENED["/con/c1"]
+    | {"edition": 1, "closed": 0, "note": "", "votes": [0, 0], "lot": []},
+    "/con/c1/tally": ("TALLY c1 Twin Town\nstations 1 closed 0\nvalid 0 blank 0 spoiled 0\n"
+                      "A                          0    0.00 out Alpha\n"
+                      "B                          0    0.00 out Beta\n"),
+    "/con/c1/stations": TWIN["/con/c1/stations"].replace("closed 1", "closed 0").replace(
+        "closed       2", "received     1"),
+}
+# Certified once more after the reopening, by one vote more for A.
+AGAIN = TWIN | {
+    "/progress": TWIN["/progress"].replace(" 3 ", " 5 "), "/con/c1/past": REOPENED["/con/c1/past"],
+    "/con/c1": TWIN["/con/c1"]
+    | {"edition": 5, "note": "a <recount>", "votes": [101, 100], "seats": [2, 1], "lot": []},
+    "/con/c1/tally": ("TALLY c1 Twin Town\nstations 1 closed 1\nvalid 201 blank 0 spoiled 0\n"
+                      "A                        101   50.24 in  Alpha\n"
+                      "B                        100   49.75 in  Beta\n"),
+    "/con/c1/seats": ("SEATS c1 Twin Town\nedition 5\nA                   2 Alpha\n"
+                      "B                   1 Beta\ntotal               3\n"),
+    "/con/c1/quotients": ("QUOTIENTS c1 Twin Town\n"
+                          "A               *        101*         50          33\n"
+                          "B               *        100          50          33\n"),
+    "/con/c1/holders": ("HOLDERS c1 Twin Town\nA                   1 Ana\n"
+                        "A                   2 Abel\nB                   1 Bea\n"),
+}
+
+
+def beside(answers, code="c2"):
+    """These answers, with another constituency."""
+    other = {target.replace("c1", code): said.replace("c1", code) if isinstance(said, str)
+             else said | {"con": code}
+             for target, said in answers.items() if target.startswith("/con/")}
+    return answers | other | {"/progress": answers["/progress"]
+                              + answers["/progress"].replace("c1", code)}
+
+
+def publish(answers, *words, status=0):
+    """A round of press.py, which is started for it and ended after it."""
+    with answering_desk(answers) as (port, _):
+        return press(port, *words, status=status)
+
+
+def a_head(n):
+    Path("head").write_text(
+        json.dumps({"time": f"2026-11-29T21:14:{n:02}.120+01:00", "n": n, "hash": f"{n:064x}"}),
+        encoding="utf-8")
+    return "--head", "head"
+
+
+def of_readers(folder="pages"):
+    """The files that readers get, but for those that are compressed."""
+    return {file.name: file.read_bytes() for file in Path(folder).iterdir() if file.suffix != ".gz"}
+
+
+ATOM = "{http://www.w3.org/2005/Atom}"
+
+
+def entries():
+    """The entries of the feed, the newest first: identifier, kind, title, text, moment. Its form is
+    that of RFC 4287."""
+    feed = ET.fromstring(read("feed.atom"))
+    same((feed.tag,
+          [len(feed.findall(ATOM + tag)) for tag in ("id", "title", "updated", "author")]),
+         (f"{ATOM}feed", [1] * 4))
+    found, links = [], {}
+    for entry in feed.findall(f"{ATOM}entry"):
+        same([len(entry.findall(ATOM + tag))
+              for tag in ("id", "title", "updated", "summary", "link", "category")], [1] * 6)
+        of_entry, title, updated, summary = (entry.findtext(ATOM + tag)
+                                             for tag in ("id", "title", "updated", "summary"))
+        assert re.fullmatch(
+            "urn:uuid:[0-9a-f]{8}-[0-9a-f]{4}-5[0-9a-f]{3}-[89ab][0-9a-f]{3}-[0-9a-f]{12}",
+            of_entry), of_entry
+        found.append((of_entry, entry.find(f"{ATOM}category").get("term"), title, summary, updated))
+        assert os.path.exists(f"pages/{entry.find(f'{ATOM}link').get('href')}")
+    same(len({one[0] for one in found}), len(found))
+    moments = [one[4] for one in found]
+    same((sorted(moments, reverse=True),
+          max(moments, default="") <= feed.findtext(f"{ATOM}updated")), (moments, True))
+    return found
+
+
+CERTIFIED = ("certificate", "Twin Town: certified in edition 3", "A 1, B 2")
+
+
+@contextlib.contextmanager
+def published_site(answers, *words):
+    """The proxy with the pages of an office that gives these answers, and the port of what records
+    commands in its place."""
+    with recording_desk() as (port, _), with_a_second(port) as front:
+        front.name("stations", "s1")
+        os.symlink(front.folder / "pages", "pages")
+        publish(answers, *words)
+        yield front
+
+
+def before_the_hour(front):
+    """Starts the proxy again, an hour before results are public."""
+    front.end()
+    hour = datetime.now().astimezone() + timedelta(hours=1)
+    front.put("embargo.conf", ran(DEPLOY / "embargo", hour.isoformat(timespec="seconds")))
+    front.start()
