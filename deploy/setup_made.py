@@ -55,7 +55,7 @@ class Maker:
         self.cons, self.found_by, self.codes_made, self.notes = [], {}, {}, []
         self.without_zeros, self.profiles, self.other_candidates = {}, [], []
 
-    def say(self, key, **given):
+    def say(self, key, /, **given):
         return self.faults.texts.say(key, **given)
 
     def make(self):
@@ -86,23 +86,18 @@ class Maker:
     def column(self, table, name):
         """The columns of a field, as its table calls them."""
         parts = table.places.get(name, ())
-        return ", ".join(column for place, _, column in parts if place is not None) or name
+        return ", ".join(table.header[place] for place, _, _ in parts if place is not None) or name
 
     def number(self, row, name, least, most, absent=None):
         """A whole number of a field, or None and a fault."""
         text = row.table.value(row, name)
-        given = {"field": self.column(row.table, name), "value": text}
-        if not text:
-            if absent is None:
-                row.fault("missing", **given)
-            return absent
-        if not re.fullmatch("[0-9]{1,18}", text):
-            row.fault("not_number", **given)
-        elif not least <= int(text) <= most:
-            row.fault("out_of_range", least=least, most=most, **given)
-        else:
+        is_number = text.isascii() and text.isdigit() and len(text) <= 18
+        if is_number and least <= int(text) <= most:
             return int(text)
-        return None
+        if text or absent is None:
+            key = "out_of_range" if is_number else "not_number" if text else "missing"
+            row.fault(key, field=self.column(row.table, name), value=text, least=least, most=most)
+        return None if text else absent
 
     def word(self, row, name, words):
         text = row.table.value(row, name)
@@ -132,12 +127,12 @@ class Maker:
             return None
         found = self.found_by.get(text) or self.found_by.get(folded(text))
         if found is None:
-            row.fault("no_constituency", value=text, file=self.tables["constituencies"].file)
-            if near := self.without_zeros.get(text.lstrip("0")):
-                self.note_once("zeros", value=text, other=near)
+            near = self.without_zeros.get(text.lstrip("0"))
+            row.fault("lost_zeros" if near else "no_constituency", value=text, other=near,
+                      file=self.tables["constituencies"].file)
         return found
 
-    def note_once(self, key, **given):
+    def note_once(self, key, /, **given):
         said = self.say(key, **given)
         if said not in self.notes:
             self.notes.append(said)
@@ -368,7 +363,7 @@ class Maker:
 
     def check_person(self, con, one, candidate, known, persons, here, elsewhere):
         row = candidate.row
-        person, name = identity(row.table.value(row, "person")), folded(candidate.name)
+        person, name = identity(row.table.value(row, "person")).replace("-", ""), folded(candidate.name)
         if person:
             other = persons.setdefault(person, candidate)
             if other is not candidate:

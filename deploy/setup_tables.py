@@ -37,7 +37,7 @@ class Texts:
         file = HERE / f"setup_tables_{language}.toml"
         self.found = tomllib.loads(file.read_text(encoding="utf-8"))
 
-    def say(self, key, **given):
+    def say(self, key, /, **given):
         return self.found[key].format(**{name: shown(value) for name, value in given.items()})
 
 
@@ -55,7 +55,7 @@ class Faults:
     def __init__(self, texts):
         self.texts, self.found = texts, []
 
-    def add(self, file, row, key, **given):
+    def add(self, file, row, key, /, **given):
         said = self.texts.say(key, **given)
         place = f"{file}, {self.texts.say('row', row=row)}" if row else file
         self.found.append(f"{shown(place)}: {said}")
@@ -71,7 +71,7 @@ class Row:
     number: int
     cells: list
 
-    def fault(self, key, **given):
+    def fault(self, key, /, **given):
         self.table.faults.add(self.table.file, self.number, key, **given)
 
 
@@ -105,7 +105,8 @@ class Table:
         """The text of each part of a field, and its column."""
         for place, digits, column in self.places.get(name, ()):
             cell = column if place is None else row.cells[place]
-            yield (cell.zfill(digits) if digits and re.fullmatch("[0-9]+", cell) else cell), column
+            is_padded = digits and cell.isascii() and cell.isdigit()
+            yield (cell.zfill(digits) if is_padded else cell), column
 
 
 # ---- reading
