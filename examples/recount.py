@@ -67,12 +67,6 @@ def turned(con, profile, votes, blank):
     return allotted(con, profile | {"lot": "fixed"}, votes, blank, list(range(len(votes), 0, -1)))
 
 
-def overfull(con, papers):
-    """The first station that has more votes than electors and agents, in words; or None."""
-    most = {one["code"]: one["electors"] + one.get("agents", 0) for one in con["station"]}
-    return next((f"{code} has {n} votes, and {most[code]} may vote there" for code, n in papers.items() if n > most.get(code, n)), None)
-
-
 def recount(select, con, profile):
     """What does not agree in one constituency, as a list of words."""
     code, numbers = [con["code"]], range(1, len(con["list"]) + 1)  # of the lists, in the setup's order
@@ -80,8 +74,6 @@ def recount(select, con, profile):
     closed = {row[0] for row in select("SELECT station FROM returns WHERE con = ? AND status = 4", code)}
     counted = dict.fromkeys([0, *numbers, 61], 0) | dict(select(
         "SELECT item, sum(n) FROM counts JOIN returns USING (station) WHERE con = ? AND status = 4 GROUP BY item", code))
-    over = overfull(con, dict(select("SELECT station, sum(n) FROM counts JOIN returns USING (station) WHERE con = ? "
-                                     "AND status = 4 GROUP BY station", code)))
     lot = [row[0] for row in select("SELECT list FROM lots WHERE con = ? ORDER BY place", code)]
     [(edition, certified)] = select("SELECT edition, certified FROM cons WHERE con = ?", code)
     votes, blank = [counted[i] for i in numbers], counted[0]
@@ -91,7 +83,7 @@ def recount(select, con, profile):
         ("seats", dict(zip(numbers, seats)) != dict(select("SELECT list, n FROM seats WHERE con = ?", code))),
         ("a lot is missing", certified and not lot and seats != turned(con, profile, votes, blank)),
         (f"{len(stations - closed)} of {len(stations)} stations not closed", certified and stations - closed),
-        ("stations of no setup", closed - stations), (over, over)) if differs]
+        ("stations of no setup", closed - stations)) if differs]
     if select("SELECT name FROM sqlite_master WHERE name = 'past'").fetchone():  # which version 1 of the tables lacks
         for past, *found, least in select("SELECT edition, sum(n), count(*), min(list), max(list), min(n) FROM past "
                                           "WHERE con = ? GROUP BY edition", code):
@@ -108,8 +100,6 @@ def from_returns(con, profile, rows, lot):
         raise ValueError(f"{con['code']}: another header than that of its lists")
     if len({row[0] for row in rows} & stations) != len(rows):
         raise ValueError(f"{con['code']}: a station twice, or of another constituency")
-    if over := overfull(con, {row[0]: sum(map(int, row[2:])) for row in rows}):
-        raise ValueError(f"{con['code']}: {over}")
     blank, _, *votes = [sum(map(int, column)) for column in list(zip(*rows))[2:]] if rows else [0] * (len(codes) + 2)
     named = [codes.index(code) + 1 for code in lot]
     seats = allotted(con, profile, votes, blank, named) if any(votes) else [0] * len(codes)
