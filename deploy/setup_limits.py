@@ -1,4 +1,6 @@
-"""The limits of a setup, as docs/FORMATS.md has them under The setup file, for the tools that make or divide one."""
+"""The limits of a setup, for the tools that make or divide one.
+
+docs/FORMATS.md lists them under The setup file."""
 
 import re
 
@@ -32,7 +34,7 @@ def is_name(value):
 
 
 def papers(station):
-    """The most papers that a return of a station may have: its electors, and agents who vote there."""
+    """The most papers that a station may have: its electors, and the agents who vote there."""
     return station["electors"] + station.get("agents", 0)
 
 
@@ -72,11 +74,15 @@ class Codes:
     def add(self, entry, place):
         code = value_of(entry, "code", place)
         need(is_code(code), place, f"{code!r} is no code")
-        other, at = self.found.setdefault(code if self.sees_capitals else code.lower(), (code, place))
+        other, at = self.found.setdefault(
+            code if self.sees_capitals else code.lower(), (code, place)
+        )
         if at is not place:
             need(other != code, place, f"{self.kind} {code} comes twice, first at {at}")
-            raise Fault(f"{place}: {self.kind} {code} and {other} at {at} differ in capitals alone, "
-                        "which the proxy does not tell apart")
+            raise Fault(
+                f"{place}: {self.kind} {code} and {other} at {at} differ in capitals alone, "
+                "which the proxy does not tell apart"
+            )
 
 
 def value_of(entry, key, place):

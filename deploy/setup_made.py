@@ -9,7 +9,9 @@ from setup_tables import folded, other_columns
 
 RULES = {"loreg": {"code": "loreg", "method": "dhondt", "threshold": 300, "base": "valid"}}
 # A constituency of one seat has the candidate with most votes (LOREG 163.2).
-RULES_OF_ONE_SEAT = {"loreg": {"code": "loreg-one", "method": "dhondt", "threshold": 0, "base": "valid"}}
+RULES_OF_ONE_SEAT = {
+    "loreg": {"code": "loreg-one", "method": "dhondt", "threshold": 0, "base": "valid"}
+}
 CANDIDATE_WORDS = ["", "T", "TITULAR", "C", "CANDIDATO", "CANDIDATA", "CANDIDATE"]
 SUBSTITUTE_WORDS = ["S", "SUPLENTE", "SUBSTITUTE"]
 
@@ -79,8 +81,13 @@ class Maker:
         if not text:
             row.fault("missing", field=self.column(row.table, name))
         elif not limits.is_name(text):
-            row.fault("name_long", field=self.column(row.table, name), bytes=len(text.encode()),
-                      most=limits.MOST_NAME_BYTES, name=text)
+            row.fault(
+                "name_long",
+                field=self.column(row.table, name),
+                bytes=len(text.encode()),
+                most=limits.MOST_NAME_BYTES,
+                name=text,
+            )
         return text
 
     def column(self, table, name):
@@ -102,7 +109,9 @@ class Maker:
     def word(self, row, name, words):
         text = row.table.value(row, name)
         if text and text not in words:
-            row.fault("bad_word", field=self.column(row.table, name), value=text, words=", ".join(words))
+            row.fault(
+                "bad_word", field=self.column(row.table, name), value=text, words=", ".join(words)
+            )
         return text if text in words else None
 
     def is_new_code(self, code, row, seen, key="code_twice"):
@@ -113,7 +122,13 @@ class Maker:
         other, at = seen.setdefault(code.lower(), (code, row))
         if at is row:
             return True
-        row.fault(key if other == code else "capitals", value=code, other=other, file=at.table.file, row=at.number)
+        row.fault(
+            key if other == code else "capitals",
+            value=code,
+            other=other,
+            file=at.table.file,
+            row=at.number,
+        )
         return False
 
     def constituency_of(self, row):
@@ -128,8 +143,12 @@ class Maker:
         found = self.found_by.get(text) or self.found_by.get(folded(text))
         if found is None:
             near = self.without_zeros.get(text.lstrip("0"))
-            row.fault("lost_zeros" if near else "no_constituency", value=text, other=near,
-                      file=self.tables["constituencies"].file)
+            row.fault(
+                "lost_zeros" if near else "no_constituency",
+                value=text,
+                other=near,
+                file=self.tables["constituencies"].file,
+            )
         return found
 
     def note_once(self, key, /, **given):
@@ -170,7 +189,11 @@ class Maker:
             if names[name] == 1:
                 self.found_by.setdefault(name, con)
         for table in self.tables.values():
-            if len(self.cons) > 1 and table.name != "constituencies" and not table.has("constituency"):
+            if (
+                len(self.cons) > 1
+                and table.name != "constituencies"
+                and not table.has("constituency")
+            ):
                 self.faults.add(table.file, 1, "no_constituency_column")
 
     def take_constituency(self, table, row, seen):
@@ -179,7 +202,11 @@ class Maker:
         code = raw or self.made_code(name, seen)
         if self.is_new_code(code, row, seen) and not raw:
             self.notes.append(self.say("code_made", code=code, name=name))
-        made = {"code": code, "name": name, "seats": self.number(row, "seats", 1, limits.MOST_SEATS)}
+        made = {
+            "code": code,
+            "name": name,
+            "seats": self.number(row, "seats", 1, limits.MOST_SEATS),
+        }
         made["profile"] = self.profile_of(row, made["seats"])
         entry = self.word(row, "entry", limits.ENTRIES) or self.entry
         size = self.word(row, "size", limits.SIZES)
@@ -221,8 +248,8 @@ class Maker:
             made = {"code": table.code(row, "code"), "name": self.text(row, "name")}
             kept = {key: row.cells[place] for place, key in others if row.cells[place]}
             one = PartyList(row, made, kept, party=identity(text) or folded(text), text=text)
-            order = self.number(row, "order", 0, 10 ** 6) if table.has("order") else number
-            one.order = 10 ** 6 + number if order is None else order
+            order = self.number(row, "order", 0, 10**6) if table.has("order") else number
+            one.order = 10**6 + number if order is None else order
             if con:
                 self.add_list(con, one)
 
@@ -237,10 +264,13 @@ class Maker:
         con.lists.append(one)
 
     def give_codes(self):
-        """Each party has one code everywhere: its own, one of `columns.toml`, or one that is made."""
+        """Gives each party one code everywhere: its own, one of `columns.toml`, or a new one."""
         lists = [one for con in self.cons for one in con.lists]
         given, owner = {}, {}
-        own = {identity(text) or folded(text): code for text, code in self.columns.get("codes", {}).items()}
+        own = {
+            identity(text) or folded(text): code
+            for text, code in self.columns.get("codes", {}).items()
+        }
         for party, code in own.items():
             if not limits.is_code(code):
                 self.faults.add("columns.toml", None, "not_code", value=code)
@@ -257,12 +287,14 @@ class Maker:
             one.made["code"] = one.made["code"] or given[one.party][0]
             other = texts.setdefault(one.party, one)
             if other.text != one.text and one.party in self.codes_made:
-                self.note_once("same_party", value=one.text, other=other.text, code=one.made["code"])
+                self.note_once(
+                    "same_party", value=one.text, other=other.text, code=one.made["code"]
+                )
         for con in self.cons:
             self.check_codes(con)
 
     def take_code(self, one, given, owner):
-        """The code that a list has in its table; a party has it everywhere, and no other party does."""
+        """Checks the code of a list in its table: its party has it everywhere, and no other."""
         code = one.made["code"]
         if not code:
             return
@@ -271,7 +303,13 @@ class Maker:
             one.row.fault("not_code", value=code)
         elif has_party and given.setdefault(one.party, (code, one.row))[0] != code:
             other, row = given[one.party]
-            one.row.fault("party_two_codes", value=one.text, code=code, other=other, row=row.number if row else "-")
+            one.row.fault(
+                "party_two_codes",
+                value=one.text,
+                code=code,
+                other=other,
+                row=row.number if row else "-",
+            )
         else:
             party, row = owner.setdefault(code.lower(), (one.party, one.row))
             if has_party and party != one.party:
@@ -283,7 +321,12 @@ class Maker:
         for one in con.lists:
             other = seen.setdefault(one.made["code"], one)
             if other is not one:
-                one.row.fault("code_twice", value=one.made["code"], file=one.row.table.file, row=other.row.number)
+                one.row.fault(
+                    "code_twice",
+                    value=one.made["code"],
+                    file=one.row.table.file,
+                    row=other.row.number,
+                )
 
     # ---- candidates
 
@@ -295,21 +338,34 @@ class Maker:
             name = self.text(row, "name")
             one = con and self.list_of(con, row)
             is_substitute = self.is_substitute(row)
-            place = self.number(row, "order", 1, limits.MOST_CANDIDATES) if table.has("order") else number
+            place = (
+                self.number(row, "order", 1, limits.MOST_CANDIDATES)
+                if table.has("order")
+                else number
+            )
             if one and name and place is not None and is_substitute is not None:
-                found = Candidate(row, {}, {key: row.cells[place] for place, key in self.other_candidates},
-                                  name, is_substitute, place)
+                found = Candidate(
+                    row,
+                    {},
+                    {key: row.cells[place] for place, key in self.other_candidates},
+                    name,
+                    is_substitute,
+                    place,
+                )
                 self.add_candidate(one, found)
 
     def list_of(self, con, row):
-        """The list of a constituency that a row of candidates names: by code, by party, or by name."""
+        """The list that a row of candidates names: by code, by party, or by name."""
         text = row.table.value(row, "list")
         if not text:
             row.fault("missing", field=self.column(row.table, "list"))
             return None
-        for key in (lambda one: one.made["code"] == text, lambda one: one.text == text,
-                    lambda one: one.party == (identity(text) or folded(text)),
-                    lambda one: folded(one.made["name"]) == folded(text)):
+        for key in (
+            lambda one: one.made["code"] == text,
+            lambda one: one.text == text,
+            lambda one: one.party == (identity(text) or folded(text)),
+            lambda one: folded(one.made["name"]) == folded(text),
+        ):
             found = [one for one in con.lists if key(one)]
             if len(found) == 1:
                 return found[0]
@@ -321,8 +377,13 @@ class Maker:
 
     def is_substitute(self, row):
         text = row.table.value(row, "kind").upper()
-        words = {name: {word.upper() for word in self.rules.get(name, default)} for name, default in (
-            ("candidate_words", CANDIDATE_WORDS), ("substitute_words", SUBSTITUTE_WORDS))}
+        words = {
+            name: {word.upper() for word in self.rules.get(name, default)}
+            for name, default in (
+                ("candidate_words", CANDIDATE_WORDS),
+                ("substitute_words", SUBSTITUTE_WORDS),
+            )
+        }
         if text in words["substitute_words"]:
             return True
         if text in words["candidate_words"]:
@@ -347,12 +408,14 @@ class Maker:
             first = last + 1 if is_substitute and own and own[0].place == last + 1 else 1
             for place, candidate in enumerate(own, first):
                 if candidate.place != place:
-                    candidate.row.fault("place_missing", place=place, value=candidate.place, code=one.made["code"])
+                    candidate.row.fault(
+                        "place_missing", place=place, value=candidate.place, code=one.made["code"]
+                    )
                     return
             last = len(own)
 
     def check_persons(self):
-        """No person twice in a constituency; in others a name may come again, and a person may not."""
+        """No name twice in a constituency, and no person twice at all."""
         known = {folded(name) for name in self.rules.get("namesakes", ())}
         persons, elsewhere = {}, {}
         for con in self.cons:
@@ -363,7 +426,9 @@ class Maker:
 
     def check_person(self, con, one, candidate, known, persons, here, elsewhere):
         row = candidate.row
-        person, name = identity(row.table.value(row, "person")).replace("-", ""), folded(candidate.name)
+        person, name = identity(row.table.value(row, "person")).replace("-", ""), folded(
+            candidate.name
+        )
         if person:
             other = persons.setdefault(person, candidate)
             if other is not candidate:
@@ -377,8 +442,15 @@ class Maker:
             return
         other, at = elsewhere.setdefault(name, (candidate, con))
         if at is not con:
-            self.notes.append(self.say("namesake", value=candidate.name, row=row.number, other=other.row.number,
-                                       file=row.table.file))
+            self.notes.append(
+                self.say(
+                    "namesake",
+                    value=candidate.name,
+                    row=row.number,
+                    other=other.row.number,
+                    file=row.table.file,
+                )
+            )
 
     # ---- stations
 
@@ -402,12 +474,20 @@ class Maker:
                 code = f"{con.made['code']}-{numbers[con.made['code']]}"
             if self.is_new_code(code, row, seen) and electors and agents is not None:
                 made = {"code": code, "electors": electors} | ({"agents": agents} if agents else {})
-                con.stations.append(Entry(row, made, {key: row.cells[at] for at, key in others if row.cells[at]}))
+                con.stations.append(
+                    Entry(row, made, {key: row.cells[at] for at, key in others if row.cells[at]})
+                )
         if not has_code:
             for con in self.cons:
                 if con.stations:
-                    self.notes.append(self.say("stations_made", con=con.made["name"], first=con.stations[0].made["code"],
-                                               last=con.stations[-1].made["code"]))
+                    self.notes.append(
+                        self.say(
+                            "stations_made",
+                            con=con.made["name"],
+                            first=con.stations[0].made["code"],
+                            last=con.stations[-1].made["code"],
+                        )
+                    )
 
     # ---- the whole
 
@@ -415,7 +495,9 @@ class Maker:
         if not con.lists:
             con.row.fault("no_list", con=con.made["code"])
         if len(con.lists) > limits.MOST_LISTS:
-            con.lists[limits.MOST_LISTS].row.fault("too_many_lists", con=con.made["code"], most=limits.MOST_LISTS)
+            con.lists[limits.MOST_LISTS].row.fault(
+                "too_many_lists", con=con.made["code"], most=limits.MOST_LISTS
+            )
         for one in con.lists:
             one.candidates.sort(key=lambda found: (found.is_substitute, found.place))
             self.check_list(con, one)
@@ -423,7 +505,9 @@ class Maker:
         self.check_size(con)
 
     def check_list(self, con, one):
-        code, number = one.made["code"], len([found for found in one.candidates if not found.is_substitute])
+        code, number = one.made["code"], len(
+            [found for found in one.candidates if not found.is_substitute]
+        )
         substitutes = len(one.candidates) - number
         if not one.candidates:
             one.row.fault("no_candidate", code=code)
@@ -443,8 +527,12 @@ class Maker:
         if not number:
             con.row.fault("no_station", con=con.made["code"])
         elif number > limits.MOST_STATIONS[size or "large"]:
-            con.row.fault("too_many_stations", con=con.made["code"], number=number,
-                          most=limits.MOST_STATIONS[size or "large"])
+            con.row.fault(
+                "too_many_stations",
+                con=con.made["code"],
+                number=number,
+                most=limits.MOST_STATIONS[size or "large"],
+            )
         elif number > limits.MOST_STATIONS["normal"]:
             con.made["size"] = "large"
         if sum(limits.papers(station.made) for station in con.stations) > limits.MOST_PAPERS:
@@ -458,14 +546,22 @@ class Maker:
 
     def entry_of(self, con):
         kept = [key for _, key in self.other_candidates]
-        lists = [one.made | {"candidates": [found.name for found in one.candidates]} | one.others
-                 | {f"x_candidates_{key.removeprefix('x_')}": [found.others[key] for found in one.candidates]
-                    for key in kept}
-                 for one in con.lists]
+        lists = [
+            one.made
+            | {"candidates": [found.name for found in one.candidates]}
+            | one.others
+            | {
+                f"x_candidates_{key.removeprefix('x_')}": [
+                    found.others[key] for found in one.candidates
+                ]
+                for key in kept
+            }
+            for one in con.lists
+        ]
         stations = [station.made | station.others for station in con.stations]
         return con.made | con.others | {"list": lists, "station": stations}
 
 
 def identity(text):
-    """The letters and digits of a party's name, which tell it from others; empty where it has none."""
+    """The letters and digits of a party's name, which tell it from others; perhaps none."""
     return re.sub("[^a-z0-9]+", "-", folded(text)).strip("-")

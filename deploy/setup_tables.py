@@ -1,4 +1,6 @@
-"""The tables of `setup-from-tables`: CSV files of any usual encoding and separator, and the names of their columns."""
+"""The tables of `setup-from-tables`: CSV files of any usual encoding and separator.
+
+Their columns are called as `columns.toml` says."""
 
 import codecs
 import csv
@@ -11,8 +13,11 @@ from pathlib import Path
 
 HERE = Path(__file__).resolve().parent
 LANGUAGES = ("en", "es")
-MARKS = ((codecs.BOM_UTF8, "utf-8"), (codecs.BOM_UTF16_LE, "utf-16-le"),
-         (codecs.BOM_UTF16_BE, "utf-16-be"))
+MARKS = (
+    (codecs.BOM_UTF8, "utf-8"),
+    (codecs.BOM_UTF16_LE, "utf-16-le"),
+    (codecs.BOM_UTF16_BE, "utf-16-be"),
+)
 SEPARATORS = {";": "semicolons", ",": "commas", "\t": "tabs", "|": "bars"}
 # The columns that each table may have, by what they mean.
 FIELDS = {
@@ -22,10 +27,18 @@ FIELDS = {
     "stations": ("constituency", "code", "electors", "agents"),
 }
 COMPARED = ("lists", "candidates", "substitutes", "stations", "electors", "agents", "seats")
-NEEDED = {"constituencies": ("name", "seats"), "lists": ("name",), "candidates": ("list", "name"),
-          "stations": ("electors",)}
-OF_A_TABLE = {"constituencies": ("file", "drop"), "lists": ("file", "drop"),
-              "candidates": ("file", "keep"), "stations": ("file", "drop")}
+NEEDED = {
+    "constituencies": ("name", "seats"),
+    "lists": ("name",),
+    "candidates": ("list", "name"),
+    "stations": ("electors",),
+}
+OF_A_TABLE = {
+    "constituencies": ("file", "drop"),
+    "lists": ("file", "drop"),
+    "candidates": ("file", "keep"),
+    "stations": ("file", "drop"),
+}
 # UTF-8 that was read as Windows-1252: a capital letter of it, and one of the signs after 7F.
 GARBLED = re.compile("[ÃÂ][\x80-\xbfŒœŠšŸŽžƒˆ˜–—‘’‚“”„†‡•…‰‹›€™]")
 
@@ -50,7 +63,7 @@ def shown(value):
 
 
 class Faults:
-    """What is wrong with the tables: each with its file, and with its row as a spreadsheet counts."""
+    """The faults of the tables, each with its file and its row, as a spreadsheet counts."""
 
     def __init__(self, texts):
         self.texts, self.found = texts, []
@@ -141,13 +154,13 @@ def decoded(table, data, asked):
     """The text of a file, by the encoding that was asked for or else by a guess."""
     mark, encoding = next(((m, e) for m, e in MARKS if data.startswith(m)), (b"", asked or "utf-8"))
     try:
-        text, name = data[len(mark):].decode(encoding), encoding.upper()
+        text, name = data[len(mark) :].decode(encoding), encoding.upper()
         if not (mark or asked) and data.isascii():
             name = "ASCII"
     except UnicodeDecodeError as error:
         text, name = second_guess(table, data, mark or asked, encoding, error), "Windows-1252"
     if "\0" in text:
-        row = 1 + text[:text.index("\0")].count("\n")
+        row = 1 + text[: text.index("\0")].count("\n")
         table.faults.add(table.file, row, "nul")
         raise Stopped
     table.said["encoding"] = table.faults.texts.say("marked", encoding=name) if mark else name
@@ -161,9 +174,11 @@ def second_guess(table, data, is_known, encoding, error):
             return data.decode(encoding)
     except UnicodeDecodeError as second:
         error = second
-    row = 1 + error.object[:error.start].count(b"\n")
+    row = 1 + error.object[: error.start].count(b"\n")
     name = "Windows-1252" if encoding == "cp1252" else encoding.upper()
-    table.faults.add(table.file, row, "encoding", byte=f"{error.object[error.start]:02X}", encoding=name)
+    table.faults.add(
+        table.file, row, "encoding", byte=f"{error.object[error.start]:02X}", encoding=name
+    )
     raise Stopped from None
 
 
@@ -207,7 +222,10 @@ def read_table(name, folder, columns, encoding, faults, fields=None):
         if not found:
             faults.add(table.file, 1, "no_header")
             raise Stopped
-        table.said |= {"separator": faults.texts.say(SEPARATORS[separator]), "ends": line_ends(text)}
+        table.said |= {
+            "separator": faults.texts.say(SEPARATORS[separator]),
+            "ends": line_ends(text),
+        }
         table.header = [cleaned(cell) for cell in found[0][1]]
         find_columns(table, fields or FIELDS[name], found[0][0])
     except Stopped:
@@ -251,8 +269,14 @@ def find_columns(table, fields, row):
         table.places[name] = parts_of(name if asked is None else asked, where)
         for place, _, column in table.places[name]:
             if place is None and is_column(column):
-                table.faults.add(table.file, row, "no_column", column=column, field=name,
-                                 header=" | ".join(table.header))
+                table.faults.add(
+                    table.file,
+                    row,
+                    "no_column",
+                    column=column,
+                    field=name,
+                    header=" | ".join(table.header),
+                )
                 is_complete = False
     if not is_complete:
         raise Stopped
@@ -276,7 +300,8 @@ def parts_of(asked, where):
 
 
 def other_columns(table):
-    """The columns that have no meaning here, each with its place and the key that keeps it in a setup."""
+    """The columns without a meaning here: their places, and the keys that keep them in a setup."""
+
     def asked(key):
         return {cleaned(column).casefold() for column in table.columns.get(key, ())}
 
@@ -284,7 +309,13 @@ def other_columns(table):
     for place, column in enumerate(table.header):
         is_dropped = column.casefold() in asked("drop")
         is_kept = "keep" not in OF_A_TABLE[table.name] or column.casefold() in asked("keep")
-        if place in table.used and column.casefold() not in asked("keep") or not column or is_dropped or not is_kept:
+        if (
+            place in table.used
+            and column.casefold() not in asked("keep")
+            or not column
+            or is_dropped
+            or not is_kept
+        ):
             continue
         words = re.sub("[^a-z0-9]+", "_", folded(column)).strip("_").removeprefix("x_")
         base = key = f"x_{words or f'column_{place + 1}'}"
@@ -321,7 +352,8 @@ def check_key(key, value, faults):
     if key in FIELDS or key == "compare":
         fields = FIELDS.get(key, ("constituency", *COMPARED))
         kinds = dict.fromkeys(fields, is_column_value) | {
-            name: is_file_name if name == "file" else are_texts for name in OF_A_TABLE.get(key, ())}
+            name: is_file_name if name == "file" else are_texts for name in OF_A_TABLE.get(key, ())
+        }
     else:
         kinds = KINDS.get(key)
     if kinds is None:
@@ -353,11 +385,19 @@ def is_file_name(value):
 
 def is_column_value(value):
     if isinstance(value, list):
-        return bool(value) and not any(isinstance(one, list) for one in value) and all(map(is_column_value, value))
+        return (
+            bool(value)
+            and not any(isinstance(one, list) for one in value)
+            and all(map(is_column_value, value))
+        )
     if isinstance(value, dict):
         digits = value.get("digits", 0)
-        return (is_text(value.get("column")) and type(digits) is int and 0 <= digits <= 16
-                and set(value) <= {"column", "digits"})
+        return (
+            is_text(value.get("column"))
+            and type(digits) is int
+            and 0 <= digits <= 16
+            and set(value) <= {"column", "digits"}
+        )
     return is_text(value)
 
 
@@ -369,8 +409,12 @@ def is_encoding(value):
 
 
 def is_range(value):
-    return (isinstance(value, list) and len(value) == 2 and all(type(one) is int for one in value)
-            and 0 <= value[0] <= value[1])
+    return (
+        isinstance(value, list)
+        and len(value) == 2
+        and all(type(one) is int for one in value)
+        and 0 <= value[0] <= value[1]
+    )
 
 
 CODES = {}
@@ -380,7 +424,11 @@ KINDS = {
     "comment": is_text,
     "profile": lambda value: isinstance(value, list),
     "codes": CODES,
-    "rules": {"candidates": lambda value: value in ("seats", "seats or more", "any"),
-              "substitutes": is_range, "namesakes": are_texts, "candidate_words": are_texts,
-              "substitute_words": are_texts},
+    "rules": {
+        "candidates": lambda value: value in ("seats", "seats or more", "any"),
+        "substitutes": is_range,
+        "namesakes": are_texts,
+        "candidate_words": are_texts,
+        "substitute_words": are_texts,
+    },
 }
