@@ -156,7 +156,7 @@ class Faults(Case):
         found = self.refused()
         self.assertEqual(sum(line.startswith("stations.csv, row ") for line in found), 100)
         self.assertEqual(
-            found[-2:], [".. and 50 more", "refused: 150 faults, and no setup was written"]
+            found[-2:], [".. and 50 more", "refused, and no setup was written; faults: 150"]
         )
 
     def test_the_same_in_spanish(self):
@@ -233,7 +233,7 @@ class Files(Case):
                         self.assertTrue(
                             said.startswith(
                                 f"constituencies.csv: {names[encoding]}, {called}, line ends"
-                                f" {ends}, 2 rows\n"
+                                f" {ends}, rows: 2\n"
                             ),
                             said,
                         )
@@ -331,7 +331,7 @@ class Files(Case):
             (self.folder / name).unlink()
             self.assertEqual(
                 self.refused(),
-                [f"{name}: there is no such file", "refused: 1 faults, and no setup was written"],
+                [f"{name}: there is no such file", "refused, and no setup was written; faults: 1"],
             )
             (self.folder / name).write_bytes(b"")
             self.assertEqual(self.refused()[0], f"{name}, row 1: the table is empty")
