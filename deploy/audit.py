@@ -19,7 +19,7 @@ follow from assertions such as "ROBLE's seat 4 comes before SAUCE's seat 1", eac
 coefficient, has at least some value. Its margin is how far the recorded sum is above the greatest that would make it false.
 The error of a station is how far its recorded counts are above its papers in such a sum, over the margin; of all
 assertions the largest. Where an assertion is false the errors of all stations are together 1 at least. The bound of a
-station is the largest error that any votes of its electors can leave. Stations are drawn, again and again among all, with
+station is the largest error that any votes of its electors and agents can leave. Stations are drawn, again and again among all, with
 the chance of their bounds. Each draw multiplies the risk by (1 - 1/U) / (1 - e/u): U is the sum of all bounds, u the bound
 of the station, e its error. Errors and bounds are whole millionths, rounded up.
 """
@@ -34,7 +34,7 @@ import sys
 import tomllib
 from bisect import bisect_right
 from collections import Counter
-from dataclasses import dataclass
+from dataclasses import dataclass, field
 from fractions import Fraction
 from itertools import accumulate
 from pathlib import Path
@@ -69,6 +69,11 @@ class Constituency:
     base: str
     lists: list  # their codes
     electors: dict  # of each station, by its code
+    agents: dict = field(default_factory=dict)  # of the stations at which some vote beyond the electors
+
+    def most(self, station):
+        """The most papers that a station may have."""
+        return self.electors[station] + self.agents.get(station, 0)
 
 
 def read_setup(file):
@@ -85,7 +90,8 @@ def read_setup(file):
         need(con["method"] in RULES and con["base"] in BASES, f"{file}: the rule of {con['code']} is not known")
     keys = ("code", "name", "seats", "method", "threshold", "base")
     return [Constituency(*(con[key] for key in keys), [row["code"] for row in con[lists]],
-                         {row["code"]: row["electors"] for row in con[stations]}) for con in entries]
+                         {row["code"]: row["electors"] for row in con[stations]},
+                         {row["code"]: row["agents"] for row in con[stations] if row.get("agents")}) for con in entries]
 
 
 def read_rows(file):
@@ -117,8 +123,9 @@ def counts_of(file, con, second, header, rows):
         wrong = [field for field in row[2:] if not (field.isascii() and field.isdigit() and len(field) < 10)]
         need(not wrong, f"{where}: {''.join(wrong[:1])!r} of station {station} is not a number")
         blank, spoiled, *votes = map(int, row[2:])
-        most, papers = con.electors[station], sum(votes) + blank + spoiled
-        need(papers <= most, f"{where}: {papers} papers of station {station}, which has {most} electors")
+        papers, agents = sum(votes) + blank + spoiled, con.agents.get(station)
+        need(papers <= con.most(station), f"{where}: {papers} papers of station {station}, which has {con.electors[station]} electors"
+             + (f" and {agents} agents" if agents else ""))
         found[station] = row[1], [*votes, blank, spoiled]
     return found
 
@@ -204,7 +211,7 @@ class Audit:
         self.by_most = [] if self.lots else sorted(
             ((-((it.low - max(it.high, 0)) * MILLION // it.margin), row) for it, row in zip(self.assertions, self.rows)), reverse=True)
         self.bounds = {} if self.lots else {
-            station: self.bound(self.seen(recorded[station]), electors) for station, electors in con.electors.items()}
+            station: self.bound(self.seen(recorded[station]), con.most(station)) for station in con.electors}
         self.stations, self.sums = list(self.bounds), list(accumulate(self.bounds.values()))
 
     def seen(self, counts):
@@ -258,7 +265,7 @@ class Audit:
 
     def possible(self, it):
         """The errors that all stations together can have in this assertion alone."""
-        most = it.recorded - it.low * sum(self.con.electors.values())
+        most = it.recorded - it.low * sum(map(self.con.most, self.con.electors))
         return Fraction(most, it.margin) if it.margin > 0 else math.inf
 
     def largest(self, counts):
@@ -266,14 +273,14 @@ class Audit:
         return -min(-(a * counts[i] + b * counts[j] + c * counts[k]) * MILLION // margin
                     for (i, a), (j, b), (k, c), _, margin in self.rows)
 
-    def bound(self, counts, electors):
-        """Of all assertions the largest of: what these counts of a station add to the sum, less the least that papers of all its
-        electors could add, over the margin. What cannot come to more than was found is not looked at."""
+    def bound(self, counts, papers):
+        """Of all assertions the largest of: what these counts of a station add to the sum, less the least that so many papers, of
+        all its electors and agents, could add, over the margin. What cannot come to more than was found is not looked at."""
         found = -math.inf
         for most, ((i, a), (j, b), (k, c), low, margin) in self.by_most:
-            if found >= most * electors:
+            if found >= most * papers:
                 break
-            found = max(found, -((low * electors - a * counts[i] - b * counts[j] - c * counts[k]) * MILLION // margin))
+            found = max(found, -((low * papers - a * counts[i] - b * counts[j] - c * counts[k]) * MILLION // margin))
         return found
 
     # ---- draws
@@ -350,7 +357,8 @@ def print_outcome(audit):
     con, electors = audit.con, sum(audit.con.electors.values())
     threshold = f", with a threshold of {per_cent(con.threshold, 10000)} per cent of {BASES[con.base]}" if con.threshold else ""
     print(f"{con.code} {con.name}: {con.seats} seats by {RULES[con.method]}{threshold}")
-    print(f"{len(con.electors):,} stations, all closed, with {electors:,} electors; {sum(audit.votes):,} votes for lists, "
+    agents = f" and {sum(con.agents.values()):,} agents" if con.agents else ""
+    print(f"{len(con.electors):,} stations, all closed, with {electors:,} electors{agents}; {sum(audit.votes):,} votes for lists, "
           f"{audit.blank:,} blank, {audit.spoiled:,} spoiled")
     in_question = {place for it in audit.lots for place, _ in it.terms[:2]}
     for i, code in enumerate(con.lists):

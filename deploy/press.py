@@ -287,7 +287,8 @@ def read_setup(file):
         profile = {"lot": "fixed"} | profiles[con["profile"]]
         rule = {key: profile[key] for key in ("method", "threshold", "base", "lot")}
         lists = [{key: row[key] for key in ("code", "name", "candidates")} for row in con["list"]]
-        stations = [{key: row[key] for key in ("code", "electors")} for row in con["station"]]
+        stations = [{"code": row["code"], "electors": row["electors"]} | ({"agents": row["agents"]} if row.get("agents") else {})
+                    for row in con["station"]]
         found.append({"code": con["code"], "name": con["name"], "seats": con["seats"], **rule, "lists": lists,
                       "stations": stations})
     return found

@@ -123,7 +123,8 @@ SCHEMAS = {
         "lot": described({"enum": ["fixed", "alternating"]},
                          "Alternating: the order of a lot is turned round for the second, fourth, .. seat of its lists, but not under hare."),
         "lists": an_array(an_object({"code": CODE, "name": TEXT, "candidates": an_array(TEXT)})),
-        "stations": an_array(an_object({"code": CODE, "electors": COUNT}))}))),
+        "stations": an_array(an_object({"code": CODE, "electors": COUNT, "agents": described(
+            COUNT, "Those who may vote there beyond its electors; missing where there are none.")}, "agents"))}))),
     "manifest": ("All files: manifest.json", an_object(
         {"version": HEAD["version"], "time": described(MOMENT, "When the office was last asked. Of the files for programs this one alone is new each time."),
          "record": described(an_object(RECORD), "The record of commands at that time."),

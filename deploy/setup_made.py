@@ -1,0 +1,567 @@
+"""The setup of `setup-from-tables`: what the rows of the tables say, with each fault of them."""
+
+import re
+from collections import Counter, defaultdict
+from dataclasses import dataclass, field
+
+import setup_limits as limits
+from setup_tables import folded, other_columns
+
+RULES = {"loreg": {"code": "loreg", "method": "dhondt", "threshold": 300, "base": "valid"}}
+# A constituency of one seat has the candidate with most votes (LOREG 163.2).
+RULES_OF_ONE_SEAT = {
+    "loreg": {"code": "loreg-one", "method": "dhondt", "threshold": 0, "base": "valid"}
+}
+CANDIDATE_WORDS = ["", "T", "TITULAR", "C", "CANDIDATO", "CANDIDATA", "CANDIDATE"]
+SUBSTITUTE_WORDS = ["S", "SUPLENTE", "SUBSTITUTE"]
+
+
+@dataclass
+class Entry:
+    """A row of a table, and the entry of the setup that it becomes."""
+
+    row: object
+    made: dict
+    others: dict = field(default_factory=dict)  # its columns without a meaning, by their keys
+
+
+@dataclass
+class Constituency(Entry):
+    lists: list = field(default_factory=list)
+    stations: list = field(default_factory=list)
+
+
+@dataclass
+class PartyList(Entry):
+    party: str = ""  # what makes it the same party everywhere, and as the table has it
+    text: str = ""
+    order: int = 0
+    candidates: list = field(default_factory=list)
+    names: dict = field(default_factory=dict)  # of its candidates, by their folded names
+
+
+@dataclass
+class Candidate(Entry):
+    name: str = ""
+    is_substitute: bool = False
+    place: int = 0
+
+
+class Maker:
+    """Makes a setup of the tables, and collects the faults."""
+
+    def __init__(self, tables, columns, faults, rule=None, entry=None):
+        self.tables, self.columns, self.faults = tables, columns, faults
+        self.rule, self.entry = rule, entry
+        self.rules = columns.get("rules", {})
+        self.cons, self.found_by, self.codes_made, self.notes = [], {}, {}, []
+        self.without_zeros, self.profiles, self.other_candidates = {}, [], []
+
+    def say(self, key, /, **given):
+        return self.faults.texts.say(key, **given)
+
+    def make(self):
+        """The setup; without a meaning where there are faults."""
+        self.take_profiles()
+        self.take_constituencies()
+        self.take_lists()
+        self.give_codes()
+        self.take_candidates()
+        self.take_stations()
+        for con in self.cons:
+            self.check_constituency(con)
+        self.check_persons()
+        return self.setup()
+
+    # ---- what every table has
+
+    def text(self, row, name):
+        """A name of 1 to 80 bytes; an empty text and a fault where it is none."""
+        text = row.table.value(row, name)
+        if not text:
+            row.fault("missing", field=self.column(row.table, name))
+        elif not limits.is_name(text):
+            row.fault(
+                "name_long",
+                field=self.column(row.table, name),
+                bytes=len(text.encode()),
+                most=limits.MOST_NAME_BYTES,
+                name=text,
+            )
+        return text
+
+    def column(self, table, name):
+        """The columns of a field, as its table calls them."""
+        parts = table.places.get(name, ())
+        return ", ".join(table.header[place] for place, _, _ in parts if place is not None) or name
+
+    def number(self, row, name, least, most, absent=None):
+        """A whole number of a field, or None and a fault."""
+        text = row.table.value(row, name)
+        is_number = text.isascii() and text.isdigit() and len(text) <= 18
+        if is_number and least <= int(text) <= most:
+            return int(text)
+        if text or absent is None:
+            key = "out_of_range" if is_number else "not_number" if text else "missing"
+            row.fault(key, field=self.column(row.table, name), value=text, least=least, most=most)
+        return None if text else absent
+
+    def word(self, row, name, words):
+        text = row.table.value(row, name)
+        if text and text not in words:
+            row.fault(
+                "bad_word", field=self.column(row.table, name), value=text, words=", ".join(words)
+            )
+        return text if text in words else None
+
+    def is_new_code(self, code, row, seen, key="code_twice"):
+        """Whether a code is one, and no other row of `seen` has it, in capitals or not."""
+        if not limits.is_code(code):
+            row.fault("not_code", value=code)
+            return False
+        other, at = seen.setdefault(code.lower(), (code, row))
+        if at is row:
+            return True
+        row.fault(
+            key if other == code else "capitals",
+            value=code,
+            other=other,
+            file=at.table.file,
+            row=at.number,
+        )
+        return False
+
+    def constituency_of(self, row):
+        """The constituency that a row names, or the only one."""
+        table = row.table
+        if not table.has("constituency"):
+            return self.cons[0] if len(self.cons) == 1 else None
+        text = table.code(row, "constituency")
+        if not text:
+            row.fault("missing", field=self.column(table, "constituency"))
+            return None
+        found = self.found_by.get(text) or self.found_by.get(folded(text))
+        if found is None:
+            near = self.without_zeros.get(text.lstrip("0"))
+            row.fault(
+                "lost_zeros" if near else "no_constituency",
+                value=text,
+                other=near,
+                file=self.tables["constituencies"].file,
+            )
+        return found
+
+    def note_once(self, key, /, **given):
+        said = self.say(key, **given)
+        if said not in self.notes:
+            self.notes.append(said)
+
+    # ---- constituencies
+
+    def take_profiles(self):
+        self.profiles = list(self.columns.get("profile", []))
+        if self.rule:
+            self.profiles = [RULES[self.rule], RULES_OF_ONE_SEAT[self.rule], *self.profiles]
+        try:
+            limits.profiles_of({"profile": self.profiles or [RULES["loreg"]]})
+        except limits.Fault as fault:
+            self.faults.add("columns.toml", None, "bad_profile", fault=fault)
+            self.profiles = []
+            return
+        if not self.profiles:
+            self.faults.add("columns.toml", None, "no_rule")
+        for profile in self.profiles:
+            for key in profile.keys() - {"code", "method", "threshold", "base", "lot"}:
+                self.faults.add("columns.toml", None, "unknown_key", key=f"profile.{key}")
+
+    def take_constituencies(self):
+        table, seen = self.tables["constituencies"], {}
+        others = other_columns(table)
+        for row in table.rows:
+            con = self.take_constituency(table, row, seen)
+            con.others = {key: row.cells[place] for place, key in others if row.cells[place]}
+            self.cons.append(con)
+        # A name stands for a constituency where no code is the same, and no other has the name.
+        names = Counter(folded(con.made["name"]) for con in self.cons)
+        self.without_zeros = {code.lstrip("0"): code for code in self.found_by}
+        for con in self.cons:
+            name = folded(con.made["name"])
+            if names[name] == 1:
+                self.found_by.setdefault(name, con)
+        for table in self.tables.values():
+            if (
+                len(self.cons) > 1
+                and table.name != "constituencies"
+                and not table.has("constituency")
+            ):
+                self.faults.add(table.file, 1, "no_constituency_column")
+
+    def take_constituency(self, table, row, seen):
+        name = self.text(row, "name")
+        raw = table.code(row, "code")
+        code = raw or self.made_code(name, seen)
+        if self.is_new_code(code, row, seen) and not raw:
+            self.notes.append(self.say("code_made", code=code, name=name))
+        made = {
+            "code": code,
+            "name": name,
+            "seats": self.number(row, "seats", 1, limits.MOST_SEATS),
+        }
+        made["profile"] = self.profile_of(row, made["seats"])
+        entry = self.word(row, "entry", limits.ENTRIES) or self.entry
+        size = self.word(row, "size", limits.SIZES)
+        if entry == "double":
+            made["entry"] = entry
+        con = Constituency(row, made | ({"size": size} if size else {}))
+        self.found_by.setdefault(code, con)
+        return con
+
+    def made_code(self, text, seen):
+        """A code of the letters and digits of a text, which no other row has."""
+        base = (identity(text).upper() or "X")[:16].strip("-")
+        code, number = base, 1
+        while code.lower() in seen:
+            number += 1
+            code = f"{base[:15 - len(str(number))]}-{number}"
+        return code
+
+    def profile_of(self, row, seats):
+        text = row.table.value(row, "profile")
+        if text:
+            if text not in [profile["code"] for profile in self.profiles]:
+                row.fault("unknown_profile", value=text)
+            return text
+        if self.rule:
+            return (RULES_OF_ONE_SEAT if seats == 1 else RULES)[self.rule]["code"]
+        if len(self.profiles) > 1:
+            row.fault("which_profile")
+        return self.profiles[0]["code"] if self.profiles else None
+
+    # ---- lists
+
+    def take_lists(self):
+        table = self.tables["lists"]
+        others = other_columns(table)
+        for number, row in enumerate(table.rows, 1):
+            con = self.constituency_of(row)
+            text = table.value(row, "party") or table.value(row, "name")
+            made = {"code": table.code(row, "code"), "name": self.text(row, "name")}
+            kept = {key: row.cells[place] for place, key in others if row.cells[place]}
+            one = PartyList(row, made, kept, party=identity(text) or folded(text), text=text)
+            order = self.number(row, "order", 0, 10**6) if table.has("order") else number
+            one.order = 10**6 + number if order is None else order
+            if con:
+                self.add_list(con, one)
+
+    def add_list(self, con, one):
+        for other in con.lists:
+            if one.party and one.party == other.party:
+                one.row.fault("party_twice", value=one.text, row=other.row.number)
+                return
+            if one.order == other.order:
+                one.row.fault("order_twice", value=one.order, row=other.row.number)
+                return
+        con.lists.append(one)
+
+    def give_codes(self):
+        """Gives each party one code everywhere: its own, one of `columns.toml`, or a new one."""
+        lists = [one for con in self.cons for one in con.lists]
+        given, owner = {}, {}
+        own = {
+            identity(text) or folded(text): code
+            for text, code in self.columns.get("codes", {}).items()
+        }
+        for party, code in own.items():
+            if not limits.is_code(code):
+                self.faults.add("columns.toml", None, "not_code", value=code)
+            given[party] = (code, None)
+        for one in lists:
+            self.take_code(one, given, owner)
+        taken = {code.lower(): (code, None) for code, _ in given.values()}
+        for party in sorted({one.party for one in lists if one.party not in given}):
+            code = self.made_code(party, taken)
+            taken[code.lower()] = given[party] = (code, None)
+            self.codes_made[party] = code
+        texts = {}
+        for one in lists:
+            one.made["code"] = one.made["code"] or given[one.party][0]
+            other = texts.setdefault(one.party, one)
+            if other.text != one.text and one.party in self.codes_made:
+                self.note_once(
+                    "same_party", value=one.text, other=other.text, code=one.made["code"]
+                )
+        for con in self.cons:
+            self.check_codes(con)
+
+    def take_code(self, one, given, owner):
+        """Checks the code of a list in its table: its party has it everywhere, and no other."""
+        code = one.made["code"]
+        if not code:
+            return
+        has_party = one.row.table.has("party")
+        if not limits.is_code(code):
+            one.row.fault("not_code", value=code)
+        elif has_party and given.setdefault(one.party, (code, one.row))[0] != code:
+            other, row = given[one.party]
+            one.row.fault(
+                "party_two_codes",
+                value=one.text,
+                code=code,
+                other=other,
+                row=row.number if row else "-",
+            )
+        else:
+            party, row = owner.setdefault(code.lower(), (one.party, one.row))
+            if has_party and party != one.party:
+                one.row.fault("code_two_parties", code=code, value=one.text, row=row.number)
+            given.setdefault(one.party, (code, one.row))
+
+    def check_codes(self, con):
+        seen = {}
+        for one in con.lists:
+            other = seen.setdefault(one.made["code"], one)
+            if other is not one:
+                one.row.fault(
+                    "code_twice",
+                    value=one.made["code"],
+                    file=one.row.table.file,
+                    row=other.row.number,
+                )
+
+    # ---- candidates
+
+    def take_candidates(self):
+        table = self.tables["candidates"]
+        self.other_candidates = other_columns(table)
+        for number, row in enumerate(table.rows, 1):
+            con = self.constituency_of(row)
+            name = self.text(row, "name")
+            one = con and self.list_of(con, row)
+            is_substitute = self.is_substitute(row)
+            place = (
+                self.number(row, "order", 1, limits.MOST_CANDIDATES)
+                if table.has("order")
+                else number
+            )
+            if one and name and place is not None and is_substitute is not None:
+                found = Candidate(
+                    row,
+                    {},
+                    {key: row.cells[place] for place, key in self.other_candidates},
+                    name,
+                    is_substitute,
+                    place,
+                )
+                self.add_candidate(one, found)
+
+    def list_of(self, con, row):
+        """The list that a row of candidates names: by code, by party, or by name."""
+        text = row.table.value(row, "list")
+        if not text:
+            row.fault("missing", field=self.column(row.table, "list"))
+            return None
+        for key in (
+            lambda one: one.made["code"] == text,
+            lambda one: one.text == text,
+            lambda one: one.party == (identity(text) or folded(text)),
+            lambda one: folded(one.made["name"]) == folded(text),
+        ):
+            found = [one for one in con.lists if key(one)]
+            if len(found) == 1:
+                return found[0]
+            if found:
+                row.fault("which_list", value=text, con=con.made["code"])
+                return None
+        row.fault("no_such_list", value=text, con=con.made["code"])
+        return None
+
+    def is_substitute(self, row):
+        text = row.table.value(row, "kind").upper()
+        words = {
+            name: {word.upper() for word in self.rules.get(name, default)}
+            for name, default in (
+                ("candidate_words", CANDIDATE_WORDS),
+                ("substitute_words", SUBSTITUTE_WORDS),
+            )
+        }
+        if text in words["substitute_words"]:
+            return True
+        if text in words["candidate_words"]:
+            return False
+        row.fault("bad_kind", field=self.column(row.table, "kind"), value=text)
+        return None
+
+    def add_candidate(self, one, candidate):
+        for other in one.candidates:
+            if (other.is_substitute, other.place) == (candidate.is_substitute, candidate.place):
+                candidate.row.fault("place_twice", value=candidate.place, row=other.row.number)
+                return
+        one.candidates.append(candidate)
+
+    def check_places(self, one):
+        """The places of a list have no gap, and its substitutes count from one or go on."""
+        if not one.candidates[0].row.table.has("order"):
+            return
+        last = 0
+        for is_substitute in (False, True):
+            own = [found for found in one.candidates if found.is_substitute == is_substitute]
+            first = last + 1 if is_substitute and own and own[0].place == last + 1 else 1
+            for place, candidate in enumerate(own, first):
+                if candidate.place != place:
+                    candidate.row.fault(
+                        "place_missing", place=place, value=candidate.place, code=one.made["code"]
+                    )
+                    return
+            last = len(own)
+
+    def check_persons(self):
+        """No name twice in a constituency, and no person twice at all."""
+        known = {folded(name) for name in self.rules.get("namesakes", ())}
+        persons, elsewhere = {}, {}
+        for con in self.cons:
+            here = {}
+            for one in con.lists:
+                for candidate in one.candidates:
+                    self.check_person(con, one, candidate, known, persons, here, elsewhere)
+
+    def check_person(self, con, one, candidate, known, persons, here, elsewhere):
+        row = candidate.row
+        person, name = identity(row.table.value(row, "person")).replace("-", ""), folded(
+            candidate.name
+        )
+        if person:
+            other = persons.setdefault(person, candidate)
+            if other is not candidate:
+                row.fault("person_twice", value=candidate.name, row=other.row.number)
+            return
+        if name in known:
+            return
+        other = here.setdefault(name, candidate)
+        if other is not candidate:
+            row.fault("person_twice", value=candidate.name, row=other.row.number)
+            return
+        other, at = elsewhere.setdefault(name, (candidate, con))
+        if at is not con:
+            self.notes.append(
+                self.say(
+                    "namesake",
+                    value=candidate.name,
+                    row=row.number,
+                    other=other.row.number,
+                    file=row.table.file,
+                )
+            )
+
+    # ---- stations
+
+    def take_stations(self):
+        table, seen = self.tables["stations"], {}
+        others = other_columns(table)
+        has_code, numbers = table.has("code"), defaultdict(int)
+        for row in table.rows:
+            con = self.constituency_of(row)
+            electors = self.number(row, "electors", 1, limits.MOST_ELECTORS)
+            agents = self.number(row, "agents", 0, limits.MOST_AGENTS, absent=0)
+            if electors and agents and electors + agents > limits.MOST_ELECTORS:
+                row.fault("papers", most=limits.MOST_ELECTORS)
+            code = table.code(row, "code")
+            if has_code and not code:
+                row.fault("missing", field=self.column(table, "code"))
+            if con is None or has_code and not code:
+                continue
+            if not has_code:
+                numbers[con.made["code"]] += 1
+                code = f"{con.made['code']}-{numbers[con.made['code']]}"
+            if self.is_new_code(code, row, seen) and electors and agents is not None:
+                made = {"code": code, "electors": electors} | ({"agents": agents} if agents else {})
+                con.stations.append(
+                    Entry(row, made, {key: row.cells[at] for at, key in others if row.cells[at]})
+                )
+        if not has_code:
+            for con in self.cons:
+                if con.stations:
+                    self.notes.append(
+                        self.say(
+                            "stations_made",
+                            con=con.made["name"],
+                            first=con.stations[0].made["code"],
+                            last=con.stations[-1].made["code"],
+                        )
+                    )
+
+    # ---- the whole
+
+    def check_constituency(self, con):
+        if not con.lists:
+            con.row.fault("no_list", con=con.made["code"])
+        if len(con.lists) > limits.MOST_LISTS:
+            con.lists[limits.MOST_LISTS].row.fault(
+                "too_many_lists", con=con.made["code"], most=limits.MOST_LISTS
+            )
+        for one in con.lists:
+            one.candidates.sort(key=lambda found: (found.is_substitute, found.place))
+            self.check_list(con, one)
+        con.lists.sort(key=lambda one: one.order)
+        self.check_size(con)
+
+    def check_list(self, con, one):
+        code, number = one.made["code"], len(
+            [found for found in one.candidates if not found.is_substitute]
+        )
+        substitutes = len(one.candidates) - number
+        if not one.candidates:
+            one.row.fault("no_candidate", code=code)
+            return
+        self.check_places(one)
+        if len(one.candidates) > limits.MOST_CANDIDATES:
+            one.row.fault("too_many_candidates", code=code, most=limits.MOST_CANDIDATES)
+        seats, rule = con.made["seats"], self.rules.get("candidates", "seats or more")
+        if seats and (rule != "any" and number < seats or rule == "seats" and number > seats):
+            one.row.fault("candidates", code=code, number=number, seats=seats, con=con.made["code"])
+        least, most = self.rules.get("substitutes", (0, limits.MOST_CANDIDATES))
+        if not least <= substitutes <= most:
+            one.row.fault("substitutes", code=code, number=substitutes, least=least, most=most)
+
+    def check_size(self, con):
+        number, size = len(con.stations), con.made.pop("size", None)
+        if not number:
+            con.row.fault("no_station", con=con.made["code"])
+        elif number > limits.MOST_STATIONS[size or "large"]:
+            con.row.fault(
+                "too_many_stations",
+                con=con.made["code"],
+                number=number,
+                most=limits.MOST_STATIONS[size or "large"],
+            )
+        elif number > limits.MOST_STATIONS["normal"]:
+            con.made["size"] = "large"
+        if sum(limits.papers(station.made) for station in con.stations) > limits.MOST_PAPERS:
+            con.row.fault("too_many_electors", con=con.made["code"], most=limits.MOST_PAPERS)
+
+    def setup(self):
+        """The entries of the setup, in the order of the tables."""
+        used = {con.made["profile"] for con in self.cons}
+        profiles = [profile for profile in self.profiles if profile["code"] in used]
+        return {"profile": profiles, "constituency": [self.entry_of(con) for con in self.cons]}
+
+    def entry_of(self, con):
+        kept = [key for _, key in self.other_candidates]
+        lists = [
+            one.made
+            | {"candidates": [found.name for found in one.candidates]}
+            | one.others
+            | {
+                f"x_candidates_{key.removeprefix('x_')}": [
+                    found.others[key] for found in one.candidates
+                ]
+                for key in kept
+            }
+            for one in con.lists
+        ]
+        stations = [station.made | station.others for station in con.stations]
+        return con.made | con.others | {"list": lists, "station": stations}
+
+
+def identity(text):
+    """The letters and digits of a party's name, which tell it from others; perhaps none."""
+    return re.sub("[^a-z0-9]+", "-", folded(text)).strip("-")
