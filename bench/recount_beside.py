@@ -52,9 +52,10 @@ def main():
         count = min(IN_AN_OFFICE, given.polls - first)
         found, differs = tried(count, f"{given.seed} {first}")
         kinds, wrong = kinds + found, wrong + len(differs)
+        print(f"{first + count} polls tried", file=sys.stderr, flush=True)
         for differing in differs:
             print("differs:", *differing, flush=True)
-    print(*(f"{count:7} {kind}" for kind, count in sorted(kinds.items())), sep="\n")
+    print(*(f"{count:7,} {kind}" for kind, count in sorted(kinds.items())), sep="\n")
     print(f"{time.monotonic() - began:.0f} s")
     print(f"{given.polls} polls, {wrong} differ")
     return 1 if wrong else 0
