@@ -47,9 +47,12 @@ class PapersOfASpreadsheet(Case):
                 self.assertTrue(ran.out.endswith("The papers give the same seats.\n"), ran.out)
 
     def test_a_quote_that_is_left_open(self):
-        """It swallows no rows."""
-        ran = assessed(PAPERS.replace("s2,0,", 's2,"0,'))
-        self.assertEqual((ran.status, ran.out, ran.err.count("\n")), (2, "", 1))
+        """It swallows no rows; at the end of the file it is a row that was cut."""
+        last = PAPERS.rstrip("\n").removesuffix("30")
+        for papers in (PAPERS.replace("s2,0,", 's2,"0,'), f'{last}"30', f'{last}"3"0'):
+            with self.subTest(papers=papers):
+                ran = assessed(papers)
+                self.assertEqual((ran.status, ran.out, ran.err.count("\n")), (2, "", 1))
 
 
 class Lots(Case):
