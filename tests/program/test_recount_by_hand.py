@@ -1,11 +1,13 @@
 """`examples/recount.py` on elections that are worked by hand, and beside a search of all seats."""
 
 import importlib.util
+import io
 import itertools
-import subprocess
 import sys
+from contextlib import redirect_stderr, redirect_stdout
 from fractions import Fraction
 from pathlib import Path
+from unittest.mock import patch
 
 from tests.support.case import ROOT, Case
 from tests.support.office import SETUP, constituency, party_list, profile, station, with_stations
@@ -19,7 +21,6 @@ from tests.support.program import (
     put,
     spoiled,
 )
-from tests.support.running import PATIENCE
 from tests.support.twin_town import twin_town
 
 RECOUNT = ROOT / "examples/recount.py"
@@ -113,8 +114,7 @@ class Groups(Case):
             given = [recount.allotted(con, named, lists, list(order)) for order in orders]
             given = {tuple(one[n] for n in lists) for one in given}
             of_search = {tuple(one[n] for n in lists) for one in open_ones}
-            if (found, given) != (wanted, of_search):
-                self.fail((method, votes, seats, found, wanted, given, of_search))
+            self.assertEqual((found, given), (wanted, of_search), (method, votes, seats))
 
     def test_a_list_in_the_middle(self):
         """Of three equal lists and two seats the second has one in both orders of the setup."""
@@ -126,10 +126,15 @@ class Groups(Case):
 
 
 def counted(*words):
-    ran = subprocess.run(
-        [sys.executable, RECOUNT, *words], capture_output=True, text=True, timeout=PATIENCE
-    )
-    return Ran(ran.returncode, ran.stdout, ran.stderr)
+    """The status and the texts of a recount with these words."""
+    out, errors = io.StringIO(), io.StringIO()
+    words = ["recount.py", *words]
+    with redirect_stdout(out), redirect_stderr(errors), patch.object(sys, "argv", words):
+        try:
+            status = recount.main()
+        except SystemExit as ended:
+            status = ended.code
+    return Ran(status, out.getvalue(), errors.getvalue())
 
 
 def town(code="c1", seats=3, lists="AB", rule="d0"):
