@@ -48,7 +48,7 @@ def by_quotients(rule, seats, votes, lists, lot):
 
 
 def by_remainders(seats, votes, lists, lot):
-    total = sum(votes[n] for n in lists) or 1  # there may be no such list
+    total = sum(votes[n] for n in lists)
     given = {n: votes[n] * seats // total if n in lists else 0 for n in votes}
     claims = sorted((-(votes[n] * seats % total), -votes[n], place(n, lot), n) for n in lists)
     for _, _, _, n in claims[:seats - sum(given.values())]:
