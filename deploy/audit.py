@@ -73,7 +73,7 @@ class Constituency:
 
 def read_setup(file):
     """The constituencies of a setup, as the office takes it or as it is published."""
-    text = file.read_text(encoding="utf-8")
+    text = file.read_text(encoding="utf-8-sig")
     lists, stations = "list", "station"
     if file.suffix == ".json":
         entries, lists, stations = json.loads(text), "lists", "stations"

@@ -180,7 +180,7 @@ def count_database(file):
 
 def read_setup(text):
     """The constituencies, each with its rule and the most votes that each station can have."""
-    setup = tomllib.loads(text)
+    setup = tomllib.loads(text.removeprefix("\ufeff"))
     rules = {profile["code"]: profile for profile in setup["profile"]}
     for con in setup["constituency"]:
         con["rule"] = rule = rules[con["profile"]]

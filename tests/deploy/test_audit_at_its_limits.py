@@ -19,7 +19,8 @@ SETUP = (
 )
 RETURNS = "station,slip,blank,spoiled,A,B\ns1,p1,0,0,60,20\ns2,p2,0,0,50,30\ns3,p3,0,0,10,30\n"
 PAPERS = "station,drawn,blank,spoiled,A,B\ns1,0,0,0,60,20\ns2,0,0,0,50,30\ns3,0,0,0,10,30\n"
-ASSESS = f"assess --setup setup.toml --returns returns.csv --papers papers.csv --seed {SEED} --risk 5"
+FILES = "--setup setup.toml --returns returns.csv"
+ASSESS = f"assess {FILES} --papers papers.csv --seed {SEED} --risk 5"
 
 
 def assessed(papers, returns=RETURNS):
@@ -45,6 +46,12 @@ class PapersOfASpreadsheet(Case):
                 ran = assessed(papers)
                 self.assertEqual((ran.status, ran.err), (0, ""))
                 self.assertTrue(ran.out.endswith("The papers give the same seats.\n"), ran.out)
+
+    def test_a_setup_and_returns_with_a_mark(self):
+        write("setup.toml", "\ufeff" + SETUP)
+        write("returns.csv", "\ufeff" + RETURNS)
+        ran = audit(*"plan --setup setup.toml --returns returns.csv --risk 5".split())
+        self.assertEqual((ran.status, ran.err), (0, ""))
 
     def test_a_quote_that_is_left_open(self):
         """It swallows no rows; at the end of the file it is a row that was cut."""

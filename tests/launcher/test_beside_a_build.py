@@ -19,7 +19,10 @@ here=$(dirname "$0")
 cat >"$here/input of $1"
 case $1 in
 version) echo "stub 1" ;;
-all) printf '%s\n' "== tally_frac" "logic=proved functions=28 sum=0" "== summary" "tally_frac: ok" ;;
+all)
+    printf '%s\n' "== tally_frac" "logic=proved functions=28 sum=0"
+    printf '%s\n' "== summary" "tally_frac: ok"
+    ;;
 run)
     echo run >>"$here/runs"
     printf '#!/bin/sh\necho "build %s"\nexec cat\n' "$(wc -l <"$here/runs")" >out/tally_office

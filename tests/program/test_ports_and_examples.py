@@ -1,4 +1,4 @@
-"""Ports from the lowest to the highest, and the examples of the help texts, which run as printed."""
+"""Ports from the lowest to the highest, and the examples of the help texts."""
 
 import contextlib
 import json

@@ -1,5 +1,6 @@
 """Setups, returns and trials as editors and spreadsheets save them, through each way in."""
 
+import os
 import shutil
 import sqlite3
 from contextlib import closing
@@ -7,7 +8,7 @@ from contextlib import closing
 from tests.support.desk import serving
 from tests.support.office import RETURNS, SETUP, THREE_STATIONS, constituency, party_list, profile
 from tests.support.office import station
-from tests.support.program import ProgramCase, Ran, imports, new, office, rows, write
+from tests.support.program import ProgramCase, Ran, imports, new, office, recount, rows, write
 
 PLAIN = SETUP + '\n# an office of one station\n[[profile]]\ncode = "p"\nmethod = "hare"\n' + (
     'threshold = 300\nbase = "lists"\n'
@@ -21,7 +22,7 @@ SETUPS = {
     "keys in quotes": PLAIN.replace("code =", '"code" =').replace("name =", "'name' ="),
     "escapes": PLAIN.replace("Twin Town", "Tw\\u0069n\\U00000020Town").replace("Ana", "\\u0041na"),
     "numbers with underscores and bases": PLAIN.replace("300", "3_0_0").replace(" 3\n", " 0x3\n"),
-    "an array over lines": PLAIN.replace('["Ana", "Abel"]', '[\r\n\t"Ana", # the first\n"Abel",\n]'),
+    "an array over lines": PLAIN.replace('["Ana", "Abel"]', '[\r\n\t"Ana", # first\n"Abel",\n]'),
     "comments": PLAIN.replace("\n[[", " # so\r\n#\r\n[["),
     "no last line end": PLAIN.rstrip("\n"),
     "white space between tables": PLAIN.replace("\n\n", "\r\n \t\r\n\n"),
@@ -47,6 +48,22 @@ class Setups(ProgramCase):
                 self.assertEqual(found, plain)
                 shown = office("show", "--db", db, "--report", "tally", "--con", "c1")
                 self.assertEqual(shown, wanted)
+
+    def test_a_setup_with_a_mark(self):
+        """As some editors save it: an office is made of it, and a recount reads it."""
+        db = new("\ufeff" + PLAIN)
+        self.assertEqual(stored(db), "\ufeff" + PLAIN)
+        self.assertEqual(office("show", "--db", db, "--report", "progress").status, 0)
+        recount(db)
+        os.remove(db)
+
+    def test_setups_in_other_encodings(self):
+        for text in (("\ufeff" + PLAIN).encode("utf-16-le"), PLAIN.encode("utf-16-le"),
+                     PLAIN.replace("Ana", "Aña").encode("latin-1"), PLAIN.replace("\n", "\r")):
+            with self.subTest(text=text):
+                write("setup.toml", text)
+                ran = office("new", "--db", "new.db", "--setup", "setup.toml")
+                self.assertEqual((ran.status, ran.err[:18]), (1, "refused: not_toml\n"))
 
     def test_places_in_lines_that_end_with_carriage_returns(self):
         """A line ends with its LF; the first column is 1."""
