@@ -193,10 +193,9 @@ class OfReturns(Case):
 
     def test_a_lot_that_the_first_of_two_constituencies_lacks(self):
         setup = profile("d0") + town() + town("c2")
-        tie, clear = ("{}-1,p,0,0,100,100", "{}-2,q,0,0,0,0"), ("{}-1,p,0,0,100,10", "{}-2,q,0,0,0,0")
         rows = {
-            code: ("AB", *(row.format(code) for row in each))
-            for code, each in (("c1", tie), ("c2", clear))
+            code: ("AB", f"{code}-1,p,0,0,100,{votes}", f"{code}-2,q,0,0,0,0")
+            for code, votes in (("c1", 100), ("c2", 10))
         }
         said = "c1 A 2 B 1 (2 of 2 stations; a lot is missing)\nc2 A 3 B 0 (2 of 2 stations)\n"
         self.assertEqual(self.given(setup, **rows), Ran(1, said, ""))
@@ -296,7 +295,7 @@ class OfReturns(Case):
                     self.cannot_be_counted(ran)
 
     def test_words_that_name_no_files(self):
-        for words in ((), ("a.db", "--lots", "lots"), ("--setup", "setup.toml"), ("--lots", "lots")):
+        for words in ((), ("a.db", "--lots", "b"), ("--setup", "a"), ("--lots", "a"), ("a", "b")):
             with self.subTest(words=words):
                 self.assertEqual(counted(*words).status, 2)
 

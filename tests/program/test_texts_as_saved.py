@@ -168,7 +168,7 @@ class Files(ProgramCase):
     def test_a_file_of_any_name(self):
         """Its name says nothing of its form."""
         new(THREE_STATIONS, "new.db")
-        for name in ("returns.tsv", "returns.csv;", "returns", "x.txt", "returns.csv.gz", "ñ é.CSV"):
+        for name in ("returns.tsv", "returns.csv;", "returns", "x.txt", "x.csv.gz", "ñ é.CSV"):
             with self.subTest(name=name):
                 shutil.copy("new.db", "office.db")
                 write(name, RETURNS)
