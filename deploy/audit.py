@@ -78,7 +78,7 @@ class Constituency:
 
 def read_setup(file):
     """The constituencies of a setup, as the office takes it or as it is published."""
-    text = file.read_text(encoding="utf-8")
+    text = file.read_text(encoding="utf-8-sig")
     lists, stations = "list", "station"
     if file.suffix == ".json":
         entries, lists, stations = json.loads(text), "lists", "stations"
@@ -152,6 +152,7 @@ def divisor(method, k):
         return k
     if method == "modified-sainte-lague":
         return 7 if k == 1 else 10 * k - 5
+    need(method == "sainte-lague", f"no divisors of the method {method!r} are known")
     return 2 * k - 1
 
 
@@ -245,9 +246,10 @@ class Audit:
         """That the last seat of a list comes before the next seat of another. (Under Hare: what the other claims above its
         seats is less than a seat more than what the list does.)"""
         con, last, following = self.con, self.seats[i], self.seats[other] + 1
-        terms = [(i, divisor(con.method, following)), (other, -divisor(con.method, last))]
         if con.method == "hare":
             terms = [(i, con.seats), (other, -con.seats), (len(self.votes) + 2, following - last)]
+        else:
+            terms = [(i, divisor(con.method, following)), (other, -divisor(con.method, last))]
         words = f"{con.lists[i]}'s seat {last} comes before {con.lists[other]}'s seat {following}"
         # Where both are equal, the seat is that of the list with more votes. With a later seat
         # that is the first.

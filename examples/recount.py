@@ -1,154 +1,216 @@
 #!/usr/bin/env python3
-"""Counts seats again: of a published database, recount.py FILE, or from published returns alone,
-recount.py --setup FILE --returns FOLDER [--lots FILE]
+"""Counts a published election again, from its database or from its returns.
 
-The votes of each constituency are added up from its closed returns, and each certified constituency's seats are allotted
-again: by the table of quotients (D'Hondt, Sainte-Lague) or by quotas and largest remainders (Hare). Of a database it says
-for each constituency whether the recorded totals and seats agree. From returns it prints the seats of each list: FOLDER
-has CODE.csv of each constituency, as 'office show --report returns' prints it, and every row of it counts, which is right
-where all stations are closed; lots are lines 'CODE A B' of a file, the first first. The status is 1 where something differs
-or a lot is missing, and 2 where a file cannot be read; nothing is written to it. Python 3.11 or later.
+    recount.py office.db
+    recount.py --setup setup.toml --returns FOLDER [--lots FILE]
+
+Of a database it says for each constituency whether the totals agree with the closed returns and, if
+it is certified, the seats with the votes. From returns it prints the seats: FOLDER has CODE.csv for
+each constituency, as 'office show --report returns' prints it, with all stations closed. Lots are
+lines 'CODE A B', the first list first; a lot has to name the lists that it decides among, and no
+other. The exit status is 0; 1 if something differs or a lot is missing or of other lists; 2 if a
+file cannot be used. Nothing is written to any file. Python 3.11 or later.
 """
 import argparse
 import csv
+import re
 import sqlite3
 import sys
 import tomllib
 from fractions import Fraction
 from pathlib import Path
 
+METHODS = ("dhondt", "sainte-lague", "modified-sainte-lague", "hare")
+BLANK, SPOILED = 0, 61  # beside the lists, which are numbered from 1 in the order of the setup
+
 
 def divisor(method, k):
     """The divisor of a list's kth seat."""
     if method == "dhondt":
         return Fraction(k)
-    if method == "modified-sainte-lague" and k == 1:
-        return Fraction(14, 10)
-    if method in ("sainte-lague", "modified-sainte-lague"):
-        return Fraction(2 * k - 1)
-    sys.exit(f"unknown method: {method}")
+    return Fraction(14, 10) if method == "modified-sainte-lague" and k == 1 else Fraction(2 * k - 1)
 
 
-def place(index, lot, alternating, k):
-    """Who comes first among equals: the order of the lot for lists that it names, else that of the setup."""
-    if index + 1 not in lot:
-        return index + 1
-    turn = lot.index(index + 1) + 1
+def place(n, lot, alternating=False, k=1):
+    """The place of a list among equals: its place in the lot, or else in the setup."""
+    if n not in lot:
+        return n
+    turn = lot.index(n) + 1
     return 61 - turn if alternating and k % 2 == 0 else turn
 
 
-def by_quotients(votes, taking_part, seats, profile, lot):
-    alternating = profile.get("lot", "fixed") == "alternating"
-    table = [(-votes[i] / divisor(profile["method"], k), -votes[i], place(i, lot, alternating, k), i)
-             for i in taking_part for k in range(1, seats + 1)]
-    won = [i for _, _, _, i in sorted(table)[:seats]]
-    return [won.count(i) for i in range(len(votes))]
+def by_quotients(rule, seats, votes, lists, lot):
+    alternating = rule.get("lot") == "alternating"
+    table = [(-votes[n] / divisor(rule["method"], k), -votes[n], place(n, lot, alternating, k), n)
+             for n in lists for k in range(1, seats + 1)]
+    won = [n for _, _, _, n in sorted(table)[:seats]]
+    return {n: won.count(n) for n in votes}
 
 
-def by_remainders(votes, taking_part, seats, lot):
-    total = sum(votes[i] for i in taking_part)
-    given = [votes[i] * seats // total if i in taking_part else 0 for i in range(len(votes))]
-    claims = sorted((-(votes[i] * seats % total), -votes[i], place(i, lot, False, 1), i) for i in taking_part)
-    for _, _, _, i in claims[:seats - sum(given)]:
-        given[i] += 1
+def by_remainders(seats, votes, lists, lot):
+    total = sum(votes[n] for n in lists)
+    given = {n: votes[n] * seats // total if n in lists else 0 for n in votes}
+    claims = sorted((-(votes[n] * seats % total), -votes[n], place(n, lot), n) for n in lists)
+    for _, _, _, n in claims[:seats - sum(given.values())]:
+        given[n] += 1
     return given
 
 
-def allotted(con, profile, votes, blank, lot):
-    base = sum(votes) + (blank if profile["base"] == "valid" else 0)
-    taking_part = [i for i, v in enumerate(votes) if v > 0 and v * 10000 >= profile["threshold"] * base]
-    if profile["method"] == "hare":
-        return by_remainders(votes, taking_part, con["seats"], lot)
-    return by_quotients(votes, taking_part, con["seats"], profile, lot)
+def allotted(con, votes, lists, lot):
+    if con["rule"]["method"] == "hare":
+        return by_remainders(con["seats"], votes, lists, lot)
+    return by_quotients(con["rule"], con["seats"], votes, lists, lot)
 
 
-def turned(con, profile, votes, blank):
-    """The seats if each tie went the other way round: others than without a lot, where one is missing."""
-    return allotted(con, profile | {"lot": "fixed"}, votes, blank, list(range(len(votes), 0, -1)))
+def taking_part(rule, votes, blank):
+    """The lists that have votes and reach the threshold."""
+    base = sum(votes.values()) + (blank if rule["base"] == "valid" else 0)
+    return [n for n, v in votes.items() if v > 0 and v * 10000 >= rule["threshold"] * base]
 
 
-def recount(select, con, profile):
-    """What does not agree in one constituency, as a list of words."""
-    code, numbers = [con["code"]], range(1, len(con["list"]) + 1)  # of the lists, in the setup's order
-    stations = {station["code"] for station in con["station"]}
-    closed = {row[0] for row in select("SELECT station FROM returns WHERE con = ? AND status = 4", code)}
-    counted = dict.fromkeys([0, *numbers, 61], 0) | dict(select(
-        "SELECT item, sum(n) FROM counts JOIN returns USING (station) WHERE con = ? AND status = 4 GROUP BY item", code))
+def group(con, votes, lists):
+    """The lists that a lot has to decide among: none if the votes decide.
+
+    If a list gets other seats in the setup's reverse order, a lot decides among all lists that take
+    part with as many votes. (Those in the middle of them may get as many in both orders.)
+    """
+    first, last = (allotted(con, votes, lists, order) for order in ([*votes], [*votes][::-1]))
+    tied = {votes[n] for n in votes if first[n] != last[n]}
+    return [n for n in lists if votes[n] in tied]
+
+
+def judged(con, cast, lot):
+    """The sums of the counts of stations, the seats, and what is wrong with votes or lot."""
+    counted = dict.fromkeys([BLANK, *range(1, len(con["list"]) + 1), SPOILED], 0)
+    for counts in cast.values():
+        for item, n in counts.items():
+            counted[item] = counted.get(item, 0) + n
+    votes = {n: counted[n] for n in range(1, len(con["list"]) + 1)}
+    lists = taking_part(con["rule"], votes, counted[BLANK])
+    needed = group(con, votes, lists)
+    seats = allotted(con, votes, lists, lot if sorted(lot) == needed else [])
+    most, papers = con["most"], {station: sum(counts.values()) for station, counts in cast.items()}
+    return counted, seats, [words for words, applies in (
+        ("no list takes part", not lists),
+        ("a lot is missing", needed and not lot),
+        ("a lot of other lists", lot and sorted(lot) != needed),
+        ("stations of no setup", cast.keys() - most.keys()),
+        ("more votes than electors", any(n > most.get(at, n) for at, n in papers.items()))
+    ) if applies]
+
+
+def recount(select, con):
+    """What differs in a constituency of a database, as a list of words."""
+    code, lists, cast = [con["code"]], len(con["list"]), {}
+    for station, item, n in select("SELECT station, coalesce(item, 0), coalesce(n, 0) FROM returns "
+                                   "LEFT JOIN counts USING (station) "
+                                   "WHERE con = ? AND status = 4", code):
+        cast.setdefault(station, {})[item] = n
     lot = [row[0] for row in select("SELECT list FROM lots WHERE con = ? ORDER BY place", code)]
     [(edition, certified)] = select("SELECT edition, certified FROM cons WHERE con = ?", code)
-    votes, blank = [counted[i] for i in numbers], counted[0]
-    seats = allotted(con, profile, votes, blank, lot) if certified else []
-    wrong = [words for words, differs in (
+    counted, seats, wrong = judged(con, cast, lot)
+    if not certified:
+        seats, still = {}, ("no list takes part", "a lot is missing")
+        wrong = [words for words in wrong if words not in still]
+    left = len(con["most"].keys() - cast.keys())
+    differs = [words for words, applies in (
         ("totals", counted != dict(select("SELECT item, n FROM totals WHERE con = ?", code))),
-        ("seats", dict(zip(numbers, seats)) != dict(select("SELECT list, n FROM seats WHERE con = ?", code))),
-        ("a lot is missing", certified and not lot and seats != turned(con, profile, votes, blank)),
-        (f"{len(stations - closed)} of {len(stations)} stations not closed", certified and stations - closed),
-        ("stations of no setup", closed - stations)) if differs]
-    if select("SELECT name FROM sqlite_master WHERE name = 'past'").fetchone():  # which version 1 of the tables lacks
-        for past, *found, least in select("SELECT edition, sum(n), count(*), min(list), max(list), min(n) FROM past "
-                                          "WHERE con = ? GROUP BY edition", code):
-            if past >= edition or least < 0 or found != [con["seats"], len(numbers), 1, len(numbers)]:
-                wrong.append(f"past {past}")
-    return wrong
+        ("seats", seats != dict(select("SELECT list, n FROM seats WHERE con = ?", code))),
+        (f"{left} of {len(con['most'])} stations not closed", (certified or lot) and left)
+    ) if applies] + wrong
+    if select("SELECT name FROM sqlite_master WHERE name = 'past'").fetchone():  # not in version 1
+        for past, *found, least in select(
+                "SELECT edition, sum(n), count(*), min(list), max(list), min(n) FROM past "
+                "WHERE con = ? GROUP BY edition", code):
+            if past >= edition or least < 0 or found != [con["seats"], lists, 1, lists]:
+                differs.append(f"past {past}")
+    return differs
 
 
-def from_returns(con, profile, rows, lot):
-    """The seats of a constituency by its published returns, and what is to be said of them."""
-    header, *rows = csv.reader(rows)
-    codes, stations = [one["code"] for one in con["list"]], {one["code"] for one in con["station"]}
-    if header != ["station", "slip", "blank", "spoiled", *codes]:
+def read_returns(con, lines):
+    """The counts of each station in published returns."""
+    header, *rows = [row for row in csv.reader(lines, strict=True) if row]
+    if header != ["station", "slip", "blank", "spoiled", *(one["code"] for one in con["list"])]:
         raise ValueError(f"{con['code']}: another header than that of its lists")
-    if len({row[0] for row in rows} & stations) != len(rows):
-        raise ValueError(f"{con['code']}: a station twice, or of another constituency")
-    blank, _, *votes = [sum(map(int, column)) for column in list(zip(*rows))[2:]] if rows else [0] * (len(codes) + 2)
-    named = [codes.index(code) + 1 for code in lot]
-    seats = allotted(con, profile, votes, blank, named) if any(votes) else [0] * len(codes)
-    is_missing = any(votes) and not named and seats != turned(con, profile, votes, blank)
-    return seats, f"{len(rows)} of {len(stations)} stations" + ("; a lot is missing" if is_missing else "")
+    items, cast = [BLANK, SPOILED, *range(1, len(con["list"]) + 1)], {}
+    for station, _, *fields in rows:
+        if station not in con["most"] or station in cast:
+            raise ValueError(f"{con['code']}: {station!r} twice, or of another constituency")
+        if len(fields) != len(items) or not re.fullmatch("([0-9]{1,9},)+", ",".join(fields) + ","):
+            raise ValueError(f"{con['code']}: the row of {station} is not of numbers")
+        cast[station] = dict(zip(items, map(int, fields)))
+    return cast
 
 
-def count_returns(setup, profiles, folder, lots):
-    missing = False
-    for con in setup["constituency"]:
-        with open(folder / f"{con['code']}.csv", newline="", encoding="utf-8") as rows:
-            seats, said = from_returns(con, profiles[con["profile"]], rows, lots.get(con["code"], []))
-        missing |= said.endswith("missing")
-        print(con["code"], *(f"{one['code']} {n}" for one, n in zip(con["list"], seats)), f"({said})")
-    return 1 if missing else 0
+def count_returns(cons, folder, lots):
+    status = 0
+    for con in cons:
+        with open(folder / f"{con['code']}.csv", newline="", encoding="utf-8-sig") as lines:
+            cast = read_returns(con, lines)
+        codes = [one["code"] for one in con["list"]]
+        named = [codes.index(code) + 1 if code in codes else 0 for code in lots[con["code"]]]
+        _, seats, wrong = judged(con, cast, named)
+        said = "; ".join([f"{len(cast)} of {len(con['most'])} stations", *wrong])
+        print(con["code"], *(f"{code} {n}" for code, n in zip(codes, seats.values())), f"({said})")
+        status |= any(words != "no list takes part" for words in wrong)
+    return status
 
 
-def main(arguments):
-    if arguments.returns:
-        lots = arguments.lots.read_text(encoding="utf-8").splitlines() if arguments.lots else []
-        setup = tomllib.loads(arguments.setup.read_text(encoding="utf-8"))
-        return count_returns(setup, profiles_of(setup), arguments.returns, {line.split()[0]: line.split()[1:] for line in lots if line})
-    return count_database(arguments.file.resolve())
-
-
-def profiles_of(setup):
-    return {profile["code"]: profile for profile in setup["profile"]}
+def read_lots(file, cons):
+    """The lists of each constituency's lot, in its order."""
+    lots = {con["code"]: [] for con in cons}
+    lines = file.read_text(encoding="utf-8").splitlines() if file else []
+    for code, *lot in filter(None, map(str.split, lines)):
+        if lots.get(code, lot):
+            raise ValueError(f"{file}: {code} twice, or no constituency")
+        lots[code] = lot
+    return lots
 
 
 def count_database(file):
     # Where no log is beside the file, nothing is made there either.
     how = "mode=ro" if Path(f"{file}-wal").exists() else "mode=ro&immutable=1"
-    database = sqlite3.connect(f"{file.as_uri()}?{how}", uri=True)
-    setup = tomllib.loads(database.execute("SELECT text FROM setup").fetchone()[0])
-    profiles = profiles_of(setup)
-    found = {con["code"]: recount(database.execute, con, profiles[con["profile"]]) for con in setup["constituency"]}
+    select = sqlite3.connect(f"{file.as_uri()}?{how}", uri=True).execute
+    [(setup,)] = select("SELECT text FROM setup")
+    found = {con["code"]: recount(select, con) for con in read_setup(setup)}
     for code, wrong in found.items():
         print(code, "differs: " + ", ".join(wrong) if wrong else "agrees")
     return 1 if any(found.values()) else 0
 
 
-command = argparse.ArgumentParser(description=__doc__, formatter_class=argparse.RawDescriptionHelpFormatter)
-command.add_argument("file", type=Path, nargs="?", help="a database")
-for option in ("--setup", "--returns", "--lots"):
-    command.add_argument(option, type=Path)
-arguments = command.parse_args()
-if bool(arguments.file) == bool(arguments.returns) or bool(arguments.setup) != bool(arguments.returns):
-    command.error("either a database, or --setup and --returns")
-try:
-    sys.exit(main(arguments))
-except Exception as error:  # whatever it is: status 1 is that of a difference
-    command.error(f"{type(error).__name__}: {error}")
+def read_setup(text):
+    """The constituencies, each with its rule and the most votes that each station can have."""
+    setup = tomllib.loads(text.removeprefix("\ufeff"))
+    rules = {profile["code"]: profile for profile in setup["profile"]}
+    for con in setup["constituency"]:
+        con["rule"] = rule = rules[con["profile"]]
+        if rule["method"] not in METHODS or rule["base"] not in ("valid", "lists"):
+            raise ValueError(f"{con['code']}: an unknown rule")
+        con["most"] = {it["code"]: it["electors"] + it.get("agents", 0) for it in con["station"]}
+        if len(con["station"]) > (20_000 if con.get("size") == "large" else 5_000):
+            raise ValueError(f"{con['code']}: too many stations")
+    return setup["constituency"]
+
+
+def main():
+    command = argparse.ArgumentParser(
+        description=__doc__, formatter_class=argparse.RawDescriptionHelpFormatter)
+    command.add_argument("file", type=Path, nargs="?", help="a database")
+    for option in ("--setup", "--returns", "--lots"):
+        command.add_argument(option, type=Path)
+    given = command.parse_args()
+    of_returns = [given.setup, given.returns]
+    if any([*of_returns, given.lots]) if given.file else not all(of_returns):
+        command.error("either a database, or --setup and --returns")
+    try:
+        if given.file:
+            return count_database(given.file.resolve())
+        cons = read_setup(given.setup.read_text(encoding="utf-8"))
+        return count_returns(cons, given.returns, read_lots(given.lots, cons))
+    except Exception as error:  # whatever it is: 1 is the status of a difference
+        print(f"recount.py: error: {type(error).__name__}: {error}", file=sys.stderr)
+        return 2
+
+
+if __name__ == "__main__":
+    sys.exit(main())

@@ -1,0 +1,28 @@
+"""The pattern of the moments before an hour, at hours and moments of each kind."""
+
+import random
+import re
+
+from tests.support.case import Case
+from tests.support.scripts import loaded
+
+embargo = loaded("embargo")
+
+
+class HoursAtRandom(Case):
+    def test_each_moment_before_and_none_after(self):
+        """Of hours with each digit at each place, moments near by and far away."""
+        draw = random.Random(71)
+        hours = [draw.randrange(1_700_000_000, 3_000_000_000) for _ in range(300)]
+        # Each digit at each place but the first, and hours that end in zeros.
+        hours += [
+            1_790_000_000 // 10**place * 10**place + digit * 10**place
+            for place in range(9)
+            for digit in range(10)
+        ]
+        for hour in hours:
+            before = re.compile(f"^({embargo.earlier(hour)})")
+            moments = [hour + sign * 10**n for n in range(9) for sign in (-1, 1)]
+            moments += [draw.randrange(10**9, 10**10) for _ in range(20)] + [hour]
+            found = [moment for moment in moments if before.match(f"{moment}.000")]
+            self.assertEqual(found, [moment for moment in moments if moment < hour], hour)

@@ -1,0 +1,101 @@
+"""Records: rows with as many votes as there may be, commands sent again, and long histories."""
+
+import contextlib
+import json
+import socket
+import threading
+import tomllib
+
+from tests.support.case import Case
+from tests.support.office import SETUP, station
+from tests.support.record import LODGED, a_command, chained
+from tests.support.scripts import loaded, module
+
+entries = loaded("entries")
+recorder = module("recorder")
+
+
+class RowsOfAFile(Case):
+    def lodged(self, rows, setup=SETUP):
+        """The stations of the rows that an import lodges, by the tool that reads records."""
+        [con] = tomllib.loads(setup)["constituency"]
+        text = "station,slip,blank,spoiled,A,B\n" + "".join(f"{row}\n" for row in rows)
+        return list(entries.rows_of(text, False, con))
+
+    def test_as_many_votes_as_electors(self):
+        """Twin Town's station has 300 electors."""
+        self.assertEqual(self.lodged(["s1,p1,0,0,150,150"]), ["s1"])
+        self.assertEqual(self.lodged(["s1,p1,10,20,135,135"]), ["s1"])
+        self.assertEqual(self.lodged(["s1,p1,0,0,150,151"]), [])
+        self.assertEqual(self.lodged(["s1,p1,1,0,150,150"]), [])
+
+    def test_a_million_votes(self):
+        setup = SETUP + station("s2", 1000000)
+        self.assertEqual(self.lodged(["s2,p1,0,0,1000000,0"], setup), ["s2"])
+        self.assertEqual(self.lodged(["s2,p1,0,0,1000001,0"], setup), [])
+
+
+@contextlib.contextmanager
+def answering_in_turn(*answers):
+    """A desk that gives these answers to its connections; nothing ends a connection at once."""
+    listener = socket.create_server(("127.0.0.1", 0))
+
+    def serve():
+        for text in answers:
+            connection, _ = listener.accept()
+            with connection:
+                connection.recv(65536)
+                connection.sendall(text)
+
+    thread = threading.Thread(target=serve)
+    thread.start()
+    try:
+        yield f"127.0.0.1:{listener.getsockname()[1]}"
+    finally:
+        thread.join()
+        listener.close()
+
+
+def an_answer(status):
+    return f"HTTP/1.1 {status} X\r\nContent-Length: 2\r\nConnection: close\r\n\r\n{{}}".encode()
+
+
+class SentAgain(Case):
+    def test_a_refusal_of_a_command_that_was_sent_again(self):
+        """The desk ended without an answer, and refuses the command then: it may have been done."""
+        for status, known in ((200, 200), (400, None), (404, None), (409, None), (503, None)):
+            with self.subTest(status=status):
+                with answering_in_turn(b"", an_answer(status)) as address:
+                    found = recorder.Desk(address).ask("POST", "/con/c1/certify", b"{}")
+                self.assertEqual(found[0], known)
+
+    def test_a_refusal_at_once(self):
+        for status in (400, 404, 409):
+            with self.subTest(status=status):
+                with answering_in_turn(an_answer(status)) as address:
+                    found = recorder.Desk(address).ask("POST", "/con/c1/certify", b"{}")
+                self.assertEqual(found[0], status)
+
+
+class LongHistory(Case):
+    def history(self, commands):
+        """The index's places of a station, and whether they are all."""
+        index = recorder.Index()
+        lines = []
+        for number in range(commands):
+            lines += [
+                a_command(json.dumps(LODGED), "/station/s1/lodge"),
+                {"to": 2 * number + 1, "status": 200, "answer": '{"ok":"lodged","rev":1}'},
+            ]
+        place = 0
+        for line in chained(*lines).splitlines(keepends=True):
+            index.take(line, place)
+            place += len(line)
+        places, whole = index.of("s1")
+        return len(places), whole
+
+    def test_as_many_lines_as_are_shown(self):
+        """A command and its answer are two lines, and two hundred lines are shown."""
+        self.assertEqual(self.history(99), (198, True))
+        self.assertEqual(self.history(100), (200, True))
+        self.assertEqual(self.history(101), (200, False))
