@@ -869,11 +869,12 @@ def test_the_routes_of_the_site():
     same({target.removeprefix("/") for method, target in found if "." in target} - {"clerk.html"},
          {name for name in of_readers() if not name.endswith(".html")} - {"openapi.json", "index.schema.json", "setup.schema.json", "manifest.schema.json"})
     same(ROUTES["info"]["version"], json.loads(read("index.json"))["version"])
-    # Each place of the proxy is described, but for the files that nobody gets.
+    # Each place of the proxy is described, but for the files that nobody gets, and what a load
+    # balancer asks.
     places = re.findall(r'location (=|~)? ?"?([^ "]+)"? {', "".join(file.read_text(encoding="utf-8") for file in (DEPLOY / "nginx.conf", *DEPLOY.glob("nginx/*.conf"))))
     assert len(places) > 10, places
     lost = [place for how, place in places if not any(target == place if how == "=" else re.search(place.replace("(?<", "(?P<"), target) for _, target in found)]
-    same(lost, [r"/\."])
+    same(set(lost), {r"/\.", "/health", "/health/office", "@no_health"})
     # Each part is used, and each reference leads to one, or to a schema that is published.
     references = re.findall(r'"\$ref": "([^"]*)"', json.dumps(ROUTES))
     same({f"#/components/{kind}/{name}" for kind, parts in ROUTES["components"].items() for name in parts if kind != "securitySchemes"},

@@ -1,5 +1,5 @@
 #!/usr/bin/env python3
-"""Compares the table of routes and roles of `deploy/desk` with the proxy's configuration, request by request.
+"""Compares the routes and roles of `deploy/desk` with those of the proxy, request by request.
 
     python3 tests/deploy/test_desk_roles.py
 
@@ -17,39 +17,55 @@ DEPLOY = Path(__file__).resolve().parent.parent.parent / "deploy"
 sys.path.insert(0, str(DEPLOY))
 import desk_roles
 
-REPORTS = ("tally", "seats", "quotients", "awards", "quota", "short", "holders", "past", "stations", "returns")
+REPORTS = ("tally", "seats", "quotients", "awards", "quota", "short", "holders", "past",
+           "stations", "returns")
 OF_STATION = ("lodge", "query", "correct", "close", "confirm")
-OF_CON = ("draw", "certify", "reopen", "vacate", "import", "import/semicolon", "trial", "trial/semicolon")
+OF_CON = ("draw", "certify", "reopen", "vacate", "import", "import/semicolon", "trial",
+          "trial/semicolon")
+LONGEST, TOO_LONG = "c" * 16, "c" * 17
 TARGETS = [
     "/progress", "/country", "/station/s1", "/con/c1", *(f"/con/c1/{name}" for name in REPORTS),
-    "/now/progress", "/now/country", "/now/station/s1", "/now/con/c1", *(f"/now/con/c1/{name}" for name in REPORTS),
-    "/now/station/s1/history", *(f"/station/s1/{act}" for act in OF_STATION), *(f"/con/c1/{act}" for act in OF_CON),
-    "/clerk.html", "/logout", "/setup.json", "/", "/index.html", "/con-c1.json", "/feed.atom", "/record.csv",
+    "/now/progress", "/now/country", "/now/station/s1", "/now/con/c1",
+    *(f"/now/con/c1/{name}" for name in REPORTS), "/now/station/s1/history",
+    *(f"/station/s1/{act}" for act in OF_STATION), *(f"/con/c1/{act}" for act in OF_CON),
+    "/clerk.html", "/logout", "/setup.json", "/", "/index.html", "/con-c1.json", "/feed.atom",
     # These are not there, or are the names of files.
-    "/progress/", "/Progress", "/station", "/station/", "/station/s.1", "/station/" + "s" * 17, "/station/s1/draw",
-    "/station/s1/lodge/x", "/station/s1/import", "/con/c1/lodge", "/con/c1/import/comma", "/con/c1/close", "/con/c1/tally/x",
-    "/con/c1/progress", "/con/" + "c" * 17 + "/tally", "/now", "/now/", "/now/station/s1/lodge", "/now/con/c1/import/x",
-    "/now/con/c1/import", "/now/con/c1/certify", "/now/con/C/SEATS", "/now/clerk.html", "/clerk.htm", "/clerk.html/",
-    "/.index.html.new", "/x/.y", "/station/s1/history", "/history/s1", "/stations/c1", "/station/é", "/con/c1/certify/semicolon",
-    "/station/" + "s" * 16 + "/close", "/con/" + "c" * 16 + "/returns", "/now/station/" + "s" * 17 + "/history",
+    "/progress/", "/Progress", "/station", "/station/", "/station/s.1", f"/station/{TOO_LONG}",
+    "/station/s1/draw", "/station/s1/lodge/x", "/station/s1/import", "/con/c1/lodge",
+    "/con/c1/import/comma", "/con/c1/close", "/con/c1/tally/x", "/con/c1/progress",
+    f"/con/{TOO_LONG}/tally", "/now", "/now/", "/now/station/s1/lodge", "/now/con/c1/import/x",
+    "/now/con/c1/import", "/now/con/c1/certify", "/now/con/C/SEATS", "/now/clerk.html",
+    "/clerk.htm", "/clerk.html/", "/.index.html.new", "/x/.y", "/station/s1/history",
+    "/history/s1", "/stations/c1", "/station/é", "/con/c1/certify/semicolon",
+    f"/station/{LONGEST}/close", f"/con/{LONGEST}/returns", f"/now/station/{TOO_LONG}/history",
 ]
 # By what a location passes on to, the kind of its requests.
-KINDS = {"http://office$office": "table", "http://office$office$table": "now", "http://recorder$office": "command",
-         "http://recorder$office/stations/$con": "stations", "http://recorder$office/history/$station": "history"}
+KINDS = {
+    "http://office$office": "table", "http://office$office$table": "now",
+    "http://recorder$office": "command", "http://recorder$office/stations/$con": "stations",
+    "http://recorder$office/history/$station": "history", "http://office1/progress": None,
+}
+# And by the names of those that the proxy answers itself. A load balancer has no business here.
+OTHER_KINDS = {
+    "/clerk.html": "page", "/logout": "logout", "/setup.json": "setup", "/": "file",
+    r"/\.": None, "/health": None, "@no_health": None,
+}
 
 
 def configuration():
     """The configuration with its own files put in, without comments."""
     def with_included(text):
+        def file_of(found):
+            return with_included((DEPLOY / "nginx" / found[1]).read_text(encoding="utf-8"))
         text = re.sub(r"(?m)^\s*#.*$", "", text)
-        return re.sub(r"include office/([\w.]+);", lambda found: with_included(
-            (DEPLOY / "nginx" / found[1]).read_text(encoding="utf-8")), text)
+        return re.sub(r"include office/([\w.]+);", file_of, text)
     return with_included((DEPLOY / "nginx.conf").read_text(encoding="utf-8"))
 
 
 def pattern_of(text):
     """A pattern of nginx, as one of Python."""
-    return re.compile(text.replace("(?<", "(?P<").replace(r"\k<own>", "(?P=own)").replace(r"\z", r"\Z"))
+    text = text.replace("(?<", "(?P<").replace(r"\k<own>", "(?P=own)")
+    return re.compile(text.replace(r"\z", r"\Z"))
 
 
 def block_at(text, begin):
@@ -70,8 +86,7 @@ class Location:
         self.name, self.text = name, text
         self.is_exact, self.pattern = how == "=", pattern_of(name) if how == "~" else None
         passed = re.search(r"proxy_pass (\S+);", text)
-        self.kind = KINDS[passed[1]] if passed else {"/clerk.html": "page", "/logout": "logout",
-                                                     "/setup.json": "setup", r"/\.": None, "/": "file"}[name]
+        self.kind = KINDS[passed[1]] if passed else OTHER_KINDS[name]
         table = re.search(r"set \$table (\S+);", text)
         self.parts = {"table": table[1]} if table else {}
 
@@ -96,10 +111,12 @@ class Map:
     def __init__(self, text, name):
         block = block_at(text, re.search(rf'map "[^"]*" \${name} ', text).start())
         self.default = re.search(r"default (\S+);", block)[1]
-        self.patterns = [(pattern_of(found), value) for found, value in re.findall(r'"~(.*?)" (\S+);', block)]
+        rows = re.findall(r'"~(.*?)" (\S+);', block)
+        self.patterns = [(pattern_of(found), value) for found, value in rows]
 
     def value(self, text):
-        return next((value for pattern, value in self.patterns if pattern.search(text)), self.default)
+        found = (value for pattern, value in self.patterns if pattern.search(text))
+        return next(found, self.default)
 
 
 TEXT = configuration()
@@ -113,12 +130,14 @@ def located(target):
     path, question, _ = target.partition("?")
     for place in LOCATIONS:
         if place.is_exact and place.name == path:
-            return None if question and place.is_strict else (place, place.parts)
+            refused = place.kind is None or question and place.is_strict
+            return None if refused else (place, place.parts)
     for place in LOCATIONS:
         found = place.pattern and place.pattern.search(path)
         if found:
-            parts = {name: value for name, value in found.groupdict().items() if value} | place.parts
-            return None if question and place.is_strict or place.kind is None else (place, parts)
+            parts = {name: value for name, value in found.groupdict().items() if value}
+            refused = place.kind is None or question and place.is_strict
+            return None if refused else (place, parts | place.parts)
     return next((place, {}) for place in LOCATIONS if place.name == "/")
 
 
@@ -133,14 +152,14 @@ class RoutesAndRoles(unittest.TestCase):
                 kind = wanted and wanted[0].kind
                 if kind == "file" and not found:
                     # The pages have no folders, and only plain names.
-                    self.assertTrue(not re.fullmatch(r"/[\w-][\w.-]*", target.split("?")[0], re.A))
+                    self.assertNotRegex(target.split("?")[0], re.compile(r"^/[\w-][\w.-]*$", re.A))
                     continue
                 self.assertEqual(found and found.kind, kind)
                 if not found or kind in ("page", "logout", "setup", "file"):
                     continue
                 place, parts = wanted
-                self.assertEqual({"station": found.station, "con": found.con, "act": found.act},
-                                 {name: parts.get(name, "") for name in ("station", "con", "act")})
+                self.assertEqual([found.station, found.con, found.act],
+                                 [parts.get(name, "") for name in ("station", "con", "act")])
                 self.assertEqual(found.path, parts.get("table", target.split("?")[0]))
 
     def test_a_target_takes_the_same_methods(self):
@@ -153,16 +172,19 @@ class RoutesAndRoles(unittest.TestCase):
 
     def test_each_role_may_do_the_same(self):
         allowed = Map(TEXT, "allowed")
-        acts = [target for target in TARGETS if (desk_roles.request_of(target) or desk_roles.Request("", "")).act]
+        found = [desk_roles.request_of(target) for target in TARGETS]
+        acts = [it for it in found if it and it.act]
         self.assertEqual(len(acts), 15)
-        for target, role, name in itertools.product(acts, desk_roles.ROLES, ("s1", "s2", "clerk-1")):
-            with self.subTest(target=target, role=role, name=name):
-                it = desk_roles.request_of(target)
-                self.assertEqual(it.is_allowed(name, role), allowed.value(f"{role}:{it.act}:{name}:{it.station}") == "1")
+        names = ("s1", "s2", "clerk-1")
+        for it, role, name in itertools.product(acts, desk_roles.ROLES, names):
+            with self.subTest(path=it.path, role=role, name=name):
+                wanted = allowed.value(f"{role}:{it.act}:{name}:{it.station}") == "1"
+                self.assertEqual(it.is_allowed(name, role), wanted)
 
     def test_a_body_may_have_the_same_length(self):
         too_long = Map(TEXT, "is_too_long")
-        lengths = (0, 1, 9, 10, 9999, 10_000, 16_383, 16_384, 16_385, 99_999, 1_048_575, 1_048_576, 1_048_577, 10_000_000)
+        lengths = (0, 1, 9, 10, 9999, 10_000, 16_383, 16_384, 16_385, 99_999, 1_048_575, 1_048_576,
+                   1_048_577, 10_000_000)
         for target, length in itertools.product(TARGETS, lengths):
             found = desk_roles.request_of(target)
             if found:
