@@ -78,7 +78,7 @@ def look_at_desk(address, of):
 
 
 def look_at_recorder(file, of):
-    """The recorder, by a history that is for nobody: it refuses that itself, and records nothing."""
+    """The recorder, by a history that is for nobody: it refuses that, and records nothing."""
     fields = {"Office-Allowed": "0", "Office-Role": "nobody"}
     return of_answer("recorder", of, 403, answered(ToSocket(file), "/history/-", fields))
 

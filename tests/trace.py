@@ -30,8 +30,8 @@ PARTS = {"Definition": (".antt",), "Code": (".rt",), "Clause": (".rt",), "Test":
          "Proof": ()}
 LINK = re.compile(r"\[([^\]]*)\]\(([^)\s]+)\)")
 # The scripts, programs and settings outside of the crates, by how they mark a comment.
-PYTHON = ("tests/*.py", "bench/*.py", "deploy/*.py", "deploy/backup", "deploy/embargo", "deploy/entries", "deploy/password",
-          "deploy/replay", "deploy/split", "examples/*.py")
+PYTHON = ("tests/*.py", "bench/*.py", "tests/deploy/*.py", "deploy/*.py", "deploy/backup", "deploy/desk", "deploy/embargo",
+          "deploy/entries", "deploy/password", "deploy/replay", "deploy/split", "deploy/status", "examples/*.py")
 HASHED = ("office", "test", "deploy/*.conf", "deploy/nginx/*.conf", "deploy/*.service", "deploy/*.timer",
           "bench/*.awk", "bench/crate_seconds.txt", "examples/setup.toml")
 SLASHED = ("bench/*.rattle", "bench/*.rs")

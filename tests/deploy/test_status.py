@@ -3,8 +3,8 @@
 
     python3 tests/deploy/test_status.py
 
-The desk and the recorder are stand-ins, the copies are those of `examples/`. It needs Python and
-openssl; the test of `/health` is skipped without nginx.
+Small servers take the place of the desk and the recorder; the copies are those of `examples/`. It
+needs Python and openssl. Without nginx the test of `/health` is skipped.
 """
 
 import contextlib
@@ -32,7 +32,7 @@ NGINX = shutil.which("nginx", path=f"{os.environ.get('PATH', '')}:/usr/sbin")
 PROGRESS = b"montehondo           15      0      0      0      0     15      2 certified\n"
 
 
-class StandIn(http.server.BaseHTTPRequestHandler):
+class Answers(http.server.BaseHTTPRequestHandler):
     """Answers as its server says."""
 
     def do_GET(self):
@@ -63,7 +63,7 @@ class OnSocket(http.server.ThreadingHTTPServer):
 @contextlib.contextmanager
 def answering(kind, address, status):
     """In place of the desk or the recorder something that answers with a status."""
-    with kind(address, StandIn) as server:
+    with kind(address, Answers) as server:
         server.asked, server.status = [], status
         threading.Thread(target=server.serve_forever, args=(0.02,), daemon=True).start()
         try:
