@@ -70,8 +70,8 @@ NAMES = {"clerk-1": "clerk", "second-1": "second", "board-1": "board", "s1": "st
 @functools.cache
 def more_words():
     """What the desk is started with on a computer that gives no program a network of its own."""
-    probe = "import sys; sys.path.insert(0, 'deploy'); import desk_walls; desk_walls.leave_network()"
-    done = subprocess.run([sys.executable, "-c", probe], cwd=ROOT, capture_output=True)
+    probe = "import desk_walls; desk_walls.leave_network()"
+    done = subprocess.run([sys.executable, "-c", probe], cwd=DESK.parent, capture_output=True)
     return ("--open-port",) if done.returncode else ()
 
 
@@ -114,10 +114,19 @@ class Desk:
         self.setup = self.folder / "setup.toml"
         if not self.setup.exists():
             self.setup.write_text(SETUP, encoding="utf-8")
+        first = [DESK, self.setup, "--db", self.db, "--office", PROGRAM, "--no-browser"]
         self.process = subprocess.Popen(
-            [DESK, self.setup, "--db", self.db, "--office", PROGRAM, "--no-browser", *more_words(), *words],
-            stdout=subprocess.PIPE, stderr=subprocess.PIPE, text=True, env={**os.environ, "LC_ALL": "C"})
+            [*first, *more_words(), *words], stdout=subprocess.PIPE, stderr=subprocess.PIPE,
+            text=True, env={**os.environ, "LC_ALL": "C"})
         self.said, self.addresses = "", {}
+
+    def its_office(self):
+        """The process of the office that it has started."""
+        folder = Path(f"/proc/{self.process.pid}/task/{self.process.pid}")
+        children = (folder / "children").read_text(encoding="ascii").split()
+        words = {one: Path(f"/proc/{one}/cmdline").read_bytes().split(b"\0") for one in children}
+        [office] = [int(one) for one, its in words.items() if b"serve" in its]
+        return office
 
     def opened(self):
         """Waits for the addresses."""
@@ -148,7 +157,8 @@ class Desk:
         if data is not None:
             usual["Content-Length"] = str(len(data))
         heads = {name.replace("_", "-"): value for name, value in heads.items()}
-        with contextlib.closing(http.client.HTTPConnection("127.0.0.1", port, timeout=PATIENCE)) as there:
+        connection = http.client.HTTPConnection("127.0.0.1", port, timeout=PATIENCE)
+        with contextlib.closing(connection) as there:
             there.putrequest(method, target, skip_host=True, skip_accept_encoding=True)
             for head, value in {**usual, **heads}.items():
                 if value is not None:
@@ -183,10 +193,12 @@ class AnOpenDesk(unittest.TestCase):
     def test_the_address_of_a_name_gives_its_cookie_and_leads_to_the_clerks_page(self):
         port, secret = self.desk.addresses["clerk-1"]
         self.assertEqual(self.entered.status, 200)
-        self.assertEqual(self.entered.heads["Set-Cookie"], f"office-{port}={secret}; Path=/; HttpOnly; SameSite=Strict")
+        self.assertEqual(self.entered.heads["Set-Cookie"],
+                         f"office-{port}={secret}; Path=/; HttpOnly; SameSite=Strict")
         self.assertIn('content="0; url=/clerk.html"', self.entered.text)
-        self.assertEqual((self.page.status, self.page.heads["X-Office-Name"], self.page.heads["X-Office-Role"]),
-                         (200, "clerk-1", "clerk"))
+        self.assertEqual(self.page.status, 200)
+        self.assertEqual(self.page.heads["X-Office-Name"], "clerk-1")
+        self.assertEqual(self.page.heads["X-Office-Role"], "clerk")
 
     def test_each_role_on_each_kind_of_route(self):
         # 400 is the office's: {} is no command. Each line has the roles that get as far as that.
@@ -194,7 +206,8 @@ class AnOpenDesk(unittest.TestCase):
             "/station/s1/lodge": ("clerk", "station"), "/station/s2/lodge": ("clerk",),
             "/station/s1/query": ("clerk", "second"), "/station/s1/correct": ("clerk",),
             "/station/s1/close": ("clerk",), "/station/s1/confirm": ("second",),
-            "/con/c1/import": ("clerk",), "/con/c1/import/semicolon": ("clerk",), "/con/c1/trial": ("clerk",),
+            "/con/c1/import": ("clerk",), "/con/c1/import/semicolon": ("clerk",),
+            "/con/c1/trial": ("clerk",), "/con/c1/trial/semicolon": ("clerk",),
             "/con/c1/draw": ("board",), "/con/c1/certify": ("board",), "/con/c1/reopen": ("board",),
             "/con/c1/vacate": ("board",)}
         for target, roles in commands.items():
@@ -205,8 +218,8 @@ class AnOpenDesk(unittest.TestCase):
                     self.assertEqual('"word":"bad_' in found.text, role in roles)
 
     def test_whoever_has_a_name_reads_everything_but_a_history(self):
-        reads = ("/progress", "/country", "/con/c1", "/con/c1/tally", "/now/con/c1", "/now/con/c1/stations",
-                 "/now/station/s2", "/clerk.html", "/setup.json")
+        reads = ("/progress", "/country", "/con/c1", "/con/c1/tally", "/now/con/c1",
+                 "/now/con/c1/stations", "/now/station/s2", "/clerk.html", "/setup.json")
         for target in reads:
             for name in NAMES:
                 with self.subTest(target=target, name=name):
@@ -218,10 +231,13 @@ class AnOpenDesk(unittest.TestCase):
                 if found.status == 200:
                     [first, *_] = json.loads(found.text)["commands"]
                     # Who enters slips a second time sees no figure of the first entry.
-                    self.assertEqual((first["name"], "body" in first), ("clerk-1", role != "second"))
-        stations = {name: self.desk.ask(name, "GET", "/now/con/c1/stations").text.splitlines()[-1] for name in NAMES}
-        self.assertRegex(stations["clerk-1"], r"^s2 +300 received +1 p1 +30 +1 +2")
-        self.assertRegex(stations["second-1"], r"^s2 +300 received +1$")
+                    self.assertEqual(first["name"], "clerk-1")
+                    self.assertEqual("body" in first, role != "second")
+        for name, line in (("clerk-1", r"s2 +300 received +1 p1 +30 +1 +2"),
+                           ("second-1", r"s2 +300 received +1$")):
+            with self.subTest(name=name):
+                table = self.desk.ask(name, "GET", "/now/con/c1/stations").text
+                self.assertRegex(table, f"(?m)^{line}")
 
     def test_whoever_lacks_the_secret_gets_nothing(self):
         port, secret = self.desk.addresses["clerk-1"]
@@ -244,9 +260,11 @@ class AnOpenDesk(unittest.TestCase):
             "a link of another site": (403, {"Sec-Fetch-Site": "cross-site"}),
             "a page of another port": (403, {"Sec-Fetch-Site": "same-site"}),
         }
-        asked = (("GET", "/progress", None), ("GET", "/clerk.html", None), ("GET", "/", None), ("GET", "/not/there", None),
-                 ("HEAD", "/clerk.html", None), ("POST", "/station/s1/lodge", SLIP), ("DELETE", "/progress", None),
-                 ("OPTIONS", "*", None), ("PROPFIND", "/", None), ("POST", "/con/c1/import", b"x" * 2_000_000))
+        asked = (("GET", "/progress", None), ("GET", "/clerk.html", None), ("GET", "/", None),
+                 ("GET", "/not/there", None), ("HEAD", "/clerk.html", None),
+                 ("POST", "/station/s1/lodge", SLIP), ("DELETE", "/progress", None),
+                 ("OPTIONS", "*", None), ("PROPFIND", "/", None),
+                 ("POST", "/con/c1/import", b"x" * 2_000_000))
         for what, (status, heads) in table.items():
             for method, target, body in asked:
                 with self.subTest(what=what, method=method, target=target):
@@ -258,48 +276,59 @@ class AnOpenDesk(unittest.TestCase):
                         continue
                     # (a method that no rule names is not looked at)
                     self.assertEqual(found.status, 501 if method == "PROPFIND" else status)
-                    self.assertEqual((found.body, found.heads["Content-Type"], found.heads["Set-Cookie"]), (b"", None, None))
+                    self.assertEqual(found.body, b"")
+                    self.assertEqual(found.heads["Content-Type"], None)
+                    self.assertEqual(found.heads["Set-Cookie"], None)
         self.assertIn('"word":"no_return"', self.desk.ask("clerk-1", "GET", "/station/s1").text)
 
     def test_an_address_with_another_secret_gets_no_cookie(self):
         _, secret = self.desk.addresses["clerk-1"]
-        table = (("GET", "/enter/", {}), ("GET", f"/enter/{secret}x", {}), ("GET", f"/enter/{secret}?", {}),
-                 ("GET", f"/enter/{self.desk.addresses['board-1'][1]}", {}), ("POST", f"/enter/{secret}", {}),
+        table = (("GET", "/enter/", {}), ("GET", f"/enter/{secret}x", {}),
+                 ("GET", f"/enter/{secret}?", {}), ("POST", f"/enter/{secret}", {}),
+                 ("GET", f"/enter/{self.desk.addresses['board-1'][1]}", {}),
                  ("GET", f"/enter/{secret}", {"Origin": "https://office.example"}))
         for method, target, heads in table:
             with self.subTest(method=method, target=target, **heads):
                 found = self.desk.ask("clerk-1", method, target, Cookie=None, **heads)
-                self.assertEqual((found.status, found.body, found.heads["Set-Cookie"]), (403, b"", None))
+                self.assertEqual((found.status, found.body), (403, b""))
+                self.assertEqual(found.heads["Set-Cookie"], None)
 
     def test_a_command_is_from_a_page_of_this_site_or_from_a_program(self):
         port, _ = self.desk.addresses["clerk-1"]
-        for heads, status in (({}, 400), ({"Sec-Fetch-Site": "same-origin", "Origin": f"http://127.0.0.1:{port}"}, 400),
-                              ({"Sec-Fetch-Site": "none"}, 403)):
+        own = {"Sec-Fetch-Site": "same-origin", "Origin": f"http://127.0.0.1:{port}"}
+        for heads, status in (({}, 400), (own, 400), ({"Sec-Fetch-Site": "none"}, 403)):
             with self.subTest(heads=heads):
-                self.assertEqual(self.desk.ask("clerk-1", "POST", "/station/s1/lodge", {}, **heads).status, status)
+                found = self.desk.ask("clerk-1", "POST", "/station/s1/lodge", {}, **heads)
+                self.assertEqual(found.status, status)
 
     def test_other_methods_targets_and_bodies_are_refused(self):
-        table = (("POST", "/progress", {}, 413), ("POST", "/progress", None, 405), ("GET", "/station/s1/lodge", None, 405),
-                 ("PUT", "/clerk.html", None, 405), ("DELETE", "/con/c1/certify", None, 405), ("GET", "/con/c1/tally?x", None, 404),
+        table = (("POST", "/progress", {}, 413), ("POST", "/progress", None, 405),
+                 ("GET", "/station/s1/lodge", None, 405), ("PUT", "/clerk.html", None, 405),
+                 ("DELETE", "/con/c1/certify", None, 405), ("GET", "/con/c1/tally?x", None, 404),
                  ("GET", "/station/s1/nothing", None, 404), ("GET", "/../setup.toml", None, 404),
                  ("GET", "/evening.db", None, 404), ("GET", "/.index.html.new", None, 404),
-                 ("POST", "/station/s1/lodge", b"x" * 16_385, 413), ("POST", "/con/c1/import", b"x" * 1_048_577, 413),
+                 ("POST", "/station/s1/lodge", b"x" * 16_385, 413),
+                 ("POST", "/con/c1/import", b"x" * 1_048_577, 413),
                  ("POST", "/con/c1/trial", b"x" * 1_048_576, 400))
         for method, target, body, status in table:
             with self.subTest(method=method, target=target):
                 self.assertEqual(self.desk.ask("clerk-1", method, target, body).status, status)
-        self.assertEqual(self.desk.ask("clerk-1", "GET", "/station/s1/lodge").heads["Allow"], "POST")
-        for heads, status in (({"Transfer-Encoding": "chunked"}, 411), ({"Content-Length": "-1"}, 400), ({"Content-Length": "1x"}, 400)):
+        found = self.desk.ask("clerk-1", "GET", "/station/s1/lodge")
+        self.assertEqual(found.heads["Allow"], "POST")
+        for heads, status in (({"Transfer-Encoding": "chunked"}, 411),
+                              ({"Content-Length": "-1"}, 400), ({"Content-Length": "1x"}, 400)):
             with self.subTest(**heads):
-                self.assertEqual(self.desk.ask("clerk-1", "POST", "/station/s1/lodge", **heads).status, status)
+                found = self.desk.ask("clerk-1", "POST", "/station/s1/lodge", **heads)
+                self.assertEqual(found.status, status)
 
     def test_each_page_says_that_it_is_a_trial(self):
-        end = time.monotonic() + PATIENCE
-        while not (pages := sorted(self.desk.db.with_suffix(".pages").glob("*.html"))) or len(pages) < 4:
+        end, pages, folder = time.monotonic() + PATIENCE, [], self.desk.db.with_suffix(".pages")
+        while len(pages) < 4:
             self.assertLess(time.monotonic(), end, "no press pages")
             time.sleep(0.1)
-        targets = ["/", "/clerk.html", f"/enter/{self.desk.addresses['clerk-1'][1]}", *(f"/{page.name}" for page in pages)]
-        for target in targets:
+            pages = [f"/{file.name}" for file in folder.glob("*.html")]
+        secret = self.desk.addresses["clerk-1"][1]
+        for target in ("/", "/clerk.html", f"/enter/{secret}", *pages):
             with self.subTest(target=target):
                 text = self.desk.ask("clerk-1", "GET", target).text
                 self.assertEqual(text.count("PRUEBA · TRIAL"), 2)
@@ -308,16 +337,19 @@ class AnOpenDesk(unittest.TestCase):
         self.assertIn("This is a trial", self.desk.said)
 
     def test_the_press_pages_have_the_policy_of_the_proxy(self):
-        wanted = re.search(r'Content-Security-Policy "(.*?)"', (ROOT / "deploy/nginx/file.conf").read_text(encoding="utf-8"))
-        self.assertEqual(self.desk.ask("clerk-1", "GET", "/index.html").heads["Content-Security-Policy"], wanted[1])
+        text = (ROOT / "deploy/nginx/file.conf").read_text(encoding="utf-8")
+        wanted = re.search(r'Content-Security-Policy "(.*?)"', text)
+        found = self.desk.ask("clerk-1", "GET", "/index.html")
+        self.assertEqual(found.heads["Content-Security-Policy"], wanted[1])
 
     def test_no_answer_is_kept_or_shown_within_another_site(self):
         for target in ("/progress", "/clerk.html", "/setup.json", "/not/there"):
             with self.subTest(target=target):
                 heads = self.desk.ask("clerk-1", "GET", target).heads
-                self.assertEqual([heads[name] for name in ("Cache-Control", "X-Frame-Options", "Referrer-Policy",
-                                                           "Cross-Origin-Resource-Policy", "Access-Control-Allow-Origin")],
-                                 ["no-store", "DENY", "no-referrer", "same-origin", None])
+                wanted = {"Cache-Control": "no-store", "X-Frame-Options": "DENY",
+                          "Referrer-Policy": "no-referrer", "Access-Control-Allow-Origin": None,
+                          "Cross-Origin-Resource-Policy": "same-origin"}
+                self.assertEqual({name: heads[name] for name in wanted}, wanted)
 
     def test_logging_out_takes_the_cookie_away(self):
         found = self.desk.ask("clerk-1", "GET", "/logout")
@@ -327,12 +359,13 @@ class AnOpenDesk(unittest.TestCase):
         if os.geteuid():
             self.skipTest("an administrator alone can ask as another user")
         port, secret = self.desk.addresses["clerk-1"]
-        code = ("import os, socket, sys; user = int(sys.argv[1]); there = socket.socket(); "
-                "os.setgroups([]); os.setresuid(user, user, user); there.close(); "
+        code = ("import os, socket, sys; user = int(sys.argv[1]); "
+                "os.setgroups([]); os.setresuid(user, user, user); "
                 f"there = socket.socket(); there.connect(('127.0.0.1', {port})); "
                 f"there.send(b'GET /progress HTTP/1.0\\r\\nHost: 127.0.0.1:{port}\\r\\n"
                 f"Cookie: office-{port}={secret}\\r\\n\\r\\n'); print(there.recv(12))")
-        asked = {user: subprocess.run([sys.executable, "-c", code, str(user)], capture_output=True, text=True)
+        words = (sys.executable, "-c", code)
+        asked = {user: subprocess.run([*words, str(user)], capture_output=True, text=True)
                  for user in (0, 65_534)}
         self.assertEqual(asked[0].stdout, "b'HTTP/1.0 200'\n")
         self.assertIn(asked[65_534].stdout or asked[65_534].stderr.splitlines()[-1],
@@ -341,10 +374,8 @@ class AnOpenDesk(unittest.TestCase):
     def test_no_other_program_reaches_the_office_itself(self):
         if more_words():
             self.skipTest("this computer gives a program no network of its own")
-        children = Path(f"/proc/{self.desk.process.pid}/task/{self.desk.process.pid}/children").read_text(encoding="ascii").split()
-        words = {child: Path(f"/proc/{child}/cmdline").read_bytes().split(b"\0") for child in children}
-        [office] = [child for child, its in words.items() if b"serve" in its]
-        self.assertNotEqual(os.readlink(f"/proc/{office}/ns/net"), os.readlink("/proc/self/ns/net"))
+        its = os.readlink(f"/proc/{self.desk.its_office()}/ns/net")
+        self.assertNotEqual(its, os.readlink("/proc/self/ns/net"))
 
     def test_the_secrets_are_in_no_file_and_in_no_command_line(self):
         secrets = [secret.encode() for _, secret in self.desk.addresses.values()]
@@ -358,7 +389,8 @@ class AnOpenDesk(unittest.TestCase):
             self.assertFalse(any(secret in text for text in [*files, *lines]))
 
     def test_the_record_has_who_did_it(self):
-        first = json.loads(self.desk.db.with_suffix(".commands.log").read_text(encoding="utf-8").splitlines()[0])
+        text = self.desk.db.with_suffix(".commands.log").read_text(encoding="utf-8")
+        first = json.loads(text.splitlines()[0])
         self.assertEqual([first[key] for key in ("name", "role", "address", "path")],
                          ["clerk-1", "clerk", "127.0.0.1", "/station/s2/lodge"])
 
@@ -390,11 +422,14 @@ class TheLifeOfADesk(unittest.TestCase):
         self.assertIn("The office has ended. All of it is in", said)
         self.assertEqual({file.name for file in self.folder.iterdir()},
                          {"setup.toml", "evening.db", "evening.commands.log", "evening.pages"})
-        with contextlib.closing(sqlite3.connect(f"file:{desk.db}?mode=ro&immutable=1", uri=True)) as it:
-            self.assertEqual(it.execute("SELECT station, slip, rev FROM returns").fetchall(), [("s1", "p1", 1)])
+        address = f"file:{desk.db}?mode=ro&immutable=1"
+        with contextlib.closing(sqlite3.connect(address, uri=True)) as it:
+            rows = it.execute("SELECT station, slip, rev FROM returns").fetchall()
+        self.assertEqual(rows, [("s1", "p1", 1)])
         again = self.started("--name", "clerk:ana").opened()
         self.assertEqual(list(again.addresses), ["second-1", "board-1", "ana"])
-        self.assertEqual(again.ask("ana", "POST", "/station/s1/lodge", SLIP).text, '{"ok":"same","rev":1}')
+        found = again.ask("ana", "POST", "/station/s1/lodge", SLIP)
+        self.assertEqual(found.text, '{"ok":"same","rev":1}')
         self.assertEqual(again.ended(signal.SIGTERM)[::2], (0, ""))
         self.assertFalse(desk.db.with_name("evening.db-wal").exists())
         lines = desk.db.with_suffix(".commands.log").read_text(encoding="utf-8").splitlines()
@@ -405,15 +440,17 @@ class TheLifeOfADesk(unittest.TestCase):
         with socket.create_server(("127.0.0.1", first + 1)):
             status, said, fault = self.started("--port", str(first)).ended()
         self.assertEqual((status, said), (1, ""))
-        self.assertRegex(fault, rf"^desk: port {first + 1} is not free for second-1: name another --port.*\n$")
+        self.assertRegex(fault, rf"^desk: port {first + 1} is not free for second-1: name another")
+        self.assertEqual(fault.count("\n"), 1)
+
+    def test_the_ports_follow_one_another_and_an_office_that_ends_is_started_again(self):
+        first = free_ports(3)
         desk = self.started("--port", str(first)).opened()
-        self.assertEqual([port for port, _ in desk.addresses.values()], [first, first + 1, first + 2])
-        # The office that ends is started again, and nobody notices.
-        children = Path(f"/proc/{desk.process.pid}/task/{desk.process.pid}/children").read_text(encoding="ascii").split()
+        ports = [port for port, _ in desk.addresses.values()]
+        self.assertEqual(ports, [first, first + 1, first + 2])
+        # (one that ends right after its start ends everything)
         time.sleep(5)
-        for child in children:
-            if b"serve" in Path(f"/proc/{child}/cmdline").read_bytes():
-                os.kill(int(child), signal.SIGKILL)
+        os.kill(desk.its_office(), signal.SIGKILL)
         self.assertEqual(desk.ask("clerk-1", "POST", "/station/s1/lodge", SLIP).status, 200)
         status, _, fault = desk.ended(signal.SIGTERM)
         # (the press pages may have found nobody meanwhile)
@@ -423,16 +460,17 @@ class TheLifeOfADesk(unittest.TestCase):
     def test_what_does_not_belong_together_is_refused_before_anything_is_written(self):
         other = SETUP.replace("Twin Town", "Other Town")
         (self.folder / "other.toml").write_text(other, encoding="utf-8")
-        subprocess.run([PROGRAM, "new", "--db", self.folder / "other.db", "--setup", self.folder / "other.toml"],
-                       check=True, capture_output=True)
+        words = ("--db", self.folder / "other.db", "--setup", self.folder / "other.toml")
+        subprocess.run([PROGRAM, "new", *words], check=True, capture_output=True)
         (self.folder / "left.commands.log").write_text("", encoding="utf-8")
         (self.folder / "broken.toml").write_text("[[profile]\n", encoding="utf-8")
         (self.folder / "text.db").write_text("no database", encoding="utf-8")
-        before = {file.name: file.read_bytes() for file in self.folder.iterdir() if file.name != "setup.toml"}
+        before = {file: file.read_bytes() for file in self.folder.iterdir()}
         table = (
             ({"db": "other.db"}, (), "was made from another setup than"),
             ({"db": "left.db"}, (), "left.commands.log belong to a database that is gone"),
-            ({"db": "text.db"}, (), "text.db is in use by another program, as by another desk, or cannot be read and written"),
+            ({"db": "text.db"}, (), "text.db is in use by another program, as by another desk, "
+                                    "or cannot be read and written"),
             ({"db": "no/such/folder.db"}, (), "no database was made from"),
             ({"db": "a.db"}, ("--name", "station:s3"), "s3 is no station of"),
             ({"db": "b.db"}, ("--name", "board:S2"), "S2 is the code of a station"),
@@ -443,14 +481,15 @@ class TheLifeOfADesk(unittest.TestCase):
                 status, said, fault = self.started(*words, **names).ended()
                 self.assertEqual((status, said, fault.count("\n")), (1, "", 1))
                 self.assertIn(wanted, fault)
-        after = {file.name: file.read_bytes() for file in self.folder.iterdir() if file.name in before}
-        self.assertEqual(after, before)
+        self.assertEqual({file: file.read_bytes() for file in before}, before)
 
     def test_a_wrong_command_line_has_status_2(self):
-        for words, wanted in ((("--name", "king:ana"), "the roles are clerk, second, board, station"),
-                              (("--name", "clerk:Ana María"), "is not ROLE:NAME"), (("--port", "70000"), "'70000' is no port"),
-                              (("--name", "clerk:ana", "--name", "board:ANA"), "two have the name ana"),
-                              (("--nothing",), "unrecognized arguments: --nothing")):
+        table = ((("--name", "king:ana"), "the roles are clerk, second, board, station"),
+                 (("--name", "clerk:Ana María"), "is not ROLE:NAME"),
+                 (("--port", "70000"), "'70000' is no port"),
+                 (("--name", "clerk:ana", "--name", "board:ANA"), "two have the name ana"),
+                 (("--nothing",), "unrecognized arguments: --nothing"))
+        for words, wanted in table:
             with self.subTest(words=words):
                 status, said, fault = self.started(*words).ended()
                 self.assertEqual((status, said), (2, ""))
