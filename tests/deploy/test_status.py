@@ -13,6 +13,7 @@ import http.client
 import http.server
 import json
 import os
+import re
 import shutil
 import socket
 import sqlite3
@@ -367,7 +368,7 @@ seconds = 1800
         self.assertEqual({name: rows[name] for name in wanted}, wanted)
         age = float(rows['office_age_seconds{part="pages",of=""}'])
         self.assertTrue(5 * 3600 <= age < 6 * 3600)
-        self.assertIn("# HELP office_well Whether a part is well.\n# TYPE office_well gauge\n", text)
+        self.assertIn("# HELP office_well Whether a part is well.\n# TYPE office_well gauge", text)
         self.assertEqual(text.count("# TYPE"), len({row.split("{")[0] for row in rows}))
         status, out, _ = self.status("--prometheus", "--to", str(self.folder / "office.prom"))
         files = [file.name for file in self.folder.glob("*office.prom*")]
@@ -427,10 +428,10 @@ class Health(unittest.TestCase):
             self.port = free.getsockname()[1]
         for name in ("office", "log", "temporary"):
             (self.folder / name).mkdir()
+        desk = f"127.0.0.1:{self.desk.server_port}"
         places = {"/var/log/nginx": f"{self.folder}/log",
                   "/var/lib/nginx": f"{self.folder}/temporary",
                   "/etc/nginx/office": f"{self.folder}/office",
-                  "127.0.0.1:8080": f"127.0.0.1:{self.desk.server_port}",
                   "user www-data;": "user root;" if os.geteuid() == 0 else "",
                   "pid /run/nginx.pid;": f"pid {self.folder}/pid; daemon off;",
                   "listen 443 ssl": f"listen 127.0.0.1:{self.port} ssl",
@@ -439,6 +440,8 @@ class Health(unittest.TestCase):
             text = file.read_text(encoding="utf-8")
             for old, new in places.items():
                 text = text.replace(old, new)
+            text = re.sub(r"upstream office1 \{.*?\}", f"upstream office1 {{ server {desk}; }}", text,
+                          flags=re.S)
             folder = self.folder if file.name == "nginx.conf" else self.folder / "office"
             (folder / file.name).write_text(text, encoding="utf-8")
         # The port 0 is none for nginx: nobody asks without TLS here.
