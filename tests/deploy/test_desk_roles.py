@@ -64,7 +64,7 @@ def configuration():
 
 def pattern_of(text):
     """A pattern of nginx, as one of Python."""
-    text = text.replace("(?<", "(?P<").replace(r"\k<own>", "(?P=own)")
+    text = re.sub(r"\\k<(\w+)>", r"(?P=\1)", text.replace("(?<", "(?P<"))
     return re.compile(text.replace(r"\z", r"\Z"))
 
 

@@ -440,8 +440,8 @@ class Health(unittest.TestCase):
             text = file.read_text(encoding="utf-8")
             for old, new in places.items():
                 text = text.replace(old, new)
-            text = re.sub(r"upstream office1 \{.*?\}", f"upstream office1 {{ server {desk}; }}", text,
-                          flags=re.S)
+            text = re.sub(r"upstream office1 \{[^}]*\}",
+                          f"upstream office1 {{ server {desk}; }}", text)
             folder = self.folder if file.name == "nginx.conf" else self.folder / "office"
             (folder / file.name).write_text(text, encoding="utf-8")
         # The port 0 is none for nginx: nobody asks without TLS here.
