@@ -28,9 +28,9 @@ DESK = ROOT / "deploy/desk"
 PROGRAM = os.environ.get("OFFICE_PROGRAM")
 # Seconds for what has to come, on a computer with much else to do.
 PATIENCE = 120
-# The seconds from the start to a lodged return, and what `office new` may take of them: a program
-# that was built without optimisation takes longer, and the rest of the time with it.
-WANTED, USUAL = 10, 0.5
+# The seconds from the start to a lodged return, and what a program of each kind usually takes: the
+# time is longer where these take longer, as on a computer with much else to do.
+WANTED, USUAL_OFFICE, USUAL_PYTHON = 10, 0.5, 0.15
 
 SETUP = """\
 [[profile]]
@@ -75,16 +75,20 @@ def more_words():
     return ("--open-port",) if done.returncode else ()
 
 
-@functools.cache
 def slowness():
-    """How many times as long as usual the program takes."""
+    """How many times as long as usual programs take now, at least once."""
     with tempfile.TemporaryDirectory() as folder:
         setup = Path(folder) / "setup.toml"
         setup.write_text(SETUP, encoding="utf-8")
-        began = time.monotonic()
-        subprocess.run([PROGRAM, "new", "--db", f"{folder}/a.db", "--setup", setup],
-                       check=True, capture_output=True)
-        return max(1, (time.monotonic() - began) / USUAL)
+        office = (PROGRAM, "new", "--db", f"{folder}/a.db", "--setup", setup)
+        python = (sys.executable, "-c", "import http.server, sqlite3, tomllib")
+        return max(1, seconds(office) / USUAL_OFFICE, seconds(python) / USUAL_PYTHON)
+
+
+def seconds(words):
+    began = time.monotonic()
+    subprocess.run(words, check=True, capture_output=True)
+    return time.monotonic() - began
 
 
 def free_ports(many):
@@ -174,8 +178,8 @@ class AnOpenDesk(unittest.TestCase):
     @classmethod
     def setUpClass(cls):
         cls.folder = cls.enterClassContext(tempfile.TemporaryDirectory())
-        slowness(), more_words()
-        began = time.monotonic()
+        more_words()
+        cls.slow, began = slowness(), time.monotonic()
         cls.desk = Desk(cls.folder, "--trial", "--name", "station:s1").opened()
         cls.addClassCleanup(cls.desk.ended, signal.SIGINT)
         port, secret = cls.desk.addresses["clerk-1"]
@@ -188,7 +192,7 @@ class AnOpenDesk(unittest.TestCase):
 
     def test_a_return_is_lodged_ten_seconds_after_the_start(self):
         self.assertEqual((self.lodged.status, self.lodged.text), (200, '{"ok":"lodged","rev":1}'))
-        self.assertLess(self.took, WANTED * slowness())
+        self.assertLess(self.took, WANTED * max(self.slow, slowness()))
 
     def test_the_address_of_a_name_gives_its_cookie_and_leads_to_the_clerks_page(self):
         port, secret = self.desk.addresses["clerk-1"]
@@ -390,7 +394,7 @@ class AnOpenDesk(unittest.TestCase):
 
     def test_the_record_has_who_did_it(self):
         text = self.desk.db.with_suffix(".commands.log").read_text(encoding="utf-8")
-        first = json.loads(text.splitlines()[0])
+        first = next(line for line in map(json.loads, text.splitlines()) if "name" in line)
         self.assertEqual([first[key] for key in ("name", "role", "address", "path")],
                          ["clerk-1", "clerk", "127.0.0.1", "/station/s2/lodge"])
 
@@ -432,8 +436,10 @@ class TheLifeOfADesk(unittest.TestCase):
         self.assertEqual(found.text, '{"ok":"same","rev":1}')
         self.assertEqual(again.ended(signal.SIGTERM)[::2], (0, ""))
         self.assertFalse(desk.db.with_name("evening.db-wal").exists())
-        lines = desk.db.with_suffix(".commands.log").read_text(encoding="utf-8").splitlines()
-        self.assertEqual([json.loads(line)["n"] for line in lines], [1, 2, 3, 4])
+        text = desk.db.with_suffix(".commands.log").read_text(encoding="utf-8")
+        lines = list(map(json.loads, text.splitlines()))
+        self.assertEqual([line["n"] for line in lines], list(range(1, len(lines) + 1)))
+        self.assertEqual([line["name"] for line in lines if "name" in line], ["clerk-1", "ana"])
 
     def test_a_port_that_is_taken_is_named(self):
         first = free_ports(3)
