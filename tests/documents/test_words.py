@@ -22,11 +22,14 @@ PYTHON = (
     "bench/*.py",
     "deploy/*.py",
     "deploy/backup",
+    "deploy/desk",
     "deploy/embargo",
     "deploy/entries",
     "deploy/password",
     "deploy/replay",
+    "deploy/setup-from-tables",
     "deploy/split",
+    "deploy/status",
     "examples/*.py",
 )
 

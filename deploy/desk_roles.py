@@ -1,0 +1,103 @@
+"""The requests that `deploy/desk` answers, and the roles that may give each command.
+
+These are the rules of `nginx.conf` as a table. `tests/deploy/test_desk_roles.py` compares the two,
+request by request: whoever changes one changes the other.
+"""
+
+import re
+from dataclasses import dataclass
+
+ROLES = ("clerk", "second", "board", "station")
+# A name, as the record has it. A station's name is its code.
+NAME = "[A-Za-z0-9_-]{1,32}"
+# The roles of each act. A station lodges its own return alone.
+ACTS = {
+    "lodge": ("clerk", "station"),
+    "query": ("clerk", "second"),
+    "correct": ("clerk",),
+    "close": ("clerk",),
+    "confirm": ("second",),
+    "import": ("clerk",),
+    "trial": ("clerk",),
+    "draw": ("board",),
+    "certify": ("board",),
+    "reopen": ("board",),
+    "vacate": ("board",),
+    "history": ("clerk", "second", "board"),
+}
+# Bytes that the body of an import, and of another command, may have.
+MOST_OF_IMPORT, MOST_OF_COMMAND = 1_048_576, 16_384
+
+# What a request of each kind is answered from: `page` is the clerks' page, `setup` the lists of the
+# setup, `file` a press page. A `table` is the office's, and so is one that is asked for `now`, for
+# who acts on it. The recorder has a `history`, shortens `stations` for some roles, and passes on
+# each `command`.
+READ = ("GET", "HEAD")
+METHODS = {"page": READ, "logout": READ, "setup": READ, "file": READ, "table": READ,
+           "now": ("GET",), "stations": ("GET",), "history": ("GET",), "command": ("POST",)}
+# Of these a web page of the site asks, and no typed address leads there.
+FROM_A_PAGE = ("now", "stations", "history", "command", "logout")
+
+CODE = "[A-Za-z0-9_-]{1,16}"
+STATION, CON = f"/station/(?P<station>{CODE})", f"/con/(?P<con>{CODE})"
+REPORTS = "tally|seats|quotients|awards|quota|short|holders|past|stations|returns"
+# The kinds by the patterns of their targets: the first that fits decides.
+TARGETS = [(kind, re.compile(pattern)) for kind, pattern in (
+    ("table", "/progress|/country"),
+    ("table", STATION),
+    ("table", f"{CON}(/({REPORTS}))?"),
+    ("stations", f"/now{CON}/stations"),
+    ("now", f"/now(?P<table>/progress|/country|{STATION}|{CON}(/[a-z]+)?)"),
+    ("history", f"/now{STATION}/(?P<act>history)"),
+    ("command", f"{STATION}/(?P<act>lodge|query|correct|close|confirm)"),
+    ("command", f"{CON}/(?P<act>draw|certify|reopen|vacate)"),
+    ("command", f"{CON}/(?P<act>import|trial)(/semicolon)?"),
+    ("page", "/clerk.html"),
+    ("logout", "/logout"),
+    ("setup", "/setup.json"),
+    ("file", "/(?P<file>[A-Za-z0-9_-][A-Za-z0-9_.-]*)?"),
+)]
+# Of these a target with a question is the same without.
+FILES = ("page", "logout", "setup", "file")
+
+
+@dataclass(frozen=True)
+class Request:
+    """What a target asks for; empty texts where it names no station, constituency or act."""
+    kind: str
+    path: str
+    station: str = ""
+    con: str = ""
+    act: str = ""
+    file: str = ""
+
+    @property
+    def methods(self):
+        return METHODS[self.kind]
+
+    @property
+    def most(self):
+        """How many bytes its body may have."""
+        if self.kind != "command":
+            return 0
+        return MOST_OF_IMPORT if self.act in ("import", "trial") else MOST_OF_COMMAND
+
+    def is_allowed(self, name, role):
+        """Whether a name of a role may do it. Whoever has a name may read everything else."""
+        if not self.act:
+            return True
+        is_own = role != "station" or name == self.station
+        return role in ACTS[self.act] and is_own
+
+
+def request_of(target):
+    """What a target asks for, or None where there is nothing of that name."""
+    path, question, _ = target.partition("?")
+    for kind, pattern in TARGETS:
+        found = pattern.fullmatch(path)
+        if found and question and kind not in FILES:
+            return None
+        if found:
+            parts = {name: value or "" for name, value in found.groupdict().items()}
+            return Request(kind, parts.pop("table", path), **parts)
+    return None
