@@ -111,7 +111,8 @@ def holders_sections(site, con, order, candidates):
     macros = site.templates.of_con
     rows = [row_of(site, list_name(site, row["list"]),
                    "–" if row["place"] is None else site.number(row["place"]),
-                   macros.empty_seat() if row["place"] is None else row["name"])
+                   macros.empty_seat() if row["place"] is None
+                   else site.templates.name(row["name"]))
             for row in sorted(con["holders"], key=lambda row: order[row["list"]])]
     gone = [macros.candidate_gone(row["list"], row["place"], candidate(candidates, row),
                                   row["note"]) for row in con["view"]["gone"]]
@@ -268,14 +269,12 @@ def colours(site, con):
 def con_page(site, con, row, body, moment):
     """The page of a constituency, which has this."""
     return site.templates.page(
-        "con.html", title=con["tally"]["name"], state=state_of(con, row), edition=row["edition"],
+        "con.html", name=con["tally"]["name"], state=state_of(con, row), edition=row["edition"],
         moment=moment, colours=colours(site, con), **body)
 
 
 def details_page(site, code, con, row, body, moment):
     """A page on which that of a constituency goes on."""
-    name = con["tally"]["name"]
     return site.templates.page(
-        "details.html", title=site.said("details_title", con=name), code=code, name=name,
-        state=state_of(con, row), edition=row["edition"], moment=moment,
-        colours=colours(site, con), **body)
+        "details.html", code=code, name=con["tally"]["name"], state=state_of(con, row),
+        edition=row["edition"], moment=moment, colours=colours(site, con), **body)

@@ -150,9 +150,7 @@ def map_shape(shape, cons):
     kind, code, places, inner = shape
     con, found = cons.get(code), None
     if con:
-        first, said = first_list(con), con["tally"]["name"]
-        found = {"colour": f"list-{first}" if first else "none-first",
-                 "pale": not con["view"]["certified"],
-                 "said": f"{said}: {first}" if first else said}
+        found = {"name": con["tally"]["name"], "first": first_list(con),
+                 "pale": not con["view"]["certified"]}
     return {"kind": kind, "places": places, "con": found,
             "inner": [map_shape(part, cons) for part in inner]}

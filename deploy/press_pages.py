@@ -14,6 +14,7 @@ from press_con import colours, con_bodies, con_page, details_page
 from press_country import first_list, seats_before, shares_before, together
 from press_data import returns_in
 from press_figures import MOST_DOTS, MOST_LABELS, bars, half_circle, map_shape
+from press_names import isolated
 from press_parts import (AGE, COUNTED, NOTHING, PAGE_ROOM, Head, Part, by_votes, changed,
                          changing, details_links, divided, framed, hundredths, list_name, numbers,
                          progress_bar, room_beside, row_of, searched, sections, size, table,
@@ -237,7 +238,8 @@ def cons_pages(site, rows, cons, names, moment, changed):
             last_change=changed)
 
     said = [names.get(code, code) for code, _ in rows]
-    labels = [name if len(name) <= LETTERS else f"{name[:LETTERS - 1]}…" for name in said]
+    labels = [isolated(name if len(name) <= LETTERS else f"{name[:LETTERS - 1]}…")
+              for name in said]
     texts = [row for _, row in rows]
     groups, links = searched(site, "cons", texts, labels, written([], NOTHING))
     left = iter(rows)
@@ -309,14 +311,13 @@ def stations_pages(site, code, con, entry, text, states=None):
     rows = [station_row(site, station, found.get(station["code"]), (*lists, 2, 3), states)
             for station in entry["stations"]]
     words = stations_said(site, con, len(returns), len(entry["stations"]), states)
-    name = con["tally"]["name"]
 
     def written(rows, links, moment):
         caption = site.said("table_stations")
         returns = framed(site, caption, heads, rows, "searched stations", wide=True)
         return site.templates.page(
-            "stations.html", title=site.said("stations_title", con=name), code=code, name=name,
-            said=words, links=links, table=returns, moment=moment, colours=colours(site, con))
+            "stations.html", code=code, name=con["tally"]["name"], said=words, links=links,
+            table=returns, moment=moment, colours=colours(site, con))
 
     codes = [station["code"] for station in entry["stations"]]
     empty = written([], NOTHING, datetime.now().astimezone())

@@ -2,7 +2,8 @@
 
 A template sees `site`, `about` (the keys of site.toml, None where one is missing), `say` (a text of
 the language with its places filled in), `number` and `per_cent`. All that it prints is escaped
-unless a template made it. One of a board may begin with `{% extends "office/NAME" %}`, and then
+unless a template made it: names by the filters `name`, in an element, and `plain_name`, in a title
+or a label. One of a board may begin with `{% extends "office/NAME" %}`, and then
 changes only the blocks that it names.
 """
 
@@ -19,6 +20,8 @@ try:
     from markupsafe import Markup
 except ModuleNotFoundError as missing:
     sys.exit(f"failed: Python lacks the module {missing.name}: apt-get install python3-jinja2")
+
+from press_names import closed, isolated
 
 HERE = Path(__file__).resolve().parent
 OWN = FileSystemLoader(HERE / "templates")
@@ -39,6 +42,11 @@ class Templates:
             undefined=StrictUndefined, trim_blocks=True, lstrip_blocks=True,
             keep_trailing_newline=True)
         self.environment.globals.update(words)
+        self.environment.filters |= {"plain_name": isolated, "name": self.name}
+
+    def name(self, text):
+        """A name, as an element in which its direction stays."""
+        return Markup("<bdi>{}</bdi>").format(closed(text))
 
     def check(self):
         """Reads each template of the folder: one that is none raises a TemplateError."""

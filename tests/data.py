@@ -616,7 +616,8 @@ def entries():
         same([len(entry.findall(ATOM + tag)) for tag in ("id", "title", "updated", "summary", "link", "category")], [1] * 6)
         of_entry, title, updated, summary = (entry.findtext(ATOM + tag) for tag in ("id", "title", "updated", "summary"))
         assert re.fullmatch("urn:uuid:[0-9a-f]{8}-[0-9a-f]{4}-5[0-9a-f]{3}-[89ab][0-9a-f]{3}-[0-9a-f]{12}", of_entry), of_entry
-        found.append((of_entry, entry.find(f"{ATOM}category").get("term"), title, summary, updated))
+        plain_title = re.sub("[\u2068\u2069]", "", title)  # they isolate names (tests/deploy/test_names.py)
+        found.append((of_entry, entry.find(f"{ATOM}category").get("term"), plain_title, summary, updated))
         assert os.path.exists(f"pages/{entry.find(f'{ATOM}link').get('href')}")
     same(len({one[0] for one in found}), len(found))
     moments = [one[4] for one in found]

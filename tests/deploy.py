@@ -1373,11 +1373,11 @@ def test_a_page_without_a_certificate():
         with answering_desk(desk) as (port, _):
             press(port)
         page, text = page_of("con-c1.html"), read("con-c1.html")
-        assert f">{state}, edition 4</p>\n<h1>Twin Town</h1>" in text and f"<b>{state}.</b>" in text and "Seats of each list" not in page.tables
+        assert f">{state}, edition 4</p>\n<h1><bdi>Twin Town</bdi></h1>" in text and f"<b>{state}.</b>" in text and "Seats of each list" not in page.tables
         same((page.figures, text.count("h0")), (1, 0))
         same(page_of("count.html").tables["Progress of the constituencies"][1][:2], ["Twin Town", state.lower()])
         same(page_of("index.html").tables["Constituencies in the order of their names"][1], [f"Twin Town {state.lower()}", "–", "–", "100.00 %"])
-        same("<b>Certificate withdrawn:</b> <a href=\"con-c1.html\">Twin Town</a>." in read("index.html"), desk is REOPENED)
+        same("<b>Certificate withdrawn:</b> <a href=\"con-c1.html\"><bdi>Twin Town</bdi></a>." in read("index.html"), desk is REOPENED)
         if desk is REOPENED:
             assert "a &lt;recount&gt;" in text
             same(page.tables["Certificate of edition 3, withdrawn"][1:], [["A Alpha", "1"], ["B Beta", "2"]])
@@ -1430,8 +1430,8 @@ def test_names_on_a_page():
         press(port, "--setup", "setup.toml")
     page, text = page_of("con-c1.html"), read("con-c1.html")
     same(page.tables["Votes of each list"][1][0], f"A {name}".strip())
-    assert "place 1, &lt;i&gt;Ana&lt;/i&gt;: <q>&lt;b&gt;ill&lt;/b&gt;</q>" in text, text
-    assert "<h1>A &amp; &lt;B&gt;</h1>" in text
+    assert "place 1, <bdi>&lt;i&gt;Ana&lt;/i&gt;</bdi>: <q><bdi>&lt;b&gt;ill&lt;/b&gt;</bdi></q>" in text, text
+    assert "<h1><bdi>A &amp; &lt;B&gt;</bdi></h1>" in text
     page_of("index.html")
 
 
@@ -1864,9 +1864,9 @@ def test_a_map():
         page_of("index.html")
         picture = re.search(r'<figure class="map".*?</figure>', text, re.S)[0]
         assert not re.search(r"script|style|image|onclick|onload|nowhere", picture), picture
-        for part in ('<path d="M0 0H4V4Z" class="con list-A"><title>Norte: A</title></path>',
-                     '<g class="con list-B"><title>Este: B</title><rect x="5" y="0" width="2" height="2"></rect>',
-                     '<path d="M5 5h3v3z" class="con list-D pale"><title>Óeste &lt;3&gt;: D</title></path>', '<path d="M0 8h1"></path>'):
+        for part in ('<path d="M0 0H4V4Z" class="con list-A"><title>\u2068Norte\u2069: A</title></path>',
+                     '<g class="con list-B"><title>\u2068Este\u2069: B</title><rect x="5" y="0" width="2" height="2"></rect>',
+                     '<path d="M5 5h3v3z" class="con list-D pale"><title>\u2068Óeste &lt;3&gt;\u2069: D</title></path>', '<path d="M0 8h1"></path>'):
             assert part in picture, part
         refused_site(port, "map.svg", map="<svg")
         Path("site/map.svg").write_bytes("<svg>é</svg>".encode("latin-1"))
@@ -2427,7 +2427,7 @@ def test_the_weight_of_a_constituency():
             same((name, caption, heads, [row for row in cells if row in shown]), (name, caption, shown[0], []))
             shown += cells
         same((name, re.findall(r'href="(details-.*?)"', text)), (name, [other for other in names[1:] if other != name]))
-        same((name, '<a href="con-c1.html">Twin Town</a>' in text, "Certified, edition 3</p>" in text), (name, here > 0, True))
+        same((name, '<a href="con-c1.html"><bdi>Twin Town</bdi></a>' in text, "Certified, edition 3</p>" in text), (name, here > 0, True))
         for report, part in re.findall(r'<pre [^>]*aria-labelledby="text-(\w+)[-\d]*">(.*?)</pre>', text, re.S):
             texts[report] = texts.get(report, "") + part
     reports = ("tally", "past", "seats", "holders", "quotients", "awards", "short")
@@ -2527,7 +2527,7 @@ def test_the_weight_of_200_constituencies():
     parts = sorted(name for name in pages if name.startswith("cons-"))
     same([int(row[0][:3]) for name in parts for row in pages[name].tables["Constituencies in the order of their names"][1:]], list(range(200)))
     links = re.findall('<a class="piece" href="(.*?)">(.*?)</a>', read("index.html", "large"))
-    same(([link for link, _ in links], links[0][1][:26]), (parts, f"000{'W' * 20}… –"))
+    same(([link for link, _ in links], links[0][1][:28]), (parts, f"\u2068000{'W' * 20}…\u2069 –"))
     same(("searched" in read("index.html", "large"), pages["index.html"].scripts), (False, 0))
     same(len(rows_of_pages({name: page for name, page in pages.items() if name.startswith("count")}, "Progress of the constituencies")), 200)
     assert '<a href="count-1.html">' in read("count.html", "large")

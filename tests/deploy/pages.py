@@ -1,4 +1,5 @@
-"""What the tests of the pages are made with: a folder of their own, and rounds of press.py over offices that do not exist."""
+"""What the tests of the pages are made with: a folder of their own, and rounds of press.py over
+offices that do not exist."""
 
 import contextlib
 import os

@@ -97,8 +97,8 @@ class Faults(OfPages):
                  "site.toml: accessibility is not an address such as ")):
             with self.subTest(file=name, text=text[:30]):
                 lines = self.publish(TWIN, {name: text}, status=1).splitlines()
-                self.assertEqual((len(lines), lines[0][:8], said in lines[0]), (1, "failed: ", True),
-                                 lines)
+                self.assertEqual((len(lines), lines[0][:8], said in lines[0]),
+                                 (1, "failed: ", True), lines)
 
     def test_a_fault_leaves_the_pages_as_they_are(self):
         self.publish(TWIN)
@@ -108,9 +108,10 @@ class Faults(OfPages):
 
     def test_a_python_without_jinja2(self):
         """Which the option -S makes: it has the standard library alone."""
-        for program in (["press.py", "http://127.0.0.1:1", "pages"], ["setup-json", "setup.toml", "."]):
-            with self.subTest(program=program[0]):
-                done = subprocess.run([sys.executable, "-S", "-E", DEPLOY / program[0], *program[1:]],
+        for name, *words in (["press.py", "http://127.0.0.1:1", "pages"],
+                             ["setup-json", "setup.toml", "."]):
+            with self.subTest(program=name):
+                done = subprocess.run([sys.executable, "-S", "-E", DEPLOY / name, *words],
                                       capture_output=True, text=True, timeout=60, check=False)
                 self.assertEqual((done.returncode, done.stdout, done.stderr), (
                     1, "", "failed: Python lacks the module jinja2: "
@@ -129,7 +130,8 @@ class Escaping(OfPages):
                              ('bars_said = "Votes', "bars_said = '\"><i>Votes"),
                              ('licence = "Licence', "licence = '& Licence")):
                 self.assertIn(old, text)
-                line = next(line for line in text.splitlines() if line.startswith(old.split("=")[0]))
+                key = old.split("=")[0]
+                line = next(line for line in text.splitlines() if line.startswith(key))
                 value = line.replace(old, new)
                 if new.count("'"):
                     value = value.rstrip('"') + "'"
@@ -168,7 +170,7 @@ class Escaping(OfPages):
                 self.assertIn(f'"{file.name}"', python + html)
         for name in re.findall(r"{% macro (\w+)\(", html):
             with self.subTest(macro=name):
-                used = re.search(rf"\.{name}\(|[({{ ]{name}\(", python + html.replace(
+                used = re.search(rf"[.({{= ]{name}\(", python + html.replace(
                     f"macro {name}(", ""))
                 self.assertTrue(used)
 
