@@ -349,7 +349,7 @@ def test_what_the_office_says_of_its_data():
         same((package.get("contributors"), feed.findtext(f"{ATOM}author/{ATOM}name")),
              ([{"title": given["authority"], "roles": ["publisher"]}] if given else None, given.get("authority", "The electoral office")))
         same((feed.get("{http://www.w3.org/XML/1998/namespace}lang"), entries()[0][2]),
-             ("es", "Twin Town: certificado en la edición 3") if given else ("en", CERTIFIED[1]))
+             ("es", "Twin Town: resultado proclamado (versión 3)") if given else ("en", CERTIFIED[1]))
 
 
 def test_where_a_reader_finds_the_data():

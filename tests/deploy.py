@@ -1339,7 +1339,7 @@ def test_a_page_after_a_lot():
         same(page_of("con-c1.html").tables["Seats of each list"][1:], [["A Alpha", str(seats[0])], ["B Beta", str(seats[1])], ["Total", "3"]])
         for folder, said, more in (
                 ("pages", "A lot was drawn: first B, then A.", " For a list’s second seat, its fourth and so on this order is turned round."),
-                ("es", "Hubo sorteo: primero B, después A.", " Para el segundo escaño de una lista, el cuarto y así sucesivamente, este orden se invierte.")):
+                ("es", "Hubo sorteo: primero B, después A.", " Para el segundo escaño de una candidatura, el cuarto y así sucesivamente, este orden se invierte.")):
             assert f"<p>{said}{more if turned else ''}</p>" in read("con-c1.html", folder), (folder, lot)
         same([entry["lot"] for entry in json.loads(read("setup.json"))], [lot])
         least = "AB"[seats.index(1)]

@@ -738,7 +738,7 @@ def test_what_is_asked_once_and_its_receipt():
             choose_con(it, "c1")
             # 120 and 71 votes: 120, 71, 60 are the three largest quotients.
             acts(it, "#certify button", "Certify Twin Town, edition 1?", "Done: edition 2.", town | {
-                "Station": None, "A Alpha": "120 votes, 2 seats", "B Beta": "71 votes, 1 seats", "By": "berta, board"})
+                "Station": None, "A Alpha": "120 votes, 2 seats", "B Beta": "71 votes, 1 seat", "By": "berta, board"})
             it.type("#vacate input[name=note]", "moved")
             acts(it, "#vacate button", "Ana (A) is gone?", "Done: nobody moves in, the seat is empty.",
                  town | {"Gone": "Ana, A, place 1", "Note": "moved"})

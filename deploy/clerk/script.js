@@ -16,15 +16,15 @@ const SENTENCES = {
   stale: (a) => blind() ? T.stale_blind({ revision: a.now }) :
     T.stale({ revision: a.now }),
   exhausted: () => T.exhausted,
-  wrong_status: (a) => !blind() ? T.wrong_status({ status: a.status }) :
+  wrong_status: (a) => !blind() ? T.wrong_status({ status: stateOf(a.status) }) :
     a.status === "closed" ? T.closed_already :
-    T.put_aside({ status: a.status }),
+    T.put_aside({ status: stateOf(a.status) }),
   not_all_closed: (a) => T.not_all_closed({ number: a.left }),
   no_eligible: () => T.no_eligible,
   lot_stands: () => T.lot_stands,
   lot_not_needed: () => T.lot_not_needed,
   lot_wrong_group: (a) => T.lot_wrong_group({ lists: a.group.join(", ") }),
-  lot_missing: (a) => T.lot_missing({ lists: a.group.join(", "), seats: a.seats === 1 ? T.one_seat : a.seats + T.more_seats }),
+  lot_missing: (a) => T.lot_missing({ lists: a.group.join(", "), seats: T.seats({ number: a.seats }) }),
   already_gone: () => T.already_gone,
   not_holder: () => T.not_holder,
   not_confirmed: () => T.not_confirmed,
@@ -72,7 +72,15 @@ const STATUSES = {
 };
 
 const UNKNOWN = T.unknown_station;
-const ROLES = { second: T.role_second };
+const ROLES = { clerk: T.role_clerk, second: T.role_second, board: T.role_board, station: T.role_station };
+// What a return is.
+const STATES = { received: T.status_received, queried: T.status_queried, corrected: T.status_corrected, closed: T.status_closed };
+const stateOf = (status) => STATES[status] || status;
+// Numbers, moments and plurals, as they are written in the language of the page.
+const LANGUAGE = document.documentElement.lang;
+const shownAs = (value) => typeof value === "number" ? new Intl.NumberFormat(LANGUAGE).format(value) : value;
+const moment = (time) => new Intl.DateTimeFormat(LANGUAGE, { dateStyle: "long", timeStyle: "long" }).format(time);
+const plural = (many, forms) => forms[new Intl.PluralRules(LANGUAGE).select(many)] || forms.other;
 // The forms into which a slip is typed.
 const SLIPS = ["lodge", "correct", "confirm"];
 // The field to look at after a refusal.
@@ -232,12 +240,13 @@ function showProgress(answer) {
   const row = answer.ok && answer.text.split("\n").map((line) => line.trim().split(/ +/)).find((one) => one[0] === shown.con);
   const waiting = row && double() ? T.waiting({ number: Number(row[3]) + Number(row[5]) }) : "";
   element("progress-line").textContent = !row ? "" :
-    T.progress({ closed: row[6], stations: row[1], missing: row[2], received: row[3], queried: row[4], corrected: row[5], waiting });
+    T.progress({ closed: Number(row[6]), stations: Number(row[1]), missing: Number(row[2]), received: Number(row[3]), queried: Number(row[4]),
+      corrected: Number(row[5]), waiting });
 }
 
 function rowsOf(pairs) {
   const body = made("tbody", null, ...pairs.map(([name, value]) => {
-    const head = made("th", name), cell = made("td", String(value));
+    const head = made("th", name), cell = made("td", shownAs(value));
     head.scope = "row";
     if (typeof value === "number") cell.className = "number";
     return made("tr", null, head, cell);
@@ -263,7 +272,7 @@ function showReturn() {
   const found = shown.found, status = found ? found.status : "", again = shown.again;
   const parts = !found ? [] : blind() ? [made("p", T.station_electors({ station: found.station, electors: electors() }))] :
     status === "none" ? [made("p", T.station_none({ station: found.station }))] : [
-      made("p", T.station_status({ station: found.station, status, revision: found.rev }) + (found.note ? T.station_note({ note: found.note }) : "")),
+      made("p", T.station_status({ station: found.station, status: stateOf(status), revision: found.rev }) + (found.note ? T.station_note({ note: found.note }) : "")),
       ...(again ? [] : [rowsOf(slipRows(found))])];
   const open = shown.view && !shown.view.certified, entered = status === "received" || status === "corrected";
   if (open && entered && double()) parts.push(made("p", T.waits_for_second));
@@ -310,12 +319,12 @@ function viewParts(view) {
   if (view.lot.length) words.push(T.lot_line({ lists: view.lot.join(", ") }));
   if (view.note) words.push(T.reopening_note({ note: view.note }));
   const gone = view.gone.map((one) => made("p", T.gone_line({ list: one.list, place: one.place, note: one.note })));
-  return [made("p", words.join(" ")), ...gone, rowsOf([...listRows(view), [T.blank, T.blank_votes({ number: view.blank })], [T.spoiled, T.spoiled_votes({ number: view.spoiled })]])];
+  return [made("p", words.join(" ")), ...gone, rowsOf([...listRows(view), [T.blank, T.votes({ number: view.blank })], [T.spoiled, T.votes({ number: view.spoiled })]])];
 }
 
 function listRows(view) {
   return constituency().lists.map((list, place) => [`${list.code} ${list.name}`,
-    view.certified ? T.votes_and_seats({ votes: view.votes[place], seats: view.seats[place] }) : T.list_votes({ number: view.votes[place] })]);
+    view.certified ? T.votes_and_seats({ votes: T.votes({ number: view.votes[place] }), seats: T.seats_given({ number: view.seats[place] }) }) : T.votes({ number: view.votes[place] })]);
 }
 
 function showDraw() {
@@ -338,7 +347,7 @@ function showReceipt(done, answer, { title, station, open, rows }) {
   element("receipt").querySelector("summary").textContent = T.receipt({ title });
   element("receipt").querySelector("div").replaceChildren(rowsOf([
     ...(station ? [[T.station, station]] : []), [T.constituency, `${constituency().name} (${shown.con})`], [T.done, done], ...rows(),
-    [T.by_label, `${person.name}, ${ROLES[person.role] || person.role}`], [T.at_label, new Date().toString()], [T.answer_label, answer]]));
+    [T.by_label, `${person.name}, ${ROLES[person.role] || person.role}`], [T.at_label, moment(new Date())], [T.answer_label, answer]]));
 }
 
 // ---- a slip, and what is looked at before it is sent
@@ -421,7 +430,7 @@ function checked(form) {
   const open = wrong ? [] : warned(form);
   if (!wrong && !open.length) return true;
   say(wrong ? T.wrong_total({ sum, typed: Number(typed.value) }) :
-    T.unusual({ figures: open.length === 1 ? T.one_figure : T.more_figures({ number: open.length }) }), "refused");
+    T.unusual({ figures: T.figures({ number: open.length }) }), "refused");
   (wrong ? fields(form, "votes")[0] : open[0]).select();
   return false;
 }
@@ -686,6 +695,18 @@ for (const form of SLIPS.map(element)) {
     if (box) box.remove();
   });
   form.addEventListener("reset", () => form.querySelectorAll(".warning").forEach((box) => box.remove()));
+}
+// Sentences of this page in place of those of the browser, which may be in another language. A field that is looked at again
+// says nothing of before.
+addEventListener("invalid", ({ target }) => {
+  target.setCustomValidity("");
+  const { valueMissing, patternMismatch } = target.validity;
+  target.setCustomValidity(valueMissing ? T.fill_in : patternMismatch ? T.other_form({ form: target.title }) : "");
+}, true);
+for (const event of ["click", "input"]) {
+  addEventListener(event, ({ target }) => {
+    for (const field of target.form ? target.form.elements : []) field.setCustomValidity("");
+  }, true);
 }
 addEventListener("beforeunload", (event) => { if (unsent()) event.preventDefault(); });
 begin();
