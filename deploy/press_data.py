@@ -8,6 +8,8 @@ import re
 import uuid
 import xml.etree.ElementTree as ET
 
+from press_names import isolated
+
 # Of the form of the files. The first number is raised when something goes or means something else,
 # the second when something is added.
 VERSION = "1.1.0"
@@ -331,15 +333,16 @@ def events(con, candidates):
             yield "reopening", f"{edition} {given}", {"edition": edition}, note
     for row in con["view"]["gone"]:
         of_list = candidates.get(row["list"], [])
-        who = f" ({of_list[row['place'] - 1]})" if row["place"] <= len(of_list) else ""
+        who = f" ({isolated(of_list[row['place'] - 1])})" if row["place"] <= len(of_list) else ""
         yield "vacancy", f"{row['list']} {row['place']} {row['note']}", {"list": row["list"], "place": row["place"], "name": who}, row["note"]
 
 
 def entry_of(site, code, con, event, moment):
     kind, words, of_title, text = event
     entry, name = ET.Element(f"{ATOM}entry"), con["tally"]["name"]
-    for tag, said in (("id", identity(kind, code, name, words)), ("title", site.say(f"feed_{kind}", con=name, **of_title)), ("updated", moment),
-                      ("summary", text)):
+    title = site.say(f"feed_{kind}", con=isolated(name), **of_title)
+    for tag, said in (("id", identity(kind, code, name, words)), ("title", title),
+                      ("updated", moment), ("summary", text)):
         ET.SubElement(entry, ATOM + tag).text = NO_XML.sub("\ufffd", said)
     ET.SubElement(entry, f"{ATOM}link", href=f"con-{code}.html")
     ET.SubElement(entry, f"{ATOM}category", term=kind)

@@ -1,6 +1,7 @@
-"""What an office says of its pages, in a folder of its own: title and language, colours of lists, names of stations, a former
-result, a map. Each of its files may be missing."""
+"""What an office says of its pages, in a folder of its own: title and language, colours of lists,
+names of stations, a former result, a map, a logo, a style, templates. Each may be missing."""
 
+import base64
 import csv
 import io
 import re
@@ -10,24 +11,38 @@ from collections import defaultdict
 from datetime import date
 from pathlib import Path
 
+from press_templates import Markup, TemplateError, Templates
+
 # The tracks of press.css, light and dark: what is on them has more contrast with any other ground.
 TRACKS = ("#eceae4", "#2a2e36")
 # The least contrast of a colour with the ground, and with that of a neighbour in a half circle.
 FROM_GROUND, FROM_NEIGHBOUR = 3, 1.5
 # Colours of lists, light and dark, in the order in which the lists are met: one beyond them has
 # one of them again.
-PALETTE = (("#0f4775", "#2f7dc0"), ("#cc5f20", "#ffc08a"), ("#14532d", "#2f8a55"), ("#b0598a", "#ffb9df"), ("#4a2373", "#8f63c4"),
-           ("#9a6e14", "#f7d774"), ("#0b4a52", "#1a868f"), ("#d45252", "#ffbdb5"), ("#5c3415", "#a06a3f"), ("#5f7d22", "#d3e68a"),
-           ("#731840", "#c4527f"), ("#4f7aa3", "#b9dcff"))
+PALETTE = (("#0f4775", "#2f7dc0"), ("#cc5f20", "#ffc08a"), ("#14532d", "#2f8a55"),
+           ("#b0598a", "#ffb9df"), ("#4a2373", "#8f63c4"), ("#9a6e14", "#f7d774"),
+           ("#0b4a52", "#1a868f"), ("#d45252", "#ffbdb5"), ("#5c3415", "#a06a3f"),
+           ("#5f7d22", "#d3e68a"), ("#731840", "#c4527f"), ("#4f7aa3", "#b9dcff"))
 # Each language has a file beside this one.
-LANGUAGES = {file.stem.removeprefix("press_"): file for file in Path(__file__).resolve().parent.glob("press_*.toml")}
-ABOUT = {"title": str, "date": date, "authority": str, "licence": str, "language": str}
+LANGUAGES = {file.stem.removeprefix("press_"): file
+             for file in Path(__file__).resolve().parent.glob("press_*.toml")}
+ABOUT = {"title": str, "date": date, "authority": str, "licence": str, "language": str,
+         "contact": str, "accessibility": str}
+# Bytes of a logo, which is in each page.
+LOGO_ROOM = 6_000
 SHAPES = {"svg", "g", "path", "polygon", "polyline", "rect", "circle", "ellipse", "line"}
-PLACES = {"viewBox", "d", "points", "x", "y", "width", "height", "cx", "cy", "r", "rx", "ry", "x1", "y1", "x2", "y2", "transform"}
+PLACES = {"viewBox", "d", "points", "x", "y", "width", "height", "cx", "cy", "r", "rx", "ry",
+          "x1", "y1", "x2", "y2", "transform"}
 
 
 class Wrong(Exception):
     """A file of the folder is not what it has to be."""
+
+
+def fault_of(error):
+    """A template's fault in a line."""
+    place = f"{error.name}, line {error.lineno}: " if hasattr(error, "lineno") else ""
+    return place + (error.message or type(error).__name__)
 
 
 # ---- colours
@@ -36,7 +51,8 @@ class Wrong(Exception):
 def light_of(colour):
     """The relative luminance of a colour, after WCAG 2."""
     parts = [int(colour[place:place + 2], 16) / 255 for place in (1, 3, 5)]
-    red, green, blue = (part / 12.92 if part <= 0.04045 else ((part + 0.055) / 1.055) ** 2.4 for part in parts)
+    red, green, blue = (part / 12.92 if part <= 0.04045 else ((part + 0.055) / 1.055) ** 2.4
+                        for part in parts)
     return 0.2126 * red + 0.7152 * green + 0.0722 * blue
 
 
@@ -92,6 +108,8 @@ def read_about(file):
             raise Wrong(f"{file}: {key} is not a {kind.__name__}")
     if about.get("language", "en") not in LANGUAGES:
         raise Wrong(f"{file}: no texts of the language {about['language']!r}")
+    if not re.fullmatch(r"https?://\S+|[\w.-]+|", about.get("accessibility", "")):
+        raise Wrong(f"{file}: accessibility is not an address such as https://example.org/access")
     return about
 
 
@@ -105,12 +123,14 @@ def read_colours(file):
 
 
 def read_former(file):
-    """A former result: per constituency its lists' votes and seats, and its valid votes where the file has them."""
+    """A former result: per constituency its lists' votes and seats, and its valid votes where the
+    file has them."""
     found = defaultdict(lambda: {"valid": None, "votes": {}, "seats": {}})
     for row in rows_of(file, "con", "list", "votes", "seats"):
         con = found[row["con"]]
         try:
-            con["votes"][row["list"]], con["seats"][row["list"]] = int(row["votes"]), int(row["seats"])
+            con["votes"][row["list"]] = int(row["votes"])
+            con["seats"][row["list"]] = int(row["seats"])
             con["valid"] = int(row["valid"]) if row.get("valid") else None
         except ValueError as error:
             raise Wrong(f"{file}: {row['con']}, {row['list']}: {error}") from error
@@ -132,7 +152,25 @@ def shapes(element):
     if kind not in SHAPES:
         return None
     places = {name: value for name, value in element.attrib.items() if name in PLACES}
-    return kind, element.get("id"), places, [found for child in element if (found := shapes(child))]
+    inner = [found for child in element if (found := shapes(child))]
+    return kind, element.get("id"), places, inner
+
+
+def read_logo(file):
+    """The logo as an address that has all of it; nothing where there is none."""
+    if not file.exists():
+        return None
+    data = file.read_bytes()
+    if len(data) > LOGO_ROOM:
+        raise Wrong(f"{file}: {len(data)} bytes, and a logo may have {LOGO_ROOM}")
+    return f"data:image/svg+xml;base64,{base64.b64encode(data).decode()}"
+
+
+def read_style(file):
+    text = text_of(file)
+    if "</" in text:
+        raise Wrong(f"{file}: a style has no </")
+    return text
 
 
 class Site:
@@ -144,10 +182,20 @@ class Site:
         self.language = self.about.get("language", "en")
         self.words = tomllib.loads(LANGUAGES[self.language].read_text(encoding="utf-8"))
         self.colours = read_colours(folder / "colours.csv")
-        self.names = {row["station"]: row["name"] for row in rows_of(folder / "stations.csv", "station", "name")}
+        self.names = {row["station"]: row["name"]
+                      for row in rows_of(folder / "stations.csv", "station", "name")}
         self.former = read_former(folder / "before.csv")
         self.map = read_map(folder / "map.svg")
+        self.logo = read_logo(folder / "logo.svg")
         self.met = {}
+        self.templates = Templates(
+            folder / "templates", read_style(folder / "site.css"), site=self, say=self.said,
+            number=self.number, per_cent=self.per_cent,
+            about={key: self.about.get(key) for key in ABOUT})
+        try:
+            self.templates.check()
+        except TemplateError as error:
+            raise Wrong(f"{folder / 'templates'}: {fault_of(error)}") from error
 
     def meet(self, codes):
         """Gives each list that was not met before a place among the colours."""
@@ -158,10 +206,18 @@ class Site:
         """A list's colours, light and dark."""
         return self.colours.get(code) or PALETTE[self.met.get(code, 0) % len(PALETTE)]
 
+    def colours_in(self, codes):
+        """Lists with their colours, light and dark."""
+        return [(code, *self.colours_of(code)) for code in codes]
+
     # ---- words
 
     def say(self, key, **values):
         return self.words[key].format(**values)
+
+    def said(self, key, **values):
+        """The same as a part of a page: escaped, but for values that templates made."""
+        return Markup.escape(self.words[key]).format(**values)
 
     def number(self, value):
         return str(value) if value < 1000 else f"{value:,}".replace(",", self.words["thousands"])
@@ -177,11 +233,14 @@ class Site:
         return "±0" if not value else ("+" if value > 0 else "−") + written(abs(value))
 
     def day(self, day):
-        return self.say("day", day=day.day, month=self.words["months"][day.month - 1], year=day.year)
+        month = self.words["months"][day.month - 1]
+        return self.say("day", day=day.day, month=month, year=day.year)
 
     def moment(self, moment):
-        return (f'<time datetime="{moment.isoformat(timespec="seconds")}">{self.day(moment)}, '
-                f'{moment.strftime("%H:%M:%S %z")}</time>')
+        return f"{self.day(moment)}, {moment.strftime('%H:%M:%S %z')}"
+
+    def age_of(self, since, now):
+        return self.age(max((now - since).total_seconds(), 0))
 
     def age(self, seconds):
         for size, unit in ((86400, "days"), (3600, "hours"), (60, "minutes"), (1, "seconds")):

@@ -228,7 +228,7 @@ class Data(SiteCase):
                                   else None, given.get("authority", "The electoral office")))
                 self.assertEqual((feed.get("{http://www.w3.org/XML/1998/namespace}lang"),
                                   entries()[0][2]),
-                                 ("es", "Twin Town: certificado en la edición 3") if given
+                                 ("es", "Twin Town: resultado proclamado (versión 3)") if given
                                  else ("en", CERTIFIED[1]))
 
     def test_where_a_reader_finds_the_data(self):

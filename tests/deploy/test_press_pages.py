@@ -110,8 +110,8 @@ class PressPages(SiteCase):
                     ("pages", "A lot was drawn: first B, then A.",
                      " For a list’s second seat, its fourth and so on this order is turned round."),
                     ("es", "Hubo sorteo: primero B, después A.",
-                     " Para el segundo escaño de una lista, el cuarto y así sucesivamente, este "
-                     "orden se invierte.")):
+                     " Para el segundo escaño de una candidatura, el cuarto y así sucesivamente, "
+                     "este orden se invierte.")):
                     with self.subTest(folder=folder, said=said, more=more):
                         self.assertIn(f"<p>{said}{more if turned else ''}</p>",
                                       read("con-c1.html", folder))
@@ -155,7 +155,7 @@ class PressPages(SiteCase):
                 with answering_desk(desk) as (port, _):
                     press(port)
                 page, text = page_of("con-c1.html"), read("con-c1.html")
-                self.assertIn(f">{state}, edition 4</p>\n<h1>Twin Town</h1>", text)
+                self.assertIn(f">{state}, edition 4</p>\n<h1><bdi>Twin Town</bdi></h1>", text)
                 self.assertIn(f"<b>{state}.</b>", text)
                 self.assertNotIn("Seats of each list", page.tables)
                 self.assertEqual((page.figures, text.count("h0")), (1, 0))
@@ -165,7 +165,8 @@ class PressPages(SiteCase):
                 self.assertEqual(
                     page_of("index.html").tables["Constituencies in the order of their names"][1],
                     [f"Twin Town {state.lower()}", "–", "–", "100.00 %"])
-                withdrawn = '<b>Certificate withdrawn:</b> <a href="con-c1.html">Twin Town</a>.'
+                withdrawn = ('<b>Certificate withdrawn:</b> '
+                             '<a href="con-c1.html"><bdi>Twin Town</bdi></a>.')
                 self.assertEqual(withdrawn in read("index.html"), desk is REOPENED)
                 if desk is REOPENED:
                     self.assertIn("a &lt;recount&gt;", text)
@@ -235,8 +236,9 @@ class PressPages(SiteCase):
             press(port, "--setup", "setup.toml")
         page, text = page_of("con-c1.html"), read("con-c1.html")
         self.assertEqual(page.tables["Votes of each list"][1][0], f"A {name}".strip())
-        self.assertIn("place 1, &lt;i&gt;Ana&lt;/i&gt;: <q>&lt;b&gt;ill&lt;/b&gt;</q>", text)
-        self.assertIn("<h1>A &amp; &lt;B&gt;</h1>", text)
+        self.assertIn("place 1, <bdi>&lt;i&gt;Ana&lt;/i&gt;</bdi>: "
+                      "<q><bdi>&lt;b&gt;ill&lt;/b&gt;</bdi></q>", text)
+        self.assertIn("<h1><bdi>A &amp; &lt;B&gt;</bdi></h1>", text)
         page_of("index.html")
 
     def test_a_page_that_gets_old(self):

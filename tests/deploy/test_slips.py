@@ -471,7 +471,7 @@ class Slips(SiteCase):
                 self.acts(it, "#certify button", "Certify Twin Town, edition 1?",
                           "Done: edition 2.", town | {
                               "Station": None, "A Alpha": "120 votes, 2 seats",
-                              "B Beta": "71 votes, 1 seats", "By": "berta, board"})
+                              "B Beta": "71 votes, 1 seat", "By": "berta, board"})
                 it.type("#vacate input[name=note]", "moved")
                 self.acts(it, "#vacate button", "Ana (A) is gone?",
                           "Done: nobody moves in, the seat is empty.",

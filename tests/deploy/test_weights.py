@@ -76,7 +76,7 @@ class Weights(SiteCase):
                     shown += cells
                 self.assertEqual(re.findall(r'href="(details-.*?)"', text),
                                  [other for other in names[1:] if other != name])
-                self.assertEqual(('<a href="con-c1.html">Twin Town</a>' in text,
+                self.assertEqual(('<a href="con-c1.html"><bdi>Twin Town</bdi></a>' in text,
                                   "Certified, edition 3</p>" in text), (here > 0, True))
                 for report, part in re.findall(
                     r'<pre [^>]*aria-labelledby="text-(\w+)[-\d]*">(.*?)</pre>', text, re.S):
@@ -192,8 +192,8 @@ class Weights(SiteCase):
                           in pages[name].tables["Constituencies in the order of their names"][1:]],
                          list(range(200)))
         links = re.findall('<a class="piece" href="(.*?)">(.*?)</a>', read("index.html", "large"))
-        self.assertEqual(([link for link, _ in links], links[0][1][:26]),
-                         (parts, f"000{'W' * 20}… –"))
+        self.assertEqual(([link for link, _ in links], links[0][1][:28]),
+                         (parts, f"\u2068000{'W' * 20}…\u2069 –"))
         self.assertEqual(("searched" in read("index.html", "large"), pages["index.html"].scripts),
                          (False, 0))
         self.assertEqual(len(rows_of_pages(

@@ -260,7 +260,8 @@ def clerks_pages(it):
         yield "second", SCREENS
     with clerks_site(counted(office_of(EXAMPLES), certified=True), "berta", "board") as address:
         opened(it, address)
-        it.run("Date.prototype.toString = () => 'Sun Nov 29 2026 21:14:00 GMT+0100'")
+        it.run("Object.defineProperty(Intl.DateTimeFormat.prototype, 'format', "
+               "{ value: () => 'Sun Nov 29 2026 21:14:00 GMT+0100' })")
         yield "board", SCREENS
         it.type("#reopen input[name=note]", "a recount")
         it.click("#reopen button")

@@ -228,7 +228,10 @@ def entries():
         assert re.fullmatch(
             "urn:uuid:[0-9a-f]{8}-[0-9a-f]{4}-5[0-9a-f]{3}-[89ab][0-9a-f]{3}-[0-9a-f]{12}",
             of_entry), of_entry
-        found.append((of_entry, entry.find(f"{ATOM}category").get("term"), title, summary, updated))
+        # Names in a title are isolated.
+        plain_title = re.sub("[\u2068\u2069]", "", title)
+        found.append((of_entry, entry.find(f"{ATOM}category").get("term"), plain_title, summary,
+                      updated))
         assert os.path.exists(f"pages/{entry.find(f'{ATOM}link').get('href')}")
     same(len({one[0] for one in found}), len(found))
     moments = [one[4] for one in found]

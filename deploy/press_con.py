@@ -1,0 +1,280 @@
+"""The page of a constituency: its sections, and the pages on which it goes on."""
+
+import math
+from datetime import datetime
+
+from press_country import seats_before, shares_before
+from press_data import OPEN
+from press_figures import bars, half_circle
+from press_parts import (COUNTED, NOTHING, TABLE_ROOM, Head, Part, by_votes, changed, changing,
+                         details_links, divided, hundredths, list_name, numbers, pieces,
+                         progress_bar, room_beside, row_of, sections, sections_on, size, table,
+                         tables, text_sections, together, votes_said)
+
+# Columns of quotients side by side, as many as a sheet has room for.
+QUOTIENTS_WIDE = 8
+# Bytes of rows that the tables of seats and of votes may have on the page of a constituency, which
+# has the first of these with which it is no longer than a page may be: the other rows are on the
+# pages on which it goes on.
+TABLES_OF_CON = ((math.inf, math.inf), (math.inf, 12_000), (math.inf, 6_000), (10_000, 6_000),
+                 (6_000, 4_000))
+
+
+# ---- seats and votes
+
+
+def former_con(site, code, con, entry):
+    """The seats and the shares that each list had, each where they can be compared."""
+    tally = con["tally"]
+    whole = tally["closed"] == tally["stations"] and entry and entry["base"] == "valid"
+    return (seats_before(site.former, [code]) if "seats" in con else None,
+            shares_before(site.former, [code]) if whole else None)
+
+
+def seats_sections(site, code, con, row, entry, room):
+    """The seats, with as many rows of their table as have room, and the others."""
+    macros = site.templates.of_con
+    if not con["view"]["certified"]:
+        why = "why_returns" if row["closed"] < row["stations"] else "why_board"
+        return [Part(macros.no_seats("none_withdrawn" if con["past"] else "none_open", why))]
+    given, total = con["seats"]["seats"], con["seats"]["total"]
+    before, _ = former_con(site, code, con, entry)
+    rows = [row_of(site, list_name(site, one["code"], one["name"]),
+                   changed(site, one["code"], given[one["code"]], before, site.number))
+            for one in by_votes(con)]
+    rows.append(row_of(site, site.said("total"), site.number(total)))
+    heads = (site.said("list"), changing(site, "seats", before))
+    first, *more = tables(site, site.said("table_seats"), heads, rows, "totalled", room=room)
+    ordered = {one["code"]: given[one["code"]] for one in by_votes(con)}
+    circle, lot = half_circle(site, ordered, total) if total else None, con["view"]["lot"]
+    # (of Hare's rule a list has one claim to a seat, for which the order is as it was drawn)
+    turned = entry and entry["lot"] == "alternating" and entry["method"] != "hare"
+    seats = macros.seats(certified_said(site, con, entry), circle, first,
+                         site.say("lot_then").join(lot), turned)
+    return [Part(seats, first.heads), *sections_on(site, more)]
+
+
+def certified_said(site, con, entry):
+    values = {"edition": con["seats"]["edition"], "seats": site.number(con["seats"]["total"])}
+    if not entry:
+        return site.said("certified_in", **values)
+    return site.said("certified_by", **values, method=site.words["methods"][entry["method"]])
+
+
+def votes_sections(site, code, con, entry, room):
+    """The votes, with as many rows of their table as have room, and the others."""
+    _, before = former_con(site, code, con, entry)
+    lists = [row | {"share": int(row["share"].replace(".", ""))} for row in by_votes(con)]
+    rows = [row_of(site, list_name(site, row["code"], row["name"]), site.number(row["votes"]),
+                   changed(site, row["code"], row["share"], before, site.per_cent, " %"),
+                   site.said("yes" if row["eligible"] else "no")) for row in lists]
+    base = site.say(f"base_{entry['base']}") if entry else site.say("base_valid")
+    threshold, limit = entry["threshold"] if entry else 0, ""
+    if threshold:
+        limit = site.said("threshold", share=site.per_cent(threshold), base=base)
+    shares = site.said("shares_of", base=base) if entry else site.said("shares_in")
+    heads = (site.said("list"), numbers(site.said("votes").lower()),
+             changing(site, "share", before), site.said("takes_part"))
+    first, *more = tables(site, site.said("table_votes"), heads, rows, room=room)
+    votes = site.templates.of_con.votes(
+        con["tally"]["closed"], con["tally"]["stations"], bars(site, lists, threshold, limit),
+        first, shares, before is not None)
+    return [Part(votes, first.heads), *sections_on(site, more)]
+
+
+def counted_section(site, code, con, row, entry, published):
+    tally, turnout, link = con["tally"], None, None
+    said = site.said("con_counted", closed=site.number(row["closed"]),
+                     stations=site.number(row["stations"]))
+    if entry and tally["closed"] == tally["stations"]:
+        papers = tally["valid"] + tally["spoiled"]
+        electors = sum(station["electors"] for station in entry["stations"])
+        turnout = site.said("turnout", share=site.per_cent(hundredths(papers, electors)),
+                            papers=site.number(papers), electors=site.number(electors))
+    if published:
+        link = f"stations-{code}-1.html"
+    heads = [numbers(site.said(key)) for key in COUNTED]
+    counts = row_of(site, *(site.number(row[key]) for key in COUNTED))
+    returns = table(site, site.said("table_returns"), heads, [counts], wide=True)
+    counted = site.templates.of_con.counted(
+        said, progress_bar(site, said, row["closed"], row["stations"]), returns, turnout,
+        votes_said(site, tally["valid"], tally["blank"], tally["spoiled"]), bool(entry), link)
+    return Part(counted, returns.heads)
+
+
+# ---- who holds the seats, and how they were awarded
+
+
+def holders_sections(site, con, order, candidates):
+    if "holders" not in con:
+        return []
+    macros = site.templates.of_con
+    rows = [row_of(site, list_name(site, row["list"]),
+                   "–" if row["place"] is None else site.number(row["place"]),
+                   macros.empty_seat() if row["place"] is None
+                   else site.templates.name(row["name"]))
+            for row in sorted(con["holders"], key=lambda row: order[row["list"]])]
+    gone = [macros.candidate_gone(row["list"], row["place"], candidate(candidates, row),
+                                  row["note"]) for row in con["view"]["gone"]]
+    left = [Part(macros.gone(part), [site.said("gone")])
+            for part in pieces(gone, TABLE_ROOM) if part]
+    heads = (site.said("list"), numbers(site.said("place")), site.said("name"))
+    *parts, last = tables(site, site.said("table_holders"), heads, rows)
+    return sections(site, site.said("holders"),
+                    [*parts, together([last, *left[:1]]), *left[1:]])
+
+
+def candidate(candidates, row):
+    """The name of a candidate, where the setup is known."""
+    names = candidates.get(row["list"], [])
+    return names[row["place"] - 1] if row["place"] <= len(names) else None
+
+
+def awards_sections(site, con):
+    if "awards" not in con:
+        return []
+    keys = ("of_list", "votes", "divisor", "quotient")
+    rows = [row_of(site, site.number(row["seat"]), list_name(site, row["list"]),
+                   *(site.number(row[key]) for key in keys)) for row in con["awards"]]
+    columns = ("seat_of", "votes_unit", "divisor", "quotient")
+    heads = (numbers(site.said("seat")), Head(site.said("list_of")),
+             *(numbers(site.said(key)) for key in columns))
+    *parts, last = tables(site, site.said("table_awards"), heads, rows, wide=True)
+    said = site.templates.parts.paragraph(site.said("awards_said"))
+    return sections(site, site.said("awards"), [*parts, Part(last + said.rstrip(), last.heads)])
+
+
+def quotients_sections(site, con, order):
+    """The quotients, in tables as wide as a sheet has room for, and what each list lacked for one
+    seat more."""
+    if "quotients" not in con:
+        return []
+    lists = sorted(con["quotients"], key=lambda row: order[row[0]])
+    many, parts = max((len(row) for _, row in lists), default=0), []
+    for start in range(0, max(many, 1), QUOTIENTS_WIDE):
+        parts += quotients_tables(site, lists, start, min(start + QUOTIENTS_WIDE, many), many)
+    short = [row_of(site, list_name(site, row["list"]), site.number(row["seats"]),
+                    "–" if row["short"] is None else site.number(row["short"]))
+             for row in sorted(con["short"], key=lambda row: order[row["list"]])]
+    heads = (site.said("list"), numbers(site.said("seats").lower()), numbers(site.said("short")))
+    parts += tables(site, site.said("table_short"), heads, short)
+    said = site.templates.parts.paragraph(site.said("quotients_said"))
+    return sections(site, site.said("quotients"), parts, said)
+
+
+def quotients_tables(site, lists, start, end, many):
+    rows = [site.templates.of_con.quotients(
+        code, [(site.number(value), won) for value, won in row[start:end]]) for code, row in lists]
+    caption = site.said("table_quotients")
+    if many > QUOTIENTS_WIDE:
+        caption = site.said("table_quotients_part", first=start + 1, last=end)
+    heads = [Head(site.said("list")), *(numbers(site.said("seat_number", number=place))
+                                        for place in range(start + 1, end + 1))]
+    return tables(site, caption, heads, rows, "quotients", wide=True)
+
+
+def quota_sections(site, con, order):
+    if "quota" not in con:
+        return []
+    keys = ("votes", "whole", "remainder", "seats")
+    rows = [row_of(site, list_name(site, row["list"]), *(site.number(row[key]) for key in keys))
+            for row in sorted(con["quota"]["lists"], key=lambda row: order[row["list"]])]
+    heads = [Head(site.said("list")), *(numbers(site.said(key).lower()) for key in keys)]
+    said = site.said("quotas_said", votes=site.number(con["quota"]["votes"]),
+                     seats=site.number(con["quota"]["seats"]))
+    return sections(site, site.said("quotas"),
+                    tables(site, site.said("table_quotas"), heads, rows, wide=True),
+                    site.templates.parts.paragraph(said))
+
+
+# ---- what was withdrawn, and files
+
+
+def past_sections(site, con, order, returns):
+    macros = site.templates.of_con
+    if not con["past"]:
+        return [Part(macros.no_past())]
+    note, parts = con["view"]["note"], []
+    for past in con["past"]:
+        rows = [row_of(site, list_name(site, row["code"], row["name"]), site.number(row["seats"]))
+                for row in sorted(past["lists"], key=lambda row: order[row["code"]])]
+        of_stations = returns.get(past["edition"])
+        link = macros.past_returns(of_stations) if of_stations else NOTHING
+        heads = (site.said("list"), numbers(site.said("seats").lower()))
+        caption = site.said("table_past", edition=past["edition"])
+        *more, last = tables(site, caption, heads, rows, "withdrawn")
+        parts += [*more, Part(last + link, last.heads)]
+    return sections(site, site.said("past"), parts, macros.past_note(note) if note else NOTHING)
+
+
+def files_section(site, code, edition, returns):
+    """Links to the same numbers for programs."""
+    links = [(f"con-{code}.csv", site.said("file_con")),
+             (f"con-{code}.json", site.said("file_con_json"))]
+    links += [(returns[which], site.said(words, edition=edition))
+              for which, words in ((edition, "file_returns"), (OPEN, "file_open"))
+              if which in returns]
+    return Part(site.templates.of_con.programs(links))
+
+
+# ---- pages
+
+
+def con_bodies(site, code, con, row, entry, returns):
+    """What the page of a constituency has, and, where that is too long for one, the pages on which
+    it goes on; `entry` is what the setup says of the constituency, or None."""
+    order = {listed["code"]: place for place, listed in enumerate(by_votes(con))}
+    names = {listed["code"]: listed["candidates"] for listed in entry["lists"]} if entry else {}
+    published = (row["edition"] if row["certified"] else OPEN) in returns
+    counted = counted_section(site, code, con, row, entry, published)
+    details = [*holders_sections(site, con, order, names), *awards_sections(site, con),
+               *quotients_sections(site, con, order), *quota_sections(site, con, order),
+               *past_sections(site, con, order, returns)]
+    files = files_section(site, code, row["edition"], returns)
+    texts = text_sections(site, con["texts"])
+    empty = {"links": NOTHING, "sections": []}
+    room = room_beside(details_page(site, code, con, row, empty, datetime.now().astimezone()))
+
+    def links(groups, here):
+        names = [f"details-{code}-{place}.html" for place in range(1, len(groups) + 1)]
+        return details_links(site, names, groups, here)
+
+    for of_seats, of_votes in TABLES_OF_CON:
+        seats, *more_seats = seats_sections(site, code, con, row, entry, of_seats)
+        votes, *more_votes = votes_sections(site, code, con, entry, of_votes)
+        more = [*more_seats, *more_votes, *details, *texts]
+        if sum(map(size, [seats, votes, counted, files, *more])) <= room:
+            return [{"seats": NOTHING.join([seats, *more_seats]), "counted": counted,
+                     "votes": NOTHING.join([votes, *more_votes]), "links": NOTHING,
+                     "details": NOTHING.join(details), "files": files,
+                     "texts": NOTHING.join(texts)}]
+        groups = divided(more, room, links)
+        to_others = links(groups, None)
+        if sum(map(size, [seats, votes, counted, to_others, files])) <= room:
+            break
+    first = {"seats": seats, "votes": votes, "counted": counted, "links": to_others,
+             "details": NOTHING, "files": files, "texts": NOTHING}
+    return [first, *({"links": links(groups, here), "sections": group}
+                     for here, group in enumerate(groups))]
+
+
+def state_of(con, row):
+    return "certified" if row["certified"] else "withdrawn" if con["past"] else "open"
+
+
+def colours(site, con):
+    return site.colours_in(one["code"] for one in con["tally"]["lists"])
+
+
+def con_page(site, con, row, body, moment):
+    """The page of a constituency, which has this."""
+    return site.templates.page(
+        "con.html", name=con["tally"]["name"], state=state_of(con, row), edition=row["edition"],
+        moment=moment, colours=colours(site, con), **body)
+
+
+def details_page(site, code, con, row, body, moment):
+    """A page on which that of a constituency goes on."""
+    return site.templates.page(
+        "details.html", code=code, name=con["tally"]["name"], state=state_of(con, row),
+        edition=row["edition"], moment=moment, colours=colours(site, con), **body)

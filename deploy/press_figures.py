@@ -1,0 +1,156 @@
+"""Pictures of the pages, as numbers and places: a template draws them."""
+
+import math
+
+from press_country import first_list
+from press_site import like
+
+# Bars that a page shows; and seats and lists of which a half circle can be made out.
+SHOWN_BARS, MOST_DOTS, MOST_LABELS = 12, 1_000, 60
+# Of the labels beside a half circle: how far one is below another, and how wide a letter is.
+LABEL_STEP, LETTER_WIDTH = 11.5, 7.4
+
+
+# ---- bars
+
+
+def bars(site, rows, threshold=0, limit=""):
+    """Shares of the first lists, and the threshold as a line across them."""
+    rows, more = rows[:SHOWN_BARS], len(rows) - SHOWN_BARS
+    full = max([*(row["share"] for row in rows), threshold, 1]) * 1.02
+    said = ", ".join(site.say("per_cent_said", list=row["code"], share=site.per_cent(row["share"]))
+                     for row in rows)
+    return {
+        "said": said, "limit": limit, "more": more,
+        "line": f"{threshold / full * 100:.2f}" if threshold else None,
+        "bars": [row | {"share": site.per_cent(row["share"]),
+                        "width": f"{row['share'] / full * 100:.2f}"} for row in rows]}
+
+
+# ---- a half circle of seats
+
+
+def rows_of_dots(count):
+    """Radii of the rows of a half circle of dots, how many each has, and the radius of a dot, as
+    large as it may be."""
+    best = None
+    for rows in range(1, 16):
+        gap = 62 / rows
+        radii = [100 - gap * row for row in range(rows)]
+        dots = [round(count * radius / sum(radii)) for radius in radii]
+        dots[0] += count - sum(dots)
+        apart = [math.pi * radius / (many - 1) for radius, many in zip(radii, dots) if many > 1]
+        size = min([gap, 26, *apart]) * 0.44
+        if min(dots) >= 0 and (best is None or size > best[2]):
+            best = radii, dots, size
+    return best
+
+
+def places_of_dots(count):
+    """Angle and radius of each dot of a half circle, from left to right, and a dot's radius."""
+    radii, dots, size = rows_of_dots(count)
+    found = []
+    for radius, many in zip(radii, dots):
+        found += [(math.pi * (1 - (place / (many - 1) if many > 1 else 0.5)), radius)
+                  for place in range(many)]
+    return sorted(found, key=lambda dot: (-dot[0], dot[1])), size
+
+
+def half_circle(site, seats, total, open_seats=0, majority=None):
+    """The seats as a half circle of dots, by list in the order of seats, then the open ones; each
+    list is named beside its own."""
+    groups = sorted(((code, many) for code, many in seats.items() if many),
+                    key=lambda group: -group[1])
+    named = [*groups, *([(None, open_seats)] if open_seats else [])]
+    dots, size = places_of_dots(total)
+    at = majority_angle(dots, majority) if majority else None
+    drawn, labels, start, ring, before = [], [], 0, False, None
+    for code, many in named:
+        own, start = dots[start:start + many], start + many
+        ring = bool(code and before and not ring
+                    and like(site.colours_of(before), site.colours_of(code)))
+        drawn.append(group_of_dots(code, own, size, ring))
+        before = code
+        middle = (own[0][0] + own[-1][0]) / 2
+        labels.append((clear_of(at, middle), f"{code or site.say('open_seats')} {many}"))
+    sides, lines, width, top, bottom = placed_labels(labels, 100 + size)
+    return {
+        "said": ", ".join(f"{code or site.say('open_seats')} {many}" for code, many in named),
+        "box": f"{-width:.0f} {top:.0f} {2 * width:.0f} {bottom - top:.0f}",
+        "stroke": f"{2 * size:.1f}", "groups": drawn, "sides": sides, "lines": lines,
+        "line": majority_line(at, 100 + size) if majority else None,
+        "majority": majority, "total": total}
+
+
+def group_of_dots(code, dots, size, ring):
+    """The dots of a list, as lines of no length with round ends, as wide as the picture says; of
+    the open seats where there is no list."""
+    path = "".join(f"M{radius * math.cos(angle):.1f} {-radius * math.sin(angle):.1f}h0"
+                   for angle, radius in dots)
+    hole = size if ring else 0 if code else 2 * size - 1.6
+    return {"code": code, "path": path, "hole": f"{hole:.1f}" if hole else None}
+
+
+def majority_angle(dots, majority):
+    """Between the dot before the majority's and its own."""
+    return (dots[majority - 2][0] + dots[majority - 1][0]) / 2 if majority > 1 else math.pi
+
+
+def clear_of(line, angle):
+    """The angle of a label; beside that of the line, where it would be on it."""
+    if line is None or abs(angle - line) > 0.12:
+        return angle
+    return line + math.copysign(0.2, angle - line)
+
+
+def majority_line(angle, outer):
+    x, y = math.cos(angle), -math.sin(angle)
+    return [f"{end:.1f}" for end in (30 * x, 30 * y, (outer + 5) * x, (outer + 5) * y)]
+
+
+def placed_labels(labels, outer):
+    """Labels beside a half circle, each at its angle or as near as the others leave room, with
+    lines to them; and what they take: half of the width, the top and the bottom."""
+    sides, lines, width, top, bottom = [], "", outer + 3, -outer - 8, 8.0
+    for side in (-1, 1):
+        own = sorted(((-(outer + 7) * math.sin(angle) + 3, angle, text) for angle, text in labels
+                      if (math.cos(angle) > 0) == (side > 0)), key=lambda label: label[0])
+        words = []
+        for height, (wanted, angle, text) in zip(spread([one[0] for one in own]), own):
+            reach = outer + 7
+            beside = math.sqrt(max(reach ** 2 - (height - 3) ** 2, 0)) if height < 3 else reach
+            x = side * max(abs(reach * math.cos(angle)), beside)
+            if abs(height - wanted) > 4:
+                lines += (f"M{(outer + 1) * math.cos(angle):.1f} "
+                          f"{-(outer + 1) * math.sin(angle):.1f}L{x:.1f} {height - 3:.1f}")
+            words.append((f"{x + 2 * side:.1f}", f"{height:.1f}", text))
+            width = max(width, abs(x) + 4 + LETTER_WIDTH * len(text))
+            top, bottom = min(top, height - 12), max(bottom, height + 4)
+        sides += [("start" if side > 0 else "end", words)] if words else []
+    return sides, lines, width, top, bottom
+
+
+def spread(heights):
+    """Heights from the top down, moved apart where labels would be on one another."""
+    found = list(heights)
+    for place in range(1, len(found)):
+        found[place] = max(found[place], found[place - 1] + LABEL_STEP)
+    limit = 8.0
+    for place in reversed(range(len(found))):
+        found[place] = min(found[place], limit)
+        limit = found[place] - LABEL_STEP
+    return found
+
+
+# ---- a map
+
+
+def map_shape(shape, cons):
+    """A shape of the map; that of a constituency has the colour of its first list."""
+    kind, code, places, inner = shape
+    con, found = cons.get(code), None
+    if con:
+        found = {"name": con["tally"]["name"], "first": first_list(con),
+                 "pale": not con["view"]["certified"]}
+    return {"kind": kind, "places": places, "con": found,
+            "inner": [map_shape(part, cons) for part in inner]}

@@ -1,0 +1,201 @@
+"""Parts of pages: rows, tables and sections, and their division where a page has no room for all.
+
+A part is HTML that templates made. The length of parts decides which page each is on, so that they
+are made before the page is.
+"""
+
+import math
+import re
+from typing import NamedTuple
+
+from press_templates import Markup
+
+# Bytes of a page, which is then below 60 kB with a line that says how old it is too; and of rows
+# in a table, where there is more than one page.
+PAGE_ROOM, TABLE_ROOM = 56_000, 26_000
+# The counts of a constituency's returns, by their states.
+COUNTED = ("stations", "missing", "received", "queried", "corrected", "closed")
+NOTHING = Markup("")
+
+
+class Part(Markup):
+    """A part of a page, with the captions and titles by which links from other pages name it."""
+
+    heads = ()
+
+    def __new__(cls, text, heads=()):
+        found = super().__new__(cls, text)
+        found.heads = tuple(heads)
+        return found
+
+
+class Head(NamedTuple):
+    """The head of a column."""
+    said: str
+    numbers: bool = False
+
+
+def numbers(said):
+    """The head of a column of numbers."""
+    return Head(said, True)
+
+
+def together(parts):
+    """Parts that follow one another as one."""
+    return Part(NOTHING.join(parts), [head for part in parts for head in part.heads])
+
+
+def size(part):
+    return len(part.encode())
+
+
+def pieces(texts, room):
+    """Texts one after the other, in groups that have room on a page each."""
+    groups, length = [[]], 0
+    for text in texts:
+        more = size(text)
+        if groups[-1] and length + more > room:
+            groups, length = [*groups, []], 0
+        groups[-1].append(text)
+        length += more
+    return groups
+
+
+# ---- rows and tables
+
+
+def list_name(site, code, name=None):
+    return site.templates.parts.list_name(code, name)
+
+
+def row_of(site, first, *cells):
+    """A row, of texts and parts; the first is its head."""
+    return site.templates.parts.row(first, cells)
+
+
+def framed(site, caption, heads, rows, kind="", wide=False):
+    """A table of such rows, whose classes name the columns of numbers by their places. One that
+    may be wider than a phone is `wide`."""
+    heads = [head if isinstance(head, Head) else Head(head) for head in heads]
+    classes = [*kind.split(), *(f"n{place}" for place, head in enumerate(heads, 1) if head.numbers)]
+    table = site.templates.parts.table(caption, heads, rows, " ".join(classes), wide)
+    return Part(table, [caption])
+
+
+def tables(site, caption, heads, rows, kind="", wide=False, room=TABLE_ROOM):
+    """A table of rows; where they have more bytes than there is room for, several."""
+    return [framed(site, caption, heads, part, kind, wide) for part in pieces(rows, room)]
+
+
+def table(site, caption, heads, rows, kind="", wide=False):
+    """All of it in one."""
+    return tables(site, caption, heads, rows, kind, wide, math.inf)[0]
+
+
+def sections(site, title, parts, said=NOTHING, after=NOTHING):
+    """A section with a title, what is said and its part, and one for each further part."""
+    first, *more = parts
+    return [Part(site.templates.parts.section(title, said, first, after), first.heads),
+            *sections_on(site, more)]
+
+
+def sections_on(site, parts):
+    """A section without a title for each part."""
+    return [Part(site.templates.parts.section_on(part), part.heads) for part in parts]
+
+
+def changed(site, code, value, before, written, unit=""):
+    """A number of a list, and how much it is more or less than before, where that is known."""
+    change = None if before is None else site.change(value - before.get(code, 0), written)
+    return site.templates.parts.changed(written(value) + unit, change)
+
+
+def changing(site, words, before):
+    """The head of a column of such numbers."""
+    return numbers(site.templates.parts.changing(site.said(words).lower(), before is not None))
+
+
+def progress_bar(site, said, done, of):
+    return site.templates.parts.progress(said, f"{done / max(of, 1) * 100:.2f}")
+
+
+def votes_said(site, valid, blank, spoiled):
+    return site.said("votes_are", valid=site.number(valid), blank=site.number(blank),
+                     spoiled=site.number(spoiled))
+
+
+def hundredths(votes, base):
+    """A share in hundredths of a per cent, rounded down."""
+    return votes * 10_000 // base if base else 0
+
+
+def by_votes(con):
+    """The lists of a constituency, those with most votes first."""
+    return sorted(con["tally"]["lists"], key=lambda row: -row["votes"])
+
+
+def text_sections(site, texts):
+    """The office's own texts, one after the other; one that is longer than a page may be is in
+    pieces of whole lines."""
+    found = []
+    for name, text in texts.items():
+        lines = Markup.escape(text).splitlines(keepends=True)
+        for place, piece in enumerate(pieces(lines, TABLE_ROOM)):
+            part = f"{name}-{place}" if place else name
+            made = site.templates.parts.text(name, part, NOTHING.join(piece), not found)
+            found.append(Part(made, [name]))
+    return found
+
+
+# ---- the division into pages
+
+
+def room_beside(*parts):
+    """Bytes that a page has room for, beside these parts of it."""
+    return PAGE_ROOM - sum(map(size, parts))
+
+
+def divided(parts, room, links):
+    """Parts in groups that have room on a page each, beside the links from each page to the
+    others, which this function makes of groups and the place of one."""
+    groups, before = pieces(parts, room), 0
+    while before < len(groups):
+        before = len(groups)
+        groups = pieces(parts, room - size(links(groups, 0)))
+    return groups
+
+
+def details_links(site, files, groups, here):
+    """Links to the pages on which another goes on, by the tables and the texts of each."""
+    named = [dict.fromkeys(head for part in group for head in part.heads) for group in groups]
+    pages = [(file, Markup(", ").join(heads)) for file, heads in zip(files, named)]
+    return site.templates.parts.details(pages, here)
+
+
+def parts_links(site, name, parts, here):
+    """Links to pages of rows, by the labels of the first and the last row of each."""
+    if len(parts) == 1 and here == 0:
+        return NOTHING
+    pages = [(f"{name}-{place}.html", f"{labels[0]} – {labels[-1]}")
+             for place, labels in enumerate(parts, 1)]
+    return site.templates.parts.pieces(pages, here)
+
+
+def searched(site, name, rows, labels, empty):
+    """Rows in groups that have room on a page each that is otherwise as the empty one, and the
+    function that makes the links between these pages, by the labels of rows."""
+    def links(groups, here):
+        left = iter(labels)
+        return parts_links(site, name, [[next(left) for _ in group] for group in groups], here)
+
+    return divided(rows, room_beside(empty), links), links
+
+
+# ---- a page that gets old
+
+
+AGE = "<!--age-->", "<!--/age-->"
+
+
+def unaged(text):
+    return re.sub("(?<={})(?s:.*?)(?={})".format(*AGE), "", text, count=1)

@@ -1,0 +1,97 @@
+"""The templates of the pages: those of a board's own folder, and for the others those beside this.
+
+A template sees `site`, `about` (the keys of site.toml, None where one is missing), `say` (a text of
+the language with its places filled in), `number` and `per_cent`. All that it prints is escaped
+unless a template made it: names by the filters `name`, in an element, and `plain_name`, in a title
+or a label. One of a board may begin with `{% extends "office/NAME" %}`, and then
+changes only the blocks that it names.
+"""
+
+import base64
+import hashlib
+import re
+import sys
+from functools import cached_property
+from pathlib import Path
+
+try:
+    from jinja2 import (ChoiceLoader, Environment, FileSystemLoader, PrefixLoader, StrictUndefined,
+                        TemplateError)
+    from markupsafe import Markup
+except ModuleNotFoundError as missing:
+    sys.exit(f"failed: Python lacks the module {missing.name}: apt-get install python3-jinja2")
+
+from press_names import closed, isolated
+
+HERE = Path(__file__).resolve().parent
+OWN = FileSystemLoader(HERE / "templates")
+# Of a style: its comments, and the spaces in front of its lines.
+LEFT_OUT = re.compile(r"/\*.*?\*/\n?|^ +", re.S | re.M)
+
+__all__ = ["Markup", "TemplateError", "Templates"]
+
+
+class Templates:
+    """The templates of a site, with those of a folder before the others, and its own style after
+    that of all. `words` are what every template sees."""
+
+    def __init__(self, folder, own_style, **words):
+        self.own, self.own_style = FileSystemLoader(folder), own_style
+        self.environment = Environment(
+            loader=ChoiceLoader([self.own, OWN, PrefixLoader({"office": OWN})]), autoescape=True,
+            undefined=StrictUndefined, trim_blocks=True, lstrip_blocks=True,
+            keep_trailing_newline=True)
+        self.environment.globals.update(words)
+        self.environment.filters |= {"plain_name": isolated, "name": self.name}
+
+    def name(self, text):
+        """A name, as an element in which its direction stays."""
+        return Markup("<bdi>{}</bdi>").format(closed(text))
+
+    def check(self):
+        """Reads each template of the folder: one that is none raises a TemplateError."""
+        for name in self.own.list_templates():
+            if name.endswith(".html"):
+                self.environment.get_template(name)
+
+    def page(self, name, /, **values):
+        """The text of a page."""
+        return self.environment.get_template(name).render(search=False, **values)
+
+    def macros(self, name):
+        """The macros of a file, as functions."""
+        return self.environment.get_template(name).module
+
+    @cached_property
+    def parts(self):
+        return self.macros("parts.html")
+
+    @cached_property
+    def of_con(self):
+        return self.macros("con_parts.html")
+
+    @cached_property
+    def of_count(self):
+        return self.macros("count_parts.html")
+
+    @cached_property
+    def of_country(self):
+        return self.macros("country_parts.html")
+
+    # ---- what is in each page, so that it can be kept and printed alone
+
+    @cached_property
+    def style(self):
+        text = (HERE / "press.css").read_text(encoding="utf-8") + self.own_style
+        return Markup(LEFT_OUT.sub("", text))
+
+    @cached_property
+    def search(self):
+        """The only script, of a page with a table that can be searched."""
+        source, *_ = self.environment.loader.get_source(self.environment, "search.js")
+        return Markup(f"\n{source}")
+
+    @cached_property
+    def search_hash(self):
+        """As the policy of such a page names the script."""
+        return base64.b64encode(hashlib.sha256(self.search.encode()).digest()).decode()
