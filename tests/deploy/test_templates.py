@@ -146,7 +146,8 @@ class Escaping(OfPages):
             self.assertEqual(Page(pages[name]).wrong, [])
 
     def test_no_html_in_python(self):
-        """It is in the templates alone, but for the comments that mark a line of age."""
+        """It is in the templates alone, but for patterns of what is read, and the element round a
+        name."""
         for file in sorted(DEPLOY.glob("press*.py")):
             tree = ast.parse(file.read_text(encoding="utf-8"))
             texts = [node.value for node in ast.walk(tree)
@@ -154,7 +155,7 @@ class Escaping(OfPages):
             tags = [text for text in texts if re.search(r"</?[a-z]+\d?( [a-z-]+=|>)", text)]
             with self.subTest(file=file.name):
                 wanted = [r'"time": "([^"]+)"|<updated>([^<]+)<|<time datetime="([^"]+)">',
-                          r'<time datetime="([^"]+)">']
+                          r'<time datetime="([^"]+)">', "<bdi>{}</bdi>"]
                 self.assertEqual([text for text in tags if text not in wanted], [])
 
     def test_each_template_is_of_use(self):
