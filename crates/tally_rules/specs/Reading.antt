@@ -162,7 +162,7 @@ read_agents electors station =
     if is_some (get (codes "agents") station)
     then (read_number (codes "agents") 0 most_agents station >>=
     (λ agents. if nat_le (electors + agents) most_electors then Ok agents
-        else Err (bad_value (codes "agents"))))
+    else Err (bad_value (codes "agents"))))
     else Ok 0
 
 -- ---- arrays
@@ -310,7 +310,7 @@ read_each_station before con limit entry = do
 abbrev pub with_few_entitled : Holder → List Station → Result (List Station) Placed
 with_few_entitled con stations =
     in_entry (constituency_way con) (if nat_le (sum_by entitled stations) most_votes
-        then Ok stations else Err (over_limit (codes "electors")))
+    then Ok stations else Err (over_limit (codes "electors")))
 
 -- `station` of a constituency, which has at most this many, after these constituencies
 unfoldable pub read_stations : List Constituency → Holder → ℕ → Data → Result (List Station) Placed

@@ -71,8 +71,18 @@ pub fn entered_twice(alloc: Global) -> Result<String, Fail> {
 /// The same, in a large constituency, with two agents at its station.
 pub fn with_agents(alloc: Global) -> Result<String, Fail> {
     let setup = entered_twice(alloc)?;
-    let large = with(alloc, setup.as_str(), "\"double\"", "\"double\"\nsize = \"large\"")?;
-    with(alloc, large.as_str(), "electors = 300", "electors = 300\nagents = 2")
+    let large = with(
+        alloc,
+        setup.as_str(),
+        "\"double\"",
+        "\"double\"\nsize = \"large\"",
+    )?;
+    with(
+        alloc,
+        large.as_str(),
+        "electors = 300",
+        "electors = 300\nagents = 2",
+    )
 }
 
 /// A text with another piece in the place of this one.

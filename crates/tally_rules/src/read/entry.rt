@@ -217,7 +217,10 @@ fn rest_of_station(
     ensures fault { IfErr result
         (IsPlacedIn (rest_of_station con.now number code (view entry.now))) }
 {
-    in_entry(&con.stations().coded(number, code), station_coded(entry, code))
+    in_entry(
+        &con.stations().coded(number, code),
+        station_coded(entry, code),
+    )
 }
 
 /// An entry of `station` of a constituency, after these constituencies and these stations, whose
