@@ -7,7 +7,7 @@
 52 constituencies have 350 seats, 15 lists each and 60,000 stations, of which Madrid has 8,200. An
 office is made, takes the returns over HTTP, closes them, certifies, publishes its pages and files,
 and is counted again from its database and from the published returns. A time is that of the clock.
-Beside it stand the seconds of the office on a processor. With fewer stations all shrink alike.
+The second number is the office's seconds on a processor. With fewer stations all shrink alike.
 The exit status is 1 if the office refuses something, or a recount differs.
 """
 
