@@ -1,20 +1,17 @@
 """The tables of an authority become a setup.
 
-    python3 tests/deploy/test_setup_from_tables.py
+    python3 -m unittest tests.deploy.test_setup_from_tables
 
 With OFFICE_PROGRAM, the path of a built program, it reads the setups too.
 """
 
 import re
 import subprocess
-import sys
 import time
 import tomllib
 import unittest
-from pathlib import Path
 
-sys.path.insert(0, str(Path(__file__).resolve().parent))
-from tables_case import COLUMNS, ROOT, SETUP, TABLES, TOOL, Case  # noqa: E402
+from tests.support.tables_case import COLUMNS, ROOT, SETUP, TABLES, TOOL, Case
 
 
 class Setups(Case):

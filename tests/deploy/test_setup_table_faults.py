@@ -1,16 +1,13 @@
 """Faults of tables are named by file and row, and each usual form of a file is read.
 
-    python3 tests/deploy/test_setup_table_faults.py
+    python3 -m unittest tests.deploy.test_setup_table_faults
 """
 
 import re
-import sys
 import tomllib
 import unittest
-from pathlib import Path
 
-sys.path.insert(0, str(Path(__file__).resolve().parent))
-from tables_case import COLUMNS, ROOT, SETUP, TABLES, Case  # noqa: E402
+from tests.support.tables_case import COLUMNS, ROOT, SETUP, TABLES, Case
 
 
 # Edits of the tables, each of all places that have the text: the old text, the new one, the row of
