@@ -148,12 +148,12 @@ class Proxy:
         self.folder = Path.cwd() / "proxy"
         self.port, self.plain, self.desks = free_port(), free_port(), (desk, *more)
         self.passwords = {}
-        self.process = self.recorder = None
+        self.process = self.recorder = self.reader = None
         # What is put into nginx.conf, and the room that the recorder leaves.
         self.more, self.room = {}, 0
 
     def configure(self):
-        for name in ("office", "log", "temporary", "pages", "share", "recorder"):
+        for name in ("office", "log", "temporary", "pages", "share", "recorder", "reader"):
             (self.folder / name).mkdir(parents=True, exist_ok=True)
         places = {"/var/log/nginx/": f"{self.folder}/log/", "/var/lib/nginx/": f"{self.folder}/temporary/",
                   "/var/www/office": f"{self.folder}/pages", "/usr/local/share/office": f"{self.folder}/share",
@@ -181,7 +181,8 @@ class Proxy:
     def put(self, name, text, places=None):
         """Writes a file of the configuration."""
         for old, new in {**(places or {}), "127.0.0.1:8080": f"127.0.0.1:{self.desks[0]}",
-                         "/run/office-recorder/": f"{self.folder}/recorder/"}.items():
+                         "/run/office-recorder/": f"{self.folder}/recorder/",
+                         "/run/office-reader/": f"{self.folder}/reader/"}.items():
             text = text.replace(old, new)
         (self.folder / "office" / name).write_text(text, encoding="utf-8")
 
@@ -210,6 +211,20 @@ class Proxy:
              "--room", str(self.room), *desks], stdout=subprocess.DEVNULL, stderr=open(self.folder / "log/recorder", "ab"))
         until(lambda: (self.folder / "recorder/head").exists() or self.recorder.poll() is not None)
 
+    def start_reader(self):
+        desks = [word for desk in self.desks for word in ("--desk", f"127.0.0.1:{desk}")]
+        self.reader = subprocess.Popen([sys.executable, DEPLOY / "reader.py", self.folder / "reader", *desks],
+                                       stdout=subprocess.DEVNULL, stderr=open(self.folder / "log/reader", "ab"))
+        until(lambda: (self.folder / f"reader/{len(self.desks)}.sock").exists() or self.reader.poll() is not None)
+
+    def end_reader(self):
+        if self.reader:
+            self.reader.kill()
+            self.reader.wait(timeout=PATIENCE)
+            for file in (self.folder / "reader").glob("*.sock"):
+                file.unlink()
+            self.reader = None
+
     def end_recorder(self, number=signal.SIGTERM):
         if self.recorder:
             self.recorder.send_signal(number)
@@ -218,6 +233,7 @@ class Proxy:
             self.recorder = None
 
     def start(self):
+        self.start_reader()
         self.start_recorder()
         self.process = subprocess.Popen([NGINX, "-e", self.folder / "log/error.log", "-c", self.folder / "nginx.conf"],
                                         stdout=subprocess.DEVNULL, stderr=subprocess.DEVNULL)
@@ -236,6 +252,7 @@ class Proxy:
             self.process.terminate()
             self.process.wait(timeout=PATIENCE)
         self.end_recorder()
+        self.end_reader()
 
     def connect(self, source="127.0.0.1", name=NAME):
         """A connection with TLS, from an address of this machine."""
@@ -359,6 +376,8 @@ def whole_message(connection):
 
 GETS = ("/progress", "/country", "/station/s1", "/con/c1", *(f"/con/c1/{name}" for name in (
     "tally", "seats", "quotients", "awards", "quota", "short", "holders", "past", "stations", "returns")))
+# What slips say, for who may see it.
+OF_SLIPS = ("/station/s1", "/con/c1/stations", "/con/c1/returns")
 OF_CLERKS = ("/station/s1/query", "/station/s1/correct", "/station/s1/close", "/con/c1/import", "/con/c1/import/semicolon")
 TRIALS = ("/con/c1/trial", "/con/c1/trial/semicolon")
 OF_BOARD = ("/con/c1/draw", "/con/c1/certify", "/con/c1/reopen", "/con/c1/vacate")
@@ -385,12 +404,12 @@ def test_tables_of_all_stations_are_kept_for_longer():
         stations = iter(range(1, 7))
 
         def kept(name):
-            before, number = front.ask("GET", f"/con/c1/{name}"), next(stations)
+            before, number = front.ask("GET", f"/con/c1/{name}", name="clara"), next(stations)
             front.ask("GET", "/progress")
             same(front.ask("POST", f"/station/s{number}/lodge", {"slip": "p1", "votes": [1, 2], "blank": 0, "spoiled": 0}, "clara").status, 200)
             until(lambda: front.ask("GET", "/progress").body.split()[3] == b"%d" % number)
             assert front.ask("GET", f"/now/con/c1/{name}", name="clara").body != before.body
-            same((front.ask("GET", f"/con/c1/{name}").body, before.status), (before.body, 200))
+            same((front.ask("GET", f"/con/c1/{name}", name="clara").body, before.status), (before.body, 200))
 
         for name in ("stations", "returns"):
             tries(lambda: kept(name))
@@ -413,6 +432,11 @@ def test_each_role_against_each_route():
                     assert wanted != 400 or b'"word":"bad_' in found.body, found
             for target in GETS:
                 found = front.ask("GET", target, **asks)
+                if target in OF_SLIPS:
+                    sees = name in ("clara", "berta") or (name, target) == ("s1", "/station/s1")
+                    wanted = (401,) if statuses[0] == 401 else (200, 404) if sees else (403,)
+                    assert found.status in wanted, f"{who}: GET {target}: {found}"
+                    continue
                 # Nothing is lodged or certified: the desk says so, to everybody alike.
                 word = b"no_return" if "station" in target else b"not_certified"
                 assert found.status == 200 or word in found.body, f"{who}: GET {target}: {found}"
@@ -421,8 +445,8 @@ def test_each_role_against_each_route():
         record = collections.Counter((line["name"], line["status"]) for line in front.record(40))
         same(record, {("s1", 400): 1, ("s1", 403): 9, ("s2", 403): 10, ("clara", 400): 6, ("clara", 403): 4, ("berta", 400): 4,
                       ("berta", 403): 6})
-        refused = collections.Counter(line["name"] for line in front.refused(72))
-        same(refused, {"": 12, "unknown": 12, "clara": 24, "berta": 12, "s1": 12})
+        refused = collections.Counter(line["name"] for line in front.refused(90))
+        same(refused, {"": 15, "unknown": 15, "clara": 30, "berta": 15, "s1": 15})
 
 
 @needs("nginx", "openssl")
@@ -839,8 +863,8 @@ def test_the_desk_is_asked_once_a_second_for_a_table():
 
 @needs("nginx", "openssl")
 def test_the_desk_is_asked_once_a_second_for_what_it_refuses():
-    """No certificate yet, a station without a return, an office that was shut: of forty readers at once the desk hears one."""
-    refusals = {"/con/c1/seats": 409, "/station/s1": 404, "/progress": 503}
+    """No certificate yet, no such constituency, an office that was shut: of forty readers at once the desk hears one."""
+    refusals = {"/con/c1/seats": 409, "/con/c1": 404, "/progress": 503}
     slow = {target: lambda status=status: time.sleep(0.2) or (status, "{}") for target, status in refusals.items()}
     with answering_desk(slow) as (port, asked), proxy(port) as front:
         for target, status in refusals.items():

@@ -363,7 +363,8 @@ def test_which_stations_wait_and_not_what_their_slips_say():
                  "s2                   300 queried      2 2                      7       2       1\n" + rest)
         bare = f"{head}s1                   300 received     1\ns2                   300 queried      2\n{rest}"
         target = "/now/con/c1/stations"
-        for name, text in (("clara", whole), ("berta", whole), ("sara", bare), ("s1", bare)):
+        same(front.ask("GET", target, name="s1").status, 403)
+        for name, text in (("clara", whole), ("berta", whole), ("sara", bare)):
             for headers in ({}, {"Office-Role": "clerk", "Office-Allowed": "1"}):
                 found = front.ask("GET", target, name=name, headers=headers)
                 same((name, found.status, found.body.decode(), found.head["Content-Type"]), (name, 200, text, "text/plain; charset=utf-8"))

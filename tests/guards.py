@@ -57,8 +57,8 @@ def errors(front):
 
 
 # What is asked, how many answers come at once, and how many a second after that.
-RATES = (("GET /con/c1/tally", b"200", 400, 200), ("GET /station/s1", b"200", 400, 200), ("GET /progress", b"200", 400, 200),
-         ("GET /con/c1/stations", b"200", 10, 2), ("GET /nonesuch", b"404", 200, 50), ("GET /now/progress", b"401", 200, 50), ("GET /now/con/c1", b"401", 200, 50),
+RATES = (("GET /con/c1/tally", b"200", 400, 200), ("GET /station/s1", b"401", 400, 200), ("GET /progress", b"200", 400, 200),
+         ("GET /con/c1/stations", b"401", 10, 2), ("GET /nonesuch", b"404", 200, 50), ("GET /now/progress", b"401", 200, 50), ("GET /now/con/c1", b"401", 200, 50),
          ("POST /con/c1/certify", b"401", 100, 20), ("POST /station/s1/lodge", b"401", 100, 20), ("GET /clerk.html", b"401", 100, 20),
          ("POST /con/c1/import", b"401", 60, 1))
 
@@ -288,12 +288,14 @@ def test_an_import_whose_client_has_gone():
 
 @needs("nginx", "openssl")
 def test_tables_without_a_recorder():
-    """While neither the office nor the recorder is there a table cannot be had; it can as soon as the office is there again."""
+    """While there is no reader a table cannot be had; it can as soon as the reader and the office are there again, without a recorder."""
     with recording_desk() as (port, _):
         pass
     with proxy(port) as front:
         front.end_recorder()
+        front.end_reader()
         same(front.ask("GET", "/con/c1").status, 502)
+        front.start_reader()
         with desk_with(lambda *_: answer_of("{}"), port):
             # (an answer is kept for a second)
             until(lambda: front.ask("GET", "/con/c1").status == 200)
@@ -400,7 +402,7 @@ def test_how_long_an_answer_lasts():
     with recording_desk() as (port, _), proxy(port) as front:
         for name in ("index.html", "results.csv", "index.json", "con-C_1.html", "map.png", "other.txt"):
             (front.folder / "pages" / name).write_text("x", encoding="utf-8")
-        lasts = {"/progress": "max-age=1", "/station/s1": "max-age=1", "/con/c1": "max-age=1", "/con/c1/tally": "max-age=1", "/": "max-age=5",
+        lasts = {"/progress": "max-age=1", "/station/s1": "no-store", "/con/c1": "max-age=1", "/con/c1/tally": "max-age=1", "/": "max-age=5",
                  "/country": "max-age=1", "/index.html": "max-age=5", "/results.csv": "max-age=5", "/index.json": "max-age=5", "/con-C_1.html": "max-age=5",
                  "/map.png": "max-age=5", "/other.txt": "no-store", "/nonesuch": "no-store"}
         for target, wanted in lasts.items():
@@ -623,12 +625,12 @@ def test_what_one_of_the_staff_may_send():
     # What counts is what was sent, whatever it was.
     recorder.STAFF_BYTES, asked = 10 << 20, []
     recorder.sys = type("Sys", (), {"stdout": open("copy", "wb")})
-    desk = type("Desk", (), {"lock": threading.Lock(), "ask": lambda _, *message: asked.append(message) or (200, recorder.answer(200, b"OK", b"{}"))})()
+    desk = type("Desk", (), {"lock": threading.Lock(), "ask": lambda _, *message: asked.append(message) or recorder.Answer(200, b"{}")})()
     one = recorder.Recorder(recorder.Record("commands.log", 0), desk, 1, recorder.Limit())
 
     def given(act, name="clara"):
         fields = {"office-name": name, "office-role": "clerk", "office-address": "192.0.2.1", "office-allowed": "1"}
-        return int(one.answered("POST", f"/con/c1/{act}", fields, b"\1" * 1_000_000)[9:12])
+        return one.answered("POST", f"/con/c1/{act}", fields, b"\1" * 1_000_000).status
 
     same([given(act) for act in 3 * ["trial"] + 9 * ["import"] + ["trial"]], [200] * 10 + [429] * 3)
     same((given("import", "bruno"), len(asked)), (200, 11))
