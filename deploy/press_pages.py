@@ -456,7 +456,7 @@ def head_section(site, head):
     """How long the record of commands is, and what nobody can change it without changing."""
     if not head:
         return ""
-    said = site.say("record_said", lines=site.number(head["n"]), hash=f'<code>{escaped(head["hash"])}</code>')
+    said = site.say("record_said" if head.get("whole", True) else "record_broken", lines=site.number(head["n"]), hash=f'<code>{escaped(head["hash"])}</code>')
     return f'<section><h2>{site.say("record")}</h2>\n<p>{said} <a href="record.csv">{site.say("record_link")}</a></p></section>\n'
 
 

@@ -199,7 +199,8 @@ class Record:
 
     def head(self):
         with self.lock:
-            return {"n": self.number, "hash": self.last, "time": datetime.now().astimezone().isoformat(timespec="seconds")}
+            found = {"n": self.number, "hash": self.last, "time": datetime.now().astimezone().isoformat(timespec="seconds")}
+            return found | ({"fault": self.fault} if self.fault else {})
 
 
 class Index:

@@ -2837,7 +2837,7 @@ def test_a_station_that_the_clerks_page_does_not_know():
 def test_what_the_clerks_page_is():
     """It is short, has a sentence for each refusal, nothing of another site, and its policy names its script."""
     text = (DEPLOY / "www/clerk.html").read_text(encoding="utf-8")
-    assert len(text.encode()) < 50_000
+    assert len(text.encode()) < 51_000
     formats = (ROOT / "docs/FORMATS.md").read_text(encoding="utf-8")
     answers = formats[formats.index("A refused command has its number"):formats.index("### What GET shows")]
     words = set(re.findall(r"^\| (?:\d+ \| )?`(\w+)` \|", answers, re.M))
