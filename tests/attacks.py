@@ -27,7 +27,7 @@ from pathlib import Path
 
 import deploy
 from deploy import DEPLOY, NAME, TWIN, answer_of, answering_desk, chained, a_command, desk_with, needs, office_and_proxy, plain, press
-from deploy import backup, free_port, pipelined, proxy, ran, read, recording_desk, replayed, rows, same, serving, until, with_stations
+from deploy import backup, free_port, pipelined, printed, proxy, ran, read, recording_desk, replayed, rows, same, serving, until, with_stations
 from office import constituency, party_list, profile, station
 from running import PATIENCE, Skipped, tries
 
@@ -728,7 +728,7 @@ def test_nothing_is_public_before_the_hour():
             front.end()
             messages.clear()
             hour = datetime.now().astimezone() + timedelta(seconds=seconds)
-            front.put("embargo.conf", ran(DEPLOY / "embargo", hour.isoformat()))
+            front.put("embargo.conf", printed(DEPLOY / "embargo", hour.isoformat()))
             front.start()
             refused = [(target, [front.ask("GET", target, **words).status for words in without]) for target in targets]
             passed_on = len(messages)
@@ -740,18 +740,18 @@ def test_nothing_is_public_before_the_hour():
         same((refused, passed_on, answered, done), ([(target, [403, 401, 401]) for target in targets], 0, [200] * 6, 200))
         until(lambda: datetime.now().astimezone() > hour + timedelta(seconds=1))
         same([front.ask("GET", target).status for target in targets], [200] * 6)
-    for words in (["tomorrow"], ["2026-11-29T20:00:00"], ["2026-11-29T20:00:00+01:00", "x"]):
+    for words in ([], [""], ["tomorrow"], ["2026-11-29T20:00:00"], ["2100-11-29T20:00:00+01:00", "x", "y"]):
         ran(DEPLOY / "embargo", *words, status=2)
 
 
 def test_the_hour_as_a_pattern():
     """Of some hours the seconds before and after."""
     for second in (1_795_978_800, 1_795_979_999, 1_800_000_000, 2_000_000_000, 1_999_999_999):
-        said = ran(DEPLOY / "embargo", datetime.fromtimestamp(second).astimezone().isoformat())
+        said = printed(DEPLOY / "embargo", datetime.fromtimestamp(second).astimezone().isoformat(), "--past")
         pattern = re.search('"~(.*)" office;', said)[1]
         for moment in (second - 1000, second - 61, second - 1, second, second + 1, second + 60, second + 10**9):
             same((second, moment, bool(re.match(pattern, f"{moment}.000"))), (second, moment, moment < second))
-    same(ran(DEPLOY / "embargo"), (DEPLOY / "nginx/embargo.conf").read_text(encoding="utf-8"))
+    same(printed(DEPLOY / "embargo", "now"), (DEPLOY / "nginx/embargo.conf").read_text(encoding="utf-8"))
 
 
 @needs("nginx", "openssl")
@@ -838,7 +838,7 @@ def test_three_offices():
         same(sorted(line.split()[0] for line in progress.splitlines()), [f"c{c}" for c in range(1, 8)])
         same(front.ask("GET", "/progress").body.decode(), progress)
         same(front.ask("GET", "/now/progress", name="clara").body.decode(), progress)
-        same([front.ask("GET", target).status for target in ("/progress/1", "/now/progress/1", "/progress/x", "/station/unknown")], [404, 404, 404, 404])
+        same([front.ask("GET", target, name="clara").status for target in ("/progress/1", "/now/progress/1", "/progress/x", "/station/unknown")], [404] * 4)
         same(front.ask("GET", "/now/progress").status, 401)
         addresses = [f"http://127.0.0.1:{desk.port}" for desk in desks]
         ran(sys.executable, DEPLOY / "press.py", *addresses, "pages", "--setup", "whole.toml")

@@ -26,7 +26,7 @@ from pathlib import Path
 
 import deploy
 import model
-from deploy import (DEPLOY, EXAMPLES, NAME, REOPENED, ROOT, TWIN, answer_of, answering_desk, desk_with, done, free_port, needs, plain, press, proxy, ran,
+from deploy import (DEPLOY, EXAMPLES, NAME, REOPENED, ROOT, TWIN, answer_of, answering_desk, desk_with, done, free_port, needs, plain, press, printed, proxy, ran,
                     read, readme_election, recording_desk, same, serving)
 from entry import with_a_second
 from office import LISTS, PROFILE, constituency, party_list, profile, station, with_stations
@@ -788,7 +788,7 @@ def before_the_hour(front):
     """Starts the proxy again, an hour before results are public."""
     front.end()
     hour = datetime.now().astimezone() + timedelta(hours=1)
-    front.put("embargo.conf", ran(DEPLOY / "embargo", hour.isoformat(timespec="seconds")))
+    front.put("embargo.conf", printed(DEPLOY / "embargo", hour.isoformat(timespec="seconds")))
     front.start()
 
 
@@ -910,12 +910,16 @@ def test_what_the_site_answers():
     with with_a_second(free_port()) as front:
         front.name("stations", "s1")
         front.end_recorder()
+        front.end_reader()
         for method, target, roles, answers in operations():
             if "502" in answers:
                 answered[target].add(front.ask(method, target, {} if method == "POST" else None, STAFF[roles[0]] if roles else None).status)
     for _, target, _, answers in operations():
         wanted = {int(status) for status in answers if status not in NOT_TRIED | {"default"}} | ({200} if "default" in answers else set())
         same((target, answered[target]), (target, wanted))
+
+
+OF_A_STATION = ("/setup.json", "/clerk.html", "/station/s1", "/now/station/s1")
 
 
 def asked_in_every_way(front, source, method, target, roles, answers, public):
@@ -928,7 +932,11 @@ def asked_in_every_way(front, source, method, target, roles, answers, public):
         return found[-1].status
 
     for role, name in STAFF.items():
-        same((target, role, ask(name)), (target, role, 401 if target == "/logout" else 200 if roles is None or role in roles else 403))
+        wanted = 401 if target == "/logout" else 200 if roles is None or role in roles else 403
+        # Before the hour a station sees its own return and the setup.
+        if not public and role == "station" and wanted == 200 and method == "GET" and target not in OF_A_STATION:
+            wanted = 404 if file else 403
+        same((target, role, ask(name)), (target, role, wanted))
     same((target, ask()), (target, 401 if roles or target == "/logout" else 200 if public else 403))
     ask(right, password="x")
     ask("no name")

@@ -35,7 +35,7 @@ from pathlib import Path
 
 import deploy
 from attacks import LODGED
-from deploy import DEPLOY, NAME, a_command, answer_of, answering_desk, backup, chained, desk_with, needs, pipelined, proxy, ran, recording_desk, replayed, same
+from deploy import DEPLOY, NAME, a_command, answer_of, answering_desk, backup, chained, desk_with, needs, pipelined, printed, proxy, ran, recording_desk, replayed, same
 from deploy import serving, until, whole_message, with_stations
 from office import SETUP
 from running import PATIENCE, Skipped, tries
@@ -471,7 +471,7 @@ def test_names_before_the_hour():
     """What is no name gets into no log there either."""
     with recording_desk() as (port, messages), proxy(port) as front:
         front.end()
-        front.put("embargo.conf", ran(DEPLOY / "embargo", "2100-01-01T00:00:00+00:00"))
+        front.put("embargo.conf", printed(DEPLOY / "embargo", "2100-01-01T00:00:00+00:00"))
         front.start()
         for name in ("x\ny", "x\x1b[31m", "clara ", "../staff", "x" * 33):
             for target in ("/", "/con/c1", "/progress"):
@@ -1101,8 +1101,7 @@ def test_how_the_proxy_reaches_each_office():
     Path("setup.toml").write_text(SETUP, encoding="utf-8")
     ran(DEPLOY / "split", "setup.toml", "1", "parts")
     same(upstreams(Path("parts/offices.conf").read_text(encoding="utf-8")),
-         [text.replace("8080", "8081") for text in upstreams((DEPLOY / "nginx/offices.conf").read_text(encoding="utf-8"))]
-         + ["upstream progress1 {\n    server 127.0.0.1:8081 max_fails=0;\n}"])
+         upstreams((DEPLOY / "nginx/offices.conf").read_text(encoding="utf-8")))
 
 
 # ---- the services
@@ -1115,6 +1114,7 @@ ALL_MAY = {"RootDirectory=/RootImage=", "PrivateMounts=", "RestrictAddressFamili
 SCRIPTS_MAY = ALL_MAY | {"SystemCallFilter=~@resources", "SystemCallFilter=~@privileged", "RemoveIPC=", "ProtectProc="}
 MAY = {"office": ALL_MAY, "office-press": SCRIPTS_MAY | {"UMask="},
        "office-recorder": SCRIPTS_MAY | {"UMask=", "SupplementaryGroups=", "RestrictAddressFamilies=~AF_UNIX"},
+       "office-reader": SCRIPTS_MAY | {"UMask=", "SupplementaryGroups=", "RestrictAddressFamilies=~AF_UNIX"},
        "office-backup": SCRIPTS_MAY | {"SupplementaryGroups=", "RestrictAddressFamilies=~AF_UNIX"}}
 
 
@@ -1143,8 +1143,11 @@ BOOTED = {
     "office-recorder.service": {"WantedBy": "multi-user.target", "Restart": "always", "RestartSec": "100ms", "StartLimitIntervalSec": "0",
                                 "SupplementaryGroups": "www-data", "RuntimeDirectory": "office-recorder", "LogsDirectory": "office", "LogsDirectoryMode": "0750",
                                 "UMask": "0027", "LogRateLimitIntervalSec": "0", "OOMScoreAdjust": "-500", "SystemCallErrorNumber": "EPERM"},
+    "office-reader.service": {"WantedBy": "multi-user.target", "Restart": "always", "RestartSec": "100ms", "StartLimitIntervalSec": "0",
+                              "SupplementaryGroups": "www-data", "RuntimeDirectory": "office-reader", "UMask": "0027", "OOMScoreAdjust": "-500",
+                              "InaccessiblePaths": "-/var/log/office -/run/office-recorder", "SystemCallErrorNumber": "EPERM"},
     "office-press.service": {"WantedBy": "multi-user.target", "Restart": "always", "RestartSec": "5", "StartLimitIntervalSec": "0",
-                             "After": "office.service office-recorder.service", "ReadWritePaths": "/var/www/office", "UMask": "0022",
+                             "After": "office.service office-recorder.service office-reader.service", "ReadWritePaths": "/var/www/office", "UMask": "0022",
                              "SystemCallErrorNumber": "EPERM"},
     "office-backup.service": {"Type": "oneshot", "SupplementaryGroups": "office-recorder", "EnvironmentFile": "-/etc/office/backup.env", "Nice": "10",
                               "TimeoutStopSec": "10min",
@@ -1169,7 +1172,7 @@ def test_the_services_and_their_places():
         assert f"\n    adduser --system --group --no-create-home {user}\n" in page, user
         same(lines["Documentation"], ["file:///usr/local/share/doc/office/README.md"])
         for file in ["/usr/local/share/doc/office/README.md", *re.findall(r"/usr/local/\S+", " ".join(lines["ExecStart"]))]:
-            assert file in installed, f"{unit}: {file} is not installed"
+            assert file in installed or file.endswith("/setup.json"), f"{unit}: {file} is not installed"
     for line in ("-m 700 -o office -g office /var/lib/office", "-m 755 -o office-press -g office-press /var/www/office",
                  "-m 750 -o office-recorder -g office-recorder /var/log/office"):
         assert f"\n    install -d {line}\n" in page, line
@@ -1208,21 +1211,25 @@ def test_what_the_services_start():
     """The very lines of the units, each with a folder of its own in the place of the system's, make an office behind the proxy: an act is
     recorded, on the pages, and in the copy."""
     port = deploy.free_port()
+    Path("setup.toml").write_text(SETUP, encoding="utf-8")
     with proxy(port) as front:
         front.end_recorder()
+        front.end_reader()
         (front.folder / "lib").mkdir()
         places = {"/usr/local/bin/office": deploy.PROGRAM, "/usr/local/lib/office/": f"{DEPLOY}/", "/var/lib/office": front.folder / "lib",
                   "/var/log/office": front.folder / "log", "/run/office-recorder": front.folder / "recorder", "/var/www/office": front.folder / "pages",
+                  "/usr/local/share/office": front.folder / "share", "/run/office-reader": front.folder / "reader", "8090": deploy.free_port(),
                   "/etc/office": Path.cwd(), "/usr/bin/python3": sys.executable, "8080": port, "www-data": grp.getgrgid(os.getgid()).gr_name}
         deploy.new(SETUP, front.folder / "lib/office.db")
-        with started("office.service", places) as office, started("office-recorder.service", places):
+        with started("office.service", places) as office, started("office-recorder.service", places), started("office-reader.service", places):
             assert office.stdout.readline().startswith("listening on ")
             until(lambda: (front.folder / "recorder/head").exists())
             same(front.ask("POST", "/station/s1/lodge", LODGED, "clara").status, 200)
-            until(lambda: json.loads((front.folder / "recorder/head").read_text())["n"] == 2)
+            # The first line has the setup.
+            until(lambda: json.loads((front.folder / "recorder/head").read_text())["n"] == 3)
             with started("office-press.service", places) as press:
                 assert " pages 2 failed 0 " in press.stdout.readline()
-            same(json.loads((front.folder / "pages/manifest.json").read_text(encoding="utf-8"))["record"]["lines"], 2)
+            same(json.loads((front.folder / "pages/manifest.json").read_text(encoding="utf-8"))["record"]["lines"], 3)
             same(json.loads((front.folder / "pages/setup.json").read_text(encoding="utf-8"))[0]["code"], "c1")
             with started("office-backup.service", places) as copying:
                 same((copying.stdout.read().splitlines()[-1], copying.wait(timeout=PATIENCE)), ("c1 agrees", 0))
@@ -1268,7 +1275,8 @@ def test_another_machine_in_the_place_of_a_lost_one():
     Path("bin/systemctl").chmod(0o755)
     with serving(with_stations(2), "lib/office.db") as fresh:
         places = {"8080": fresh.port, "-o office -g office ": "", "-o office-recorder -g office-recorder ": "", "tar -C /": "tar -C new",
-                  "/usr/local/lib/office/": f"{DEPLOY}/", "/var/lib/office": "lib", "/var/log/office": "log"}
+                  "/usr/local/lib/office/": f"{DEPLOY}/", "/var/lib/office": "lib", "/var/log/office": "log", "/etc/office/setup.toml": "setup.toml",
+                  "/usr/local/share/office": ".", "/etc/nginx/office": "."}
         its = {"PATH": f"{Path.cwd()}/bin:{os.environ['PATH']}", "OFFICE": str(fresh.process.pid), "PROGRAM": str(deploy.PROGRAM), "PORT": str(fresh.port)}
         try:
             ended = subprocess.run(["sh", "-e", "-c", placed("\n".join(steps), places)], env={**os.environ, **its}, timeout=PATIENCE,
