@@ -107,6 +107,10 @@ class WithSetup(Proxy):
         head = self.folder / "recorder/head"
         until(lambda: head.exists() or self.recorder.poll() is not None)
 
+    def lines(self):
+        """Those of commands and answers, without the first, which has the setup."""
+        return [line for line in super().lines() if "setup" not in line]
+
 
 @contextlib.contextmanager
 def site(desk, stations=("s1",), embargo=None):
