@@ -77,7 +77,8 @@ class Files:
     def __init__(self, db, folder):
         self.db, self.folder = db, Path(folder)
         self.record, self.pages = db.with_suffix(".commands.log"), db.with_suffix(".pages")
-        self.sockets, self.share = self.folder / "recorder", self.folder / "share"
+        self.sockets, self.reader = self.folder / "recorder", self.folder / "reader"
+        self.share = self.folder / "share"
         self.said = self.folder / "office.log"
 
 
@@ -128,13 +129,17 @@ class Part:
 
 
 def parts_of(program, given, files, port):
-    """The office, its recorder and its press pages, in the order in which they start."""
+    """The office, its recorder, reader and press pages, in the order in which they start."""
     head, address = files.sockets / "head", f"127.0.0.1:{port}"
     serve = (program, "serve", "--db", files.db, "--port", port, "--count", COUNT)
-    record = (sys.executable, HERE / "recorder.py", files.sockets, files.record, "--desk", address)
+    record = (sys.executable, HERE / "recorder.py", files.sockets, files.record, "--desk", address,
+              "--setup", files.share / "setup.json", "--shown", files.pages / "record.csv")
+    read = (sys.executable, HERE / "reader.py", files.reader, "--desk", address)
     press = (sys.executable, HERE / "press.py", f"http://{address}", files.pages,
              "--every", EVERY, "--setup", given.setup, "--head", head)
     site = ("--site", given.site) if given.site else ()
     return (Part("the office", serve, lambda: b"listening on" in files.said.read_bytes(),
                  files.said),
-            Part("the recorder", record, head.exists), Part("the press pages", press + site))
+            Part("the recorder", record, head.exists),
+            Part("the reader", read, (files.reader / "1.sock").exists),
+            Part("the press pages", press + site))

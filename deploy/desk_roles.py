@@ -29,25 +29,30 @@ ACTS = {
 MOST_OF_IMPORT, MOST_OF_COMMAND = 1_048_576, 16_384
 
 # What a request of each kind is answered from: `page` is the clerks' page, `setup` the lists of the
-# setup, `file` a press page. A `table` is the office's, and so is one that is asked for `now`, for
-# who acts on it. The recorder has a `history`, shortens `stations` for some roles, and passes on
-# each `command`.
+# setup, `file` a press page. The reader has each `table`, also those that are asked for `now`, for
+# who acts on them; what says `slips`, for who may see these; and `all` stations of a constituency,
+# as a role may see them. The recorder has a `history`, and passes on each `command`.
 READ = ("GET", "HEAD")
-METHODS = {"page": READ, "logout": READ, "setup": READ, "file": READ, "table": READ,
-           "now": ("GET",), "stations": ("GET",), "history": ("GET",), "command": ("POST",)}
+METHODS = {"page": READ, "logout": READ, "setup": READ, "file": READ, "table": READ, "slips": READ,
+           "now": ("GET",), "now_slips": ("GET",), "now_all": ("GET",), "history": ("GET",),
+           "command": ("POST",)}
 # Of these a web page of the site asks, and no typed address leads there.
-FROM_A_PAGE = ("now", "stations", "history", "command", "logout")
+FROM_A_PAGE = ("now", "now_slips", "now_all", "history", "command", "logout")
+# Who sees what a slip says before it is closed; a station sees its own.
+SEE_SLIPS = ("clerk", "board")
 
 CODE = "[A-Za-z0-9_-]{1,16}"
 STATION, CON = f"/station/(?P<station>{CODE})", f"/con/(?P<con>{CODE})"
-REPORTS = "tally|seats|quotients|awards|quota|short|holders|past|stations|returns"
+REPORTS, OF_ALL = "tally|seats|quotients|awards|quota|short|holders|past", "stations|returns"
 # The kinds by the patterns of their targets: the first that fits decides.
 TARGETS = [(kind, re.compile(pattern)) for kind, pattern in (
     ("table", "/progress|/country"),
-    ("table", STATION),
+    ("slips", STATION),
     ("table", f"{CON}(/({REPORTS}))?"),
-    ("stations", f"/now{CON}/stations"),
-    ("now", f"/now(?P<table>/progress|/country|{STATION}|{CON}(/[a-z]+)?)"),
+    ("slips", f"{CON}/({OF_ALL})"),
+    ("now_all", f"/now{CON}/(?P<table>{OF_ALL})"),
+    ("now_slips", f"/now(?P<table>{STATION})"),
+    ("now", f"/now(?P<table>/progress|/country|{CON}(/[a-z]+)?)"),
     ("history", f"/now{STATION}/(?P<act>history)"),
     ("command", f"{STATION}/(?P<act>lodge|query|correct|close|confirm)"),
     ("command", f"{CON}/(?P<act>draw|certify|reopen|vacate)"),
@@ -83,11 +88,11 @@ class Request:
         return MOST_OF_IMPORT if self.act in ("import", "trial") else MOST_OF_COMMAND
 
     def is_allowed(self, name, role):
-        """Whether a name of a role may do it. Whoever has a name may read everything else."""
-        if not self.act:
-            return True
-        is_own = role != "station" or name == self.station
-        return role in ACTS[self.act] and is_own
+        """Whether a name of a role may do it, or see it. Whoever has a name may read the rest."""
+        is_own = role == "station" and name == self.station
+        if self.kind in ("slips", "now_slips"):
+            return role in SEE_SLIPS or is_own
+        return not self.act or role in ACTS[self.act] and (is_own or role != "station")
 
 
 def request_of(target):

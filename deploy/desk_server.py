@@ -2,10 +2,11 @@
 
 Each name has a port, so that two names can be open in one browser and neither acts for the other.
 Whoever opens the address of a name gets its secret as a cookie; nobody else gets anything. The
-recorder answers what is asked of the office, and writes each command down.
+reader answers what is asked of the office; the recorder writes each command down, and passes it on.
 """
 
 import contextlib
+import hashlib
 import hmac
 import http.client
 import http.server
@@ -28,7 +29,7 @@ HEADS = {"Cache-Control": "no-store", "X-Content-Type-Options": "nosniff",
          "X-Frame-Options": "DENY", "Referrer-Policy": "no-referrer",
          "Cross-Origin-Opener-Policy": "same-origin",
          "Cross-Origin-Resource-Policy": "same-origin"}
-# How long a client may be silent, and the recorder may take: an import has its time.
+# How long a client may be silent, and an answer may take: an import has its time.
 SILENCE, PATIENCE = 10, 400
 # Threads at a time, each of a connection.
 MOST_THREADS = 200
@@ -46,7 +47,8 @@ class Person:
 
 @dataclass(frozen=True)
 class House:
-    """What all doors share: the recorder's socket, the files, and who may connect."""
+    """What all doors share: two sockets, the files, and who may connect."""
+    reader: Path
     recorder: Path
     pages: Path
     setup: bytes
@@ -86,8 +88,8 @@ class Gate:
             self.condition.wait_for(lambda: not self.inside, seconds)
 
 
-class ToRecorder(http.client.HTTPConnection):
-    """A connection to the socket of the recorder."""
+class ToSocket(http.client.HTTPConnection):
+    """A connection to the socket of the reader or the recorder."""
 
     def __init__(self, file):
         super().__init__("office", timeout=PATIENCE)
@@ -100,9 +102,9 @@ class ToRecorder(http.client.HTTPConnection):
 
 
 def asked(file, method, target, body, fields):
-    """Status, body and kind of the recorder's answer; 502 where there is none."""
+    """Status, body and kind of an answer; 502 where there is none."""
     try:
-        with contextlib.closing(ToRecorder(file)) as connection:
+        with contextlib.closing(ToSocket(file)) as connection:
             connection.request(method, target, body, fields)
             answer = connection.getresponse()
             return answer.status, answer.read(), answer.getheader("Content-Type")
@@ -256,16 +258,20 @@ class Handler(http.server.BaseHTTPRequestHandler):
             self.send(200, body, kind)
 
     def answer_table(self, found):
-        self.pass_on("GET", found.path)
+        self.read(found.path, Office_Allowed=self.says_allowed(found))
 
-    answer_now = answer_table
+    answer_now = answer_slips = answer_now_slips = answer_table
 
-    def answer_stations(self, found):
-        self.pass_on("GET", f"/stations/{found.con}", Office_Role=self.server.person.role)
+    def answer_now_all(self, found):
+        person = self.server.person
+        self.read(f"/{found.path}/{found.con}", Office_Name=person.name, Office_Role=person.role)
+
+    def read(self, target, **fields):
+        self.pass_on(self.server.house.reader, "GET", target, **fields)
 
     def answer_history(self, found):
-        self.pass_on("GET", f"/history/{found.station}", Office_Role=self.server.person.role,
-                     Office_Allowed=self.says_allowed(found))
+        self.pass_on(self.server.house.recorder, "GET", f"/history/{found.station}",
+                     Office_Role=self.server.person.role, Office_Allowed=self.says_allowed(found))
 
     def answer_command(self, found):
         person, length = self.server.person, self.length()
@@ -273,20 +279,27 @@ class Handler(http.server.BaseHTTPRequestHandler):
         self.left = 0
         if len(body) < length:
             self.close_connection = True
-            return
+            return None
+        # A page that was opened with another setup has its lists in another order.
+        if self.headers.get("Office-Setup") not in (None, self.setup_hash()):
+            return self.send(409)
         with self.server.house.gate.passed() as is_open:
             if not is_open:
                 return self.send(503)
-            self.pass_on("POST", found.path, body, Office_Name=person.name,
-                         Office_Role=person.role, Office_Address=self.client_address[0],
-                         Office_Allowed=self.says_allowed(found))
+            return self.pass_on(
+                self.server.house.recorder, "POST", found.path, body, Office_Name=person.name,
+                Office_Role=person.role, Office_Address=self.client_address[0],
+                Office_Allowed=self.says_allowed(found))
+
+    def setup_hash(self):
+        return hashlib.sha256(self.server.house.setup).hexdigest()
 
     def says_allowed(self, found):
         return "1" if found.is_allowed(self.server.person.name, self.server.person.role) else "0"
 
-    def pass_on(self, method, target, body=None, **fields):
+    def pass_on(self, socket_file, method, target, body=None, **fields):
         fields = {name.replace("_", "-"): value for name, value in fields.items()}
-        self.send(*asked(self.server.house.recorder, method, target, body, fields))
+        self.send(*asked(socket_file, method, target, body, fields))
 
 
 class Door(http.server.ThreadingHTTPServer):

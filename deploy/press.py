@@ -241,7 +241,9 @@ def put_head(folder, file):
     try:
         head = json.loads(file.read_text(encoding="utf-8"))
         text = record_csv(text_of(shown), head)
-        if not goes_on(text_of(shown), head):
+        # A recorder that found another record than was shown says so in its head.
+        head["whole"] = goes_on(text_of(shown), head) and not head.get("fault")
+        if not head["whole"]:
             print(f"failed: {file}: line {head['n']} is the last of the record, and {shown} has more, or another", file=sys.stderr, flush=True)
     except (OSError, ValueError, KeyError, TypeError) as error:
         print(f"failed: {file}: {error!r}", file=sys.stderr, flush=True)

@@ -287,7 +287,8 @@ def count_pages(site, progress, text, cons, names, moment, changed, head=None):
 
     parts = count_sections(site, progress, cons, names)
     if head:
-        record = site.templates.of_count.record(site.number(head["n"]), head["hash"])
+        of_count, whole = site.templates.of_count, head.get("whole", True)
+        record = of_count.record(site.number(head["n"]), head["hash"], whole)
         parts.append(Part(record))
     parts += text_sections(site, {"progress": text})
     groups = divided(parts, room_beside(written([], NOTHING)), links)

@@ -2,6 +2,9 @@
 """Passes commands from the proxy to the office, each recorded on the disk before the office has it.
 
     deploy/recorder.py FOLDER RECORD [--desk HOST:PORT].. [--group NAME] [--room BYTES]
+                       [--setup setup.json] [--shown record.csv]
+
+    deploy/recorder.py /run/office-recorder /var/log/office/commands.log --desk 127.0.0.1:8080
 
 In FOLDER it listens on a socket for each desk, `1.sock`, `2.sock`, .., to which the proxy sends commands with the name, the
 role and the address of who gave them. A command that cannot be recorded is answered 503 and goes no further: so is each
@@ -9,18 +12,23 @@ one while the file system of RECORD has less than --room bytes left, and while R
 written to, or longer or shorter. A command that its role may not give is recorded and answered 403. The trial of an import
 changes nothing and is not recorded.
 
+With --setup, the file that setup-json writes, the first line of a new record has the SHA-256 of that file, and a record that
+begins with another is not gone on with: each command is answered 503. So it is where the record lacks a line whose hash the
+press pages have shown (--shown), or has another in its place: it was cut, or written again. Standard error says so.
+
 The record has a line of JSON for each command, with `n`, its own number, and another for the answer, with `to`, the number of
 the command; each has in `before` the SHA-256 of the line before it. So no line can be changed, removed or put between others
 without changing the hash of the last, which is in FOLDER/head with its number. Each line goes to standard output too.
 
-While a desk starts again a command waits for it, and so does a GET, which is not recorded. A desk that ended without an answer
-is sent the command again: no command acts a second time.
+While a desk starts again a command waits for it. A desk that ended without an answer is sent the command again: no command
+acts a second time.
 
 It answers who did what to a station (GET /history/CODE), to the roles that may see it: the names, the times and the acts; to
 a clerk and to the board with what was sent and answered, to a second without. Where the lines of each station are it knows
-from reading the record once, as it starts. The table of the stations of a constituency (GET /stations/CODE) is the desk's, to
-a clerk and to the board; to others each line ends with the revision, before what the slip says.
-Python 3.11 or later.
+from reading the record once, as it starts; with --setup, of the stations of the setup. Reports are for reader.py to answer.
+
+It goes on until it is ended. The status is 1 where it cannot begin: another recorder has the record, or a file cannot be
+read. Python 3.11 or later.
 """
 
 import argparse
@@ -30,6 +38,8 @@ import csv
 import fcntl
 import grp
 import hashlib
+import http.client
+import http.server
 import io
 import json
 import os
@@ -41,6 +51,7 @@ import time
 from array import array
 from datetime import datetime
 from pathlib import Path
+from typing import NamedTuple
 
 # So many requests of a desk are under way at once; others wait.
 THREADS = 64
@@ -63,56 +74,105 @@ UNKNOWN = (None, 502, 503, 504)
 FIRST = "0" * 64
 
 
-def answer(status, reason, body=b"", kind=b"application/json"):
-    return b"HTTP/1.1 %d %s\r\nContent-Type: %s\r\nContent-Length: %d\r\nConnection: close\r\n\r\n%s" % (
-        status, reason, kind, len(body), body)
+class Answer(NamedTuple):
+    """An answer to a request. Its status is None where nobody knows whether a command was done."""
+
+    status: int | None
+    body: bytes = b""
+    kind: str = "application/json"
 
 
-FORBIDDEN = answer(403, b"Forbidden")
-TOO_MANY = answer(429, b"Too Many Requests")
-NO_DESK = answer(502, b"Bad Gateway")
-UNAVAILABLE = answer(503, b"Service Unavailable", b'{"word": "unavailable"}')
+FORBIDDEN = Answer(403)
+NOT_ALLOWED = Answer(405)
+TOO_MANY = Answer(429)
+NO_DESK = Answer(502)
+TOO_LATE = Answer(504)
+UNAVAILABLE = Answer(503, b'{"word": "unavailable"}')
+
+
+class Setup(NamedTuple):
+    """A setup as the proxy knows it: the hash of setup.json, and the codes of its stations."""
+
+    hash: str
+    stations: frozenset
+
+
+def read_setup(file):
+    data = file.read_bytes()
+    codes = (station["code"] for con in json.loads(data) for station in con["stations"])
+    return Setup(hashlib.sha256(data).hexdigest(), frozenset(codes))
+
+
+def read_shown(file):
+    """The hashes of lines that were shown, by their numbers. A row that is cut says nothing."""
+    shown = {}
+    if file and file.exists():
+        for row in file.read_text(encoding="utf-8", errors="replace").splitlines()[1:]:
+            found = re.fullmatch(r"[^,]*,([0-9]{1,15}),([0-9a-f]{64})", row)
+            if found and found[1] != "0":
+                shown.setdefault(int(found[1]), set()).add(found[2])
+    return shown
 
 
 class Record:
     """A file of numbered lines, each with the hash of the one before."""
 
-    def __init__(self, file, room):
-        self.file, self.room, self.lock, self.index = file, room, threading.Lock(), Index()
+    def __init__(self, file, room, setup=None, shown=None):
+        self.file, self.room, self.lock = file, room, threading.Lock()
+        self.index = Index(setup.stations if setup else None)
         self.descriptor = os.open(file, os.O_WRONLY | os.O_APPEND | os.O_CREAT, 0o640)
+        self.setup, begins, shown = setup, "", dict(shown or {})
         self.number, self.size, line = 0, 0, b"\n"
         with open(file, "rb") as lines:
             for self.number, line in enumerate(lines, 1):
                 self.index.take(line, self.size)
                 self.size += len(line)
+                begins = setup_of(line) if self.number == 1 else begins
+                if shown.get(self.number) == {hash_of(line.removesuffix(b"\n"))}:
+                    del shown[self.number]
         self.last = hash_of(line.removesuffix(b"\n")) if self.number else FIRST
         # A line that was cut, as by a power cut or a full disk, is ended and counts as a line.
         self.is_cut = not line.endswith(b"\n")
+        # Why nothing may be added to this record, where that is so.
+        self.fault = None
+        if shown:
+            self.fault = f"{file}: line {min(shown)} is not the one that was shown: it was cut, or written again"
+        elif setup and begins not in ("", setup.hash):
+            self.fault = f"{file} is the record of another setup, whose hash is {begins}"
 
     def add(self, entry):
-        """Adds a line, and returns its number; an OSError where that cannot be done."""
+        """Adds a line, and returns its number; an OSError where that cannot be done. A new record begins with its setup."""
         with self.lock:
-            number = self.number + 1
-            line = json.dumps({"n": number, "time": datetime.now().astimezone().isoformat(timespec="milliseconds"), **entry,
-                               "before": self.last}, ensure_ascii=False).encode()
-            whole = b"\n" * self.is_cut + line + b"\n"
-            if not self.is_as_left():
-                raise OSError(f"{self.file} is another file, or longer or shorter than it was left")
-            disk = os.statvfs(self.file)
-            if disk.f_bavail * disk.f_frsize < self.room + len(whole):
-                raise OSError(f"less than {self.room} bytes are left for {self.file}")
-            written = os.write(self.descriptor, whole)
-            self.size += written
-            if written < len(whole):
-                line = whole[self.is_cut:written]
-            self.number, self.last, self.is_cut = number, hash_of(line), written < len(whole)
-            if self.is_cut:
-                raise OSError(f"line {number} was cut")
-            place = self.size - len(line) - 1
-            with contextlib.suppress(OSError):
-                os.write(sys.stdout.fileno(), whole)
+            if self.setup and not self.number:
+                self.write({"setup": self.setup.hash})
+            line, place = self.write(entry)
+            number = self.number
         self.index.take(line, place)
         return number
+
+    def write(self, entry):
+        """Writes a line; the line, and its place in the file."""
+        number = self.number + 1
+        line = json.dumps({"n": number, "time": datetime.now().astimezone().isoformat(timespec="milliseconds"), **entry,
+                           "before": self.last}, ensure_ascii=False).encode()
+        whole = b"\n" * self.is_cut + line + b"\n"
+        if self.fault:
+            raise OSError(self.fault)
+        if not self.is_as_left():
+            raise OSError(f"{self.file} is another file, or longer or shorter than it was left")
+        disk = os.statvfs(self.file)
+        if disk.f_bavail * disk.f_frsize < self.room + len(whole):
+            raise OSError(f"less than {self.room} bytes are left for {self.file}")
+        written = os.write(self.descriptor, whole)
+        self.size += written
+        if written < len(whole):
+            line = whole[self.is_cut:written]
+        self.number, self.last, self.is_cut = number, hash_of(line), written < len(whole)
+        if self.is_cut:
+            raise OSError(f"line {number} was cut")
+        with contextlib.suppress(OSError):
+            os.write(sys.stdout.fileno(), whole)
+        return line, self.size - len(line) - 1
 
     def is_as_left(self):
         """Whether nobody has moved the file, put another in its place, or cut it or added to it."""
@@ -139,13 +199,17 @@ class Record:
 
     def head(self):
         with self.lock:
-            return {"n": self.number, "hash": self.last, "time": datetime.now().astimezone().isoformat(timespec="seconds")}
+            found = {"n": self.number, "hash": self.last, "time": datetime.now().astimezone().isoformat(timespec="seconds")}
+            return found | ({"fault": self.fault} if self.fault else {})
 
 
 class Index:
     """Where the lines of the record are that are about each station."""
 
-    def __init__(self):
+    def __init__(self, known=None):
+        # The stations of the setup, where it is known: no memory is spent on the names that a file
+        # makes up.
+        self.known = known
         # Of what was done to a station and of what was not, so that no repetition pushes out an
         # act; and of commands without an answer by their numbers.
         self.places, self.waiting, self.lock = {}, {}, threading.Lock()
@@ -175,7 +239,7 @@ class Index:
                 self.add(stations, is_done(entry), command, place)
 
     def add(self, stations, done, *places):
-        for station in stations:
+        for station in stations if self.known is None else stations & self.known:
             self.places.setdefault((station, done), array("Q")).extend(places)
 
     def of(self, station):
@@ -184,6 +248,13 @@ class Index:
             waiting = [place for place, stations, _ in self.waiting.values() if station in stations]
             sorts = [self.places.get((station, done), ()) for done in (True, False)] + [waiting]
             return sorted(place for sort in sorts for place in sort[-LINES:]), all(len(sort) <= LINES for sort in sorts)
+
+
+def setup_of(line):
+    """The hash of the setup with which a record begins, or an empty text."""
+    with contextlib.suppress(ValueError, AttributeError, RecursionError):
+        return json.loads(line).get("setup", "")
+    return ""
 
 
 def is_done(entry):
@@ -206,9 +277,18 @@ def stations_of(entry):
 def command_of(entry):
     """A command as a history shows it. Of a file it shows no rows: they are other stations' too."""
     _, kind, _, act = entry["path"].split("/", 3)
-    shown = {"n": entry["n"], "time": entry["time"], "name": entry["name"], "role": entry["role"], "act": act.split("/")[0],
-             "status": entry.get("status")}
-    return shown | ({"body": entry["body"]} if kind == "station" and "body" in entry else {})
+    shown = {key: entry[key] for key in ("n", "time", "name", "role")}
+    shown |= {"act": act.split("/")[0], "status": entry.get("status")}
+    body = text_of(entry, "body") if kind == "station" else None
+    return shown if body is None else shown | {"body": body}
+
+
+def text_of(entry, name):
+    """A text of a line, also where base64 has it; None where it is no text, or is not there."""
+    with contextlib.suppress(UnicodeDecodeError):
+        if f"{name}_base64" in entry:
+            return base64.b64decode(entry[f"{name}_base64"]).decode()
+    return entry.get(name)
 
 
 def hash_of(line):
@@ -216,12 +296,15 @@ def hash_of(line):
 
 
 def text_or_bytes(name, data):
-    """A text as it is; what is no text, or has characters that JSON writes as six, in base64."""
+    """A text as it is; what is no text, or what a terminal may obey, in base64.
+
+    A character that is not printable may turn round what a terminal shows, or be written by JSON
+    as six."""
     try:
         text = data.decode()
     except UnicodeDecodeError:
         text = None
-    if text is None or any(c < " " and c not in "\t\r\n" for c in text):
+    if text is None or not all(part.isprintable() for part in re.split("[\t\r\n]+", text)):
         return {f"{name}_base64": base64.b64encode(data).decode()}
     return {name: text}
 
@@ -246,81 +329,103 @@ class Limit:
             return False
 
 
-def part_of(connection):
-    part = connection.recv(1 << 20)
-    if not part:
-        raise OSError("a message that was cut")
-    return part
-
-
-def read_message(connection):
-    """First line, fields and body of a message, which ends where its length says, and the whole of it."""
-    read = b""
-    while b"\r\n\r\n" not in read:
-        read += part_of(connection)
-    head, body = read.split(b"\r\n\r\n", 1)
-    first, *lines = head.decode().split("\r\n")
-    fields = {name.lower(): value.strip() for name, value in (line.split(":", 1) for line in lines)}
-    while len(body) < int(fields.get("content-length", 0)):
-        body += part_of(connection)
-    return first, fields, body, head + b"\r\n\r\n" + body
-
-
 class Desk:
     """An office on a port of this machine, which answers one connection after the other."""
 
-    def __init__(self, address):
+    def __init__(self, address, connecting=PATIENCE):
         host, port = address.rsplit(":", 1)
-        self.address, self.lock = (host, int(port)), threading.Lock()
+        self.address, self.connecting = (host, int(port)), connecting
+        self.lock = threading.Lock()
 
-    def connected(self):
+    def connected(self, wait):
         """A connection, once the desk listens; None where it does not for long."""
-        end = time.monotonic() + WAIT
+        end = time.monotonic() + wait
         while True:
+            connection = http.client.HTTPConnection(*self.address, timeout=self.connecting)
             try:
-                return socket.create_connection(self.address, timeout=PATIENCE)
+                connection.connect()
+                connection.sock.settimeout(PATIENCE)
+                return connection
+            except TimeoutError:
+                # It listens, and takes nobody.
+                raise
             except OSError:
+                connection.close()
                 if time.monotonic() > end:
                     return None
                 time.sleep(0.05)
 
-    def ask_once(self, message):
-        """The answer, empty where the desk ended without one, or None where it was not reached."""
-        connection = self.connected()
+    def ask_once(self, method, path, body, wait):
+        """The answer; its status is None where the desk ended without one. None where it was not reached."""
+        connection = self.connected(wait)
         if connection is None:
             return None
-        with connection:
+        with contextlib.closing(connection):
             try:
-                connection.sendall(message)
-                return read_message(connection)[-1]
-            except (OSError, ValueError):
-                return b""
+                connection.putrequest(method, path, skip_host=True, skip_accept_encoding=True)
+                connection.putheader("Host", "office")
+                if method == "GET":
+                    connection.putheader("Connection", "close")
+                else:
+                    connection.putheader("Content-Length", str(len(body)))
+                connection.endheaders(body or None)
+                found = connection.getresponse()
+                return Answer(found.status, found.read(), found.headers.get("Content-Type", ""))
+            except (OSError, http.client.IncompleteRead):
+                return Answer(None)
 
-    def ask(self, method, path, body):
-        """Status and whole of an answer; the status is None where nobody knows whether the command was done."""
-        message = f"{method} {path} HTTP/1.1\r\nHost: office\r\nContent-Length: {len(body)}\r\n\r\n".encode() + body
+    def ask(self, method, path, body=b"", wait=None):
+        """The answer of the desk; its status is None where nobody knows whether the command was done."""
         for again in range(TRIES):
-            found = self.ask_once(message)
+            try:
+                found = self.ask_once(method, path, body, WAIT if wait is None else wait)
+            except TimeoutError:
+                return TOO_LATE
             if found is None:
-                return None if again else 502, NO_DESK
-            if found and again and method == "POST" and status_of(found) != 200:
+                return Answer(None) if again else NO_DESK
+            if found.status and again and method == "POST" and found.status != 200:
                 # Refused now, perhaps since it was done the first time.
                 break
-            if found:
-                return status_of(found), found
+            if found.status:
+                return found
             # It may be about to end, and listen still.
             time.sleep(0.1 * 2 ** again)
-        return None, NO_DESK
+        return Answer(None)
 
 
-def status_of(found):
-    return int(found.split(b" ", 2)[1])
+class Handler(http.server.BaseHTTPRequestHandler):
+    """Reads one request of a connection whole, and sends what `answered` of its server says."""
+
+    protocol_version, timeout = "HTTP/1.1", PATIENCE
+
+    def handle_whole(self):
+        length = int(self.headers.get("Content-Length", 0))
+        body = self.rfile.read(length)
+        if len(body) < length:
+            raise OSError("a message that was cut")
+        found = self.server.answered(self.command, self.path, self.headers, body)
+        self.send_response_only(found.status or NO_DESK.status)
+        self.send_header("Content-Type", found.kind)
+        self.send_header("Content-Length", str(len(found.body)))
+        self.send_header("Connection", "close")
+        self.end_headers()
+        self.wfile.write(found.body)
+
+    do_GET = do_HEAD = do_POST = do_PUT = do_PATCH = do_DELETE = do_OPTIONS = handle_whole
+
+    def log_message(self, *_):
+        """Nothing: a refused request of the proxy is in its own log."""
 
 
-def without_slips(table):
-    """A table of stations of which each line ends with the revision of the return. The first two lines are its head."""
-    lines = table.split(b"\n")
-    return b"\n".join(lines[:2] + [re.sub(rb"^(\S+ +\d+ [a-z]+ +\d+) .*", rb"\1", line, flags=re.S) for line in lines[2:]])
+def serve(listener, server):
+    """Answers one connection after the other."""
+    while True:
+        connection, address = listener.accept()
+        with connection:
+            try:
+                Handler(connection, address, server)
+            except Exception as error:  # whatever was sent or answered, the next one is served
+                print(f"no answer: {error!r}", file=sys.stderr, flush=True)
 
 
 class Recorder:
@@ -336,27 +441,18 @@ class Recorder:
             for command in found["commands"]:
                 command.pop("body", None)
                 command.pop("answer", None)
-        return answer(200, b"OK", json.dumps(found, ensure_ascii=False).encode())
-
-    def stations(self, con, fields):
-        """The stations of a constituency, for a role that sees what slips say, and for others without that."""
-        status, found = self.desk.ask("GET", f"/con/{con}/stations", b"")
-        if status != 200 or fields["office-role"] in SEE_FIGURES:
-            return found
-        return answer(200, b"OK", without_slips(found.split(b"\r\n\r\n", 1)[1]), b"text/plain; charset=utf-8")
+        return Answer(200, json.dumps(found, ensure_ascii=False).encode())
 
     def answered(self, method, path, fields, body):
-        if path.startswith("/history/"):
+        if method == "GET" and path.startswith("/history/"):
             return self.history(path.removeprefix("/history/"), fields)
-        if path.startswith("/stations/"):
-            return self.stations(path.removeprefix("/stations/"), fields)
-        if method == "GET":
-            return self.desk.ask(method, path, b"")[1]
+        if method != "POST":
+            return NOT_ALLOWED
         name, role = fields["office-name"], fields["office-role"]
         if self.limit.is_over(name, role, len(body)):
             return TOO_MANY
         if path.split("/")[3] == "trial":
-            return self.desk.ask(method, path, body)[1] if fields["office-allowed"] == "1" else FORBIDDEN
+            return self.desk.ask(method, path, body) if fields["office-allowed"] == "1" else FORBIDDEN
         entry = {"name": name, "role": role, "address": fields["office-address"], "office": self.office, "method": method, "path": path}
         try:
             if fields["office-allowed"] != "1":
@@ -369,25 +465,12 @@ class Recorder:
             return UNAVAILABLE
         # The answers are in the order in which the desk did what they answer.
         with self.desk.lock:
-            status, found = self.desk.ask(method, path, body)
+            found = self.desk.ask(method, path, body)
             try:
-                self.record.add({"to": number, "status": status} | text_or_bytes("answer", found.split(b"\r\n\r\n", 1)[1]))
+                self.record.add({"to": number, "status": found.status} | text_or_bytes("answer", found.body))
             except OSError as error:
                 print(f"the answer to {number} is not recorded: {error}", file=sys.stderr, flush=True)
         return found
-
-    def serve(self, listener):
-        """Answers one connection after the other."""
-        while True:
-            connection, _ = listener.accept()
-            with connection:
-                connection.settimeout(PATIENCE)
-                try:
-                    first, fields, body, _ = read_message(connection)
-                    method, path, _ = first.split(" ")
-                    connection.sendall(self.answered(method, path, fields, body))
-                except Exception as error:  # whatever was sent or answered, the next one is served
-                    print(f"no answer: {error!r}", file=sys.stderr, flush=True)
 
 
 def listen(file, group):
@@ -426,7 +509,13 @@ def main():
     command.add_argument("--desk", action="append", metavar="HOST:PORT", help="an office; 127.0.0.1:8080 where none is named")
     command.add_argument("--group", help="who may write to the sockets, beside the user of this program")
     command.add_argument("--room", type=int, default=256 << 20, metavar="BYTES", help="what has to be left on the disk of the record")
+    command.add_argument("--setup", type=Path, metavar="FILE", help="setup.json, as setup-json writes it")
+    command.add_argument("--shown", type=Path, metavar="FILE", help="what the press pages have shown of the record: record.csv")
     given = command.parse_args()
+    try:
+        setup, shown = read_setup(given.setup) if given.setup else None, read_shown(given.shown)
+    except (OSError, ValueError, KeyError, TypeError) as error:
+        sys.exit(f"failed: {given.setup or given.shown}: {error!r}")
     given.folder.mkdir(parents=True, exist_ok=True)
     # A second recorder would number the same lines: it ends here, with an error.
     locked = os.open(given.record, os.O_RDONLY | os.O_CREAT, 0o640)
@@ -435,11 +524,14 @@ def main():
     # Who asks while the record is read waits.
     listeners = [listen(given.folder / f"{office}.sock", given.group) for office in range(1, len(desks) + 1)]
     csv.field_size_limit(sys.maxsize)
-    record, limit = Record(given.record, given.room), Limit()
+    record, limit = Record(given.record, given.room, setup, shown), Limit()
+    if record.fault:
+        print(f"no command is done: {record.fault}", file=sys.stderr, flush=True)
     for office, (listener, address) in enumerate(zip(listeners, desks), 1):
         desk = Desk(address)
         for _ in range(THREADS):
-            threading.Thread(target=Recorder(record, desk, office, limit).serve, args=(listener,), daemon=True).start()
+            one = Recorder(record, desk, office, limit)
+            threading.Thread(target=serve, args=(listener, one), daemon=True).start()
     show_head(given.folder, record)
 
 

@@ -65,6 +65,7 @@ const STATUSES = {
   401: T.wrong_password,
   403: T.may_not,
   404: T.no_such_code,
+  409: T.other_setup,
   413: T.body_too_long,
   429: T.too_often,
   502: T.away,
@@ -87,7 +88,7 @@ const SLIPS = ["lodge", "correct", "confirm"];
 const WRONG = { differs: "slip", bad_body: "slip", too_many_votes: "total", bad_note: "note" };
 
 // What is known, and what is shown: a command is made of what is shown, and of nothing else.
-let setup = [], person = { name: "", role: "" }, shown = { con: null, view: null, station: null, found: null }, lot = null, busy = false, active = null;
+let setup = [], setupHash = "", person = { name: "", role: "" }, shown = { con: null, view: null, station: null, found: null }, lot = null, busy = false, active = null;
 // The revision of returns that this page has not seen, as far as an answer named it; the stations that were listed.
 const revisions = {};
 let listed = [];
@@ -119,13 +120,26 @@ function say(text, kind) {
 
 async function ask(method, target, body) {
   try {
-    const answer = await fetch(target, { method, body, cache: "no-store", redirect: "error" });
+    const headers = method === "POST" && setupHash ? { "Office-Setup": setupHash } : {};
+    const answer = await fetch(target, { method, body, headers, cache: "no-store", redirect: "error" });
     const text = await answer.text();
     const json = (answer.headers.get("Content-Type") || "").startsWith("application/json");
     return { status: answer.status, ok: answer.ok, headers: answer.headers, text, value: json ? JSON.parse(text) : null };
   } catch {
     return { status: 0, ok: false, headers: new Headers(), text: "", value: null };
   }
+}
+
+// The SHA-256 of a text: the proxy refuses a command of a page that has another setup.json than it knows.
+async function hashOf(text) {
+  const bytes = await crypto.subtle.digest("SHA-256", new TextEncoder().encode(text));
+  return [...new Uint8Array(bytes)].map((byte) => byte.toString(16).padStart(2, "0")).join("");
+}
+
+// A name or a note by itself: no letter in it turns round what stands beside it.
+function isolated(text) {
+  const plain = text.replace(/[\u061c\u200e\u200f\u202a-\u202e\u2066-\u2069]/g, "");
+  return /[\u0590-\u08ff\ufb1d-\ufdff\ufe70-\ufefc]/.test(plain) ? `\u2068${plain}\u2069` : plain;
 }
 
 function sentence(answer) {
@@ -214,7 +228,9 @@ async function look() {
   showProgress(progress);
   showReturn();
   showView(holders && holders.ok ? readHolders(holders.text) : []);
-  return (view.ok ? "" : ` ${sentence(view)}`) + (!found || shown.found ? "" : there ? ` ${UNKNOWN}` : ` ${sentence(found)}`);
+  // Before the hour from which results are public a station sees its own return alone.
+  const isClosed = view.status === 403 && person.role === "station";
+  return (view.ok || isClosed ? "" : ` ${sentence(view)}`) + (!found || shown.found ? "" : there ? ` ${UNKNOWN}` : ` ${sentence(found)}`);
 }
 
 // In place of an answer: the revision that a lodged return has, or a later one that an answer named.
@@ -231,7 +247,7 @@ async function refresh() {
 
 function readHolders(text) {
   const rows = text.split("\n").slice(1).map((line) => /^(\S+) +(\d+) (.*)$/.exec(line)).filter(Boolean);
-  return rows.map(([, list, place, name]) => ({ list, place: Number(place), name }));
+  return rows.map(([, list, place, name]) => ({ list, place: Number(place), name: isolated(name) }));
 }
 
 // ---- showing
@@ -272,7 +288,7 @@ function showReturn() {
   const found = shown.found, status = found ? found.status : "", again = shown.again;
   const parts = !found ? [] : blind() ? [made("p", T.station_electors({ station: found.station, electors: electors() }))] :
     status === "none" ? [made("p", T.station_none({ station: found.station }))] : [
-      made("p", T.station_status({ station: found.station, status: stateOf(status), revision: found.rev }) + (found.note ? T.station_note({ note: found.note }) : "")),
+      made("p", T.station_status({ station: found.station, status: stateOf(status), revision: found.rev }) + (found.note ? T.station_note({ note: isolated(found.note) }) : "")),
       ...(again ? [] : [rowsOf(slipRows(found))])];
   const open = shown.view && !shown.view.certified, entered = status === "received" || status === "corrected";
   if (open && entered && double()) parts.push(made("p", T.waits_for_second));
@@ -317,8 +333,8 @@ function viewParts(view) {
   const words = [T.con_state({ con: constituency().name, state, edition: view.edition })];
   if (!view.certified) words.push(missing ? T.still_to_close({ number: missing, stations: view.stations }) : T.all_closed);
   if (view.lot.length) words.push(T.lot_line({ lists: view.lot.join(", ") }));
-  if (view.note) words.push(T.reopening_note({ note: view.note }));
-  const gone = view.gone.map((one) => made("p", T.gone_line({ list: one.list, place: one.place, note: one.note })));
+  if (view.note) words.push(T.reopening_note({ note: isolated(view.note) }));
+  const gone = view.gone.map((one) => made("p", T.gone_line({ list: one.list, place: one.place, note: isolated(one.note) })));
   return [made("p", words.join(" ")), ...gone, rowsOf([...listRows(view), [T.blank, T.votes({ number: view.blank })], [T.spoiled, T.votes({ number: view.spoiled })]])];
 }
 
@@ -544,7 +560,7 @@ function read(text) {
 // What a command said of a return, as far as it can be read.
 function saidOf({ slip, votes, blank, spoiled, note }) {
   const lists = Array.isArray(votes) ? votes.map((many, place) => `${(constituency().lists[place] || { code: "?" }).code} ${many}`) : [];
-  const parts = [...(slip ? [T.said_slip({ slip })] : []), ...lists, ...(blank === undefined ? [] : [T.said_blank({ number: blank }), T.said_spoiled({ number: spoiled })]), ...(note ? [T.said_note({ note })] : [])];
+  const parts = [...(slip ? [T.said_slip({ slip })] : []), ...lists, ...(blank === undefined ? [] : [T.said_blank({ number: blank }), T.said_spoiled({ number: spoiled })]), ...(note ? [T.said_note({ note: isolated(String(note)) })] : [])];
   return parts.length ? `: ${parts.join(", ")}` : "";
 }
 
@@ -630,6 +646,11 @@ async function begin() {
   person = { name: own.headers.get("X-Office-Name") || "", role: own.headers.get("X-Office-Role") || "" };
   element("person").textContent = person.name ? `${person.name}, ${ROLES[person.role] || person.role}` : "";
   setup = file.value || [];
+  setupHash = crypto.subtle ? await hashOf(file.text) : "";
+  for (const one of setup) {
+    one.name = isolated(one.name);
+    for (const list of one.lists) Object.assign(list, { name: isolated(list.name), candidates: list.candidates.map(isolated) });
+  }
   if (!setup.length) return say(T.no_setup, "refused");
   element("con").replaceChildren(...setup.map((one) => {
     const option = made("option", `${one.name} (${one.code})`);

@@ -9,6 +9,7 @@ runs them with `--open-port`, and skips the test of that network.
 
 import contextlib
 import functools
+import hashlib
 import http.client
 import json
 import os
@@ -221,13 +222,26 @@ class AnOpenDesk(unittest.TestCase):
                     self.assertEqual(found.status, 400 if role in roles else 403)
                     self.assertEqual('"word":"bad_' in found.text, role in roles)
 
-    def test_whoever_has_a_name_reads_everything_but_a_history(self):
-        reads = ("/progress", "/country", "/con/c1", "/con/c1/tally", "/now/con/c1",
-                 "/now/con/c1/stations", "/now/station/s2", "/clerk.html", "/setup.json")
-        for target in reads:
-            for name in NAMES:
+    def test_a_page_of_another_setup_gives_no_commands(self):
+        setup = self.desk.ask("clerk-1", "GET", "/setup.json").body
+        for hashed, status in ((hashlib.sha256(setup).hexdigest(), 400), ("0" * 64, 409)):
+            with self.subTest(hashed=hashed):
+                found = self.desk.ask("clerk-1", "POST", "/station/s1/lodge", {},
+                                      Office_Setup=hashed)
+                self.assertEqual(found.status, status)
+
+    def test_whoever_has_a_name_reads_everything_but_slips_and_histories(self):
+        reads = ("/progress", "/country", "/con/c1", "/con/c1/tally", "/now/con/c1", "/clerk.html",
+                 "/setup.json")
+        slips = {"/now/station/s2": ("clerk", "board"), "/station/s2": ("clerk", "board"),
+                 "/con/c1/returns": ("clerk", "board"), "/con/c1/stations": ("clerk", "board"),
+                 "/now/con/c1/returns": ("clerk", "board"),
+                 "/now/con/c1/stations": ("clerk", "board", "second")}
+        for target, roles in [*((target, NAMES.values()) for target in reads), *slips.items()]:
+            for name, role in NAMES.items():
                 with self.subTest(target=target, name=name):
-                    self.assertEqual(self.desk.ask(name, "GET", target).status, 200)
+                    found = self.desk.ask(name, "GET", target)
+                    self.assertEqual(found.status, 200 if role in roles else 403)
         for name, role in NAMES.items():
             with self.subTest(name=name):
                 found = self.desk.ask(name, "GET", "/now/station/s2/history")
@@ -283,7 +297,8 @@ class AnOpenDesk(unittest.TestCase):
                     self.assertEqual(found.body, b"")
                     self.assertEqual(found.heads["Content-Type"], None)
                     self.assertEqual(found.heads["Set-Cookie"], None)
-        self.assertIn('"word":"no_return"', self.desk.ask("clerk-1", "GET", "/station/s1").text)
+        found = self.desk.ask("clerk-1", "GET", "/now/station/s1")
+        self.assertIn('"word":"no_return"', found.text)
 
     def test_an_address_with_another_secret_gets_no_cookie(self):
         _, secret = self.desk.addresses["clerk-1"]

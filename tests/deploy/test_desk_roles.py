@@ -42,7 +42,8 @@ TARGETS = [
 # By what a location passes on to, the kind of its requests.
 KINDS = {
     "http://office$office": "table", "http://office$office$table": "now",
-    "http://recorder$office": "command", "http://recorder$office/stations/$con": "stations",
+    "http://office$office/station/$station": "now_slips",
+    "http://office$office/$table/$con": "now_all", "http://recorder$office": "command",
     "http://recorder$office/history/$station": "history", "http://office1/progress": None,
 }
 # And by the names of those that the proxy answers itself. A load balancer has no business here.
@@ -87,6 +88,8 @@ class Location:
         self.is_exact, self.pattern = how == "=", pattern_of(name) if how == "~" else None
         passed = re.search(r"proxy_pass (\S+);", text)
         self.kind = KINDS[passed[1]] if passed else OTHER_KINDS[name]
+        if self.kind == "table" and "Office-Allowed $sees_slips" in text:
+            self.kind = "slips"
         table = re.search(r"set \$table (\S+);", text)
         self.parts = {"table": table[1]} if table else {}
 
@@ -160,7 +163,8 @@ class RoutesAndRoles(unittest.TestCase):
                 place, parts = wanted
                 self.assertEqual([found.station, found.con, found.act],
                                  [parts.get(name, "") for name in ("station", "con", "act")])
-                self.assertEqual(found.path, parts.get("table", target.split("?")[0]))
+                path = f"/station/{found.station}" if kind == "now_slips" else target.split("?")[0]
+                self.assertEqual(found.path, parts.get("table", path))
 
     def test_a_target_takes_the_same_methods(self):
         for target in TARGETS:
@@ -179,6 +183,15 @@ class RoutesAndRoles(unittest.TestCase):
         for it, role, name in itertools.product(acts, desk_roles.ROLES, names):
             with self.subTest(path=it.path, role=role, name=name):
                 wanted = allowed.value(f"{role}:{it.act}:{name}:{it.station}") == "1"
+                self.assertEqual(it.is_allowed(name, role), wanted)
+
+    def test_each_role_sees_the_same_slips(self):
+        sees = Map(TEXT, "sees_slips")
+        found = [it for it in map(desk_roles.request_of, TARGETS) if it and "slips" in it.kind]
+        self.assertEqual(len(found), 5)
+        for it, role, name in itertools.product(found, desk_roles.ROLES, ("s1", "s2", "clerk-1")):
+            with self.subTest(path=it.path, role=role, name=name):
+                wanted = sees.value(f"{role}:{name}:{it.station}") == "1"
                 self.assertEqual(it.is_allowed(name, role), wanted)
 
     def test_a_body_may_have_the_same_length(self):

@@ -1,4 +1,4 @@
-"""nginx and the recorder, with the files of `deploy/`."""
+"""nginx, the recorder and the reader, with the files of `deploy/`."""
 
 import base64
 import collections
@@ -18,7 +18,7 @@ from pathlib import Path
 
 from tests.support.case import find
 from tests.support.running import PATIENCE, free_port, until
-from tests.support.site import DEPLOY, NAME, Answer, ran, same, serving
+from tests.support.site import DEPLOY, NAME, Answer, printed, ran, same, serving
 
 NGINX = find("nginx")
 
@@ -32,19 +32,19 @@ def filled(text, pairs):
 
 
 class Proxy:
-    """nginx and the recorder with the files of deploy/, their places filled in, in a folder of its
-    own."""
+    """nginx, the recorder and the reader with the files of deploy/, their places filled in, in a
+    folder of its own."""
 
     def __init__(self, desk, *more):
         self.folder = Path.cwd() / "proxy"
         self.port, self.plain, self.desks = free_port(), free_port(), (desk, *more)
         self.passwords = {}
-        self.process = self.recorder = None
+        self.process = self.recorder = self.reader = None
         # Further places of nginx.conf to fill in, and the room that the recorder leaves.
         self.more, self.room = {}, 0
 
     def configure(self):
-        for name in ("office", "log", "temporary", "pages", "share", "recorder"):
+        for name in ("office", "log", "temporary", "pages", "share", "recorder", "reader"):
             (self.folder / name).mkdir(parents=True, exist_ok=True)
         places = {"/var/log/nginx/": f"{self.folder}/log/",
                   "/var/lib/nginx/": f"{self.folder}/temporary/",
@@ -72,12 +72,13 @@ class Proxy:
 
     def publish_setup(self, file):
         """Writes setup.json, by the script that an office uses."""
-        self.put("codes.conf", ran(DEPLOY / "setup-json", file, self.folder / "share"))
+        self.put("codes.conf", printed(DEPLOY / "setup-json", file, self.folder / "share"))
 
     def put(self, name, text, places=None):
         """Writes a file of the configuration."""
         for old, new in {**(places or {}), "127.0.0.1:8080": f"127.0.0.1:{self.desks[0]}",
-                         "/run/office-recorder/": f"{self.folder}/recorder/"}.items():
+                         "/run/office-recorder/": f"{self.folder}/recorder/",
+                         "/run/office-reader/": f"{self.folder}/reader/"}.items():
             text = text.replace(old, new)
         (self.folder / "office" / name).write_text(text, encoding="utf-8")
 
@@ -120,7 +121,25 @@ class Proxy:
             (self.folder / "recorder/head").unlink(missing_ok=True)
             self.recorder = None
 
+    def start_reader(self):
+        desks = [word for desk in self.desks for word in ("--desk", f"127.0.0.1:{desk}")]
+        with open(self.folder / "log/reader", "ab") as said:
+            self.reader = subprocess.Popen(
+                [sys.executable, DEPLOY / "reader.py", self.folder / "reader", *desks],
+                stdout=subprocess.DEVNULL, stderr=said)
+        last = self.folder / f"reader/{len(self.desks)}.sock"
+        until(lambda: last.exists() or self.reader.poll() is not None)
+
+    def end_reader(self):
+        if self.reader:
+            self.reader.kill()
+            self.reader.wait(timeout=PATIENCE)
+            for file in (self.folder / "reader").glob("*.sock"):
+                file.unlink()
+            self.reader = None
+
     def start(self):
+        self.start_reader()
         self.start_recorder()
         self.process = subprocess.Popen(
             [NGINX, "-e", self.folder / "log/error.log", "-c", self.folder / "nginx.conf"],
@@ -141,6 +160,7 @@ class Proxy:
             self.process.terminate()
             self.process.wait(timeout=PATIENCE)
         self.end_recorder()
+        self.end_reader()
 
     def connect(self, source="127.0.0.1", name=NAME):
         """A connection with TLS, from an address of this machine."""

@@ -45,6 +45,12 @@ def ran(*words, status=0):
     return done.stdout + done.stderr
 
 
+def printed(*words):
+    """What it prints, without what it says on standard error."""
+    return subprocess.run(words, capture_output=True, text=True, timeout=PATIENCE,
+                          check=True).stdout
+
+
 def new(setup, db="office.db"):
     Path("setup.toml").write_text(setup, encoding="utf-8")
     ran(PROGRAM, "new", "--db", db, "--setup", "setup.toml")

@@ -1,0 +1,64 @@
+"""The lines of a record of commands as one after the other, for `replay` and `entries`.
+
+Each line has its number and the SHA-256 of the line before it. The first may say of which setup the
+record is, by the SHA-256 of setup.json.
+"""
+
+import csv
+import hashlib
+import json
+
+FIRST = "0" * 64
+
+
+def printable(said):
+    """One line: what somebody has sent may have line breaks, and what a terminal obeys."""
+    return "".join(c if c.isprintable() else c.encode("unicode_escape").decode() for c in said)
+
+
+def read_shown(file):
+    """The hashes that were shown, by the numbers of their lines. Before the first there is none."""
+    shown = {}
+    with open(file, encoding="utf-8", newline="") as rows:
+        for row in csv.DictReader(rows):
+            shown.setdefault(int(row["lines"]), set()).add(row["sha256"])
+    shown.pop(0, None)
+    return shown
+
+
+def hash_of_file(file):
+    with open(file, "rb") as data:
+        return hashlib.file_digest(data, "sha256").hexdigest()
+
+
+def setup_of(entry):
+    """The hash of the setup with which a record begins, where this is its first line; or None."""
+    found = entry.get("setup") if isinstance(entry, dict) and entry.get("n") == 1 else None
+    return found if isinstance(found, str) else None
+
+
+class Chain:
+    """What is known of the lines so far, and of those that were shown."""
+
+    def __init__(self, shown=None):
+        self.number, self.hash, self.setup, self.shown = 0, FIRST, None, dict(shown or {})
+
+    def take(self, line):
+        """The faults of a line, which is one of bytes without its end."""
+        self.number, before, faults = self.number + 1, self.hash, []
+        self.hash = hashlib.sha256(line).hexdigest()
+        if self.shown.pop(self.number, {self.hash}) != {self.hash}:
+            faults.append(f"line {self.number}: another one was shown")
+        try:
+            entry = json.loads(line)
+            self.setup = setup_of(entry) or self.setup
+            is_next = (entry["n"], entry["before"]) == (self.number, before)
+        except (ValueError, TypeError, KeyError, RecursionError):
+            is_next = False
+        if not is_next:
+            faults.append(f"line {self.number}: not as it was written, or one before it")
+        return faults
+
+    def end(self):
+        """The faults of the end: lines that were shown, and are not there."""
+        return [f"line {number}: it was shown, and is not there" for number in sorted(self.shown)]

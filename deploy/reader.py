@@ -1,0 +1,169 @@
+#!/usr/bin/env python3
+"""Answers who reads reports of the office, by GET alone: nobody but it and the recorder reaches the office.
+
+    deploy/reader.py FOLDER [--desk HOST:PORT].. [--read HOST:PORT].. [--group NAME]
+
+    deploy/reader.py /run/office-reader --desk 127.0.0.1:8080 --read 127.0.0.1:8090
+
+In FOLDER it listens on a socket for each desk, `1.sock`, `2.sock`, .., for the proxy; and for each
+desk on a port of --read, in the same order, for the press pages. Whatever is not a GET is answered
+405, and the office does not hear of it. Nor does it hear a head or a body.
+
+The office answers one request after the other. Two reports are asked for at once, so that a command
+waits for two at most. Of the tables of all stations of a constituency the proxy has one at a time,
+and three times as long as it took the office is left to others: the proxy waits for its next.
+
+The proxy says with each request what its name may see. `Office-Allowed` other than 1 is answered
+403. /stations/CODE and /returns/CODE are the tables of a constituency past the cache: a name of the
+staff gets twenty at once, and then two a second. To a role that does not see what slips say, a line
+of /stations/CODE ends with the revision, and /returns/CODE is 403. With `Office-Wait: no` a desk that
+does not listen is not waited for.
+
+It goes on until it is ended. The status is 2 where its words are wrong. Python 3.11 or later.
+"""
+
+import argparse
+import contextlib
+import re
+import socket
+import sys
+import threading
+import time
+from pathlib import Path
+
+from recorder import (
+    FORBIDDEN,
+    NOT_ALLOWED,
+    SEE_FIGURES,
+    TOO_MANY,
+    Answer,
+    Desk,
+    listen,
+    serve,
+)
+
+# How many requests of the proxy are read at once; of a port there are few.
+THREADS, PORT_THREADS = 64, 4
+# How many reports of a desk are asked for at once. After a table of all stations the next waits
+# three times as long as it took, and a second at most; so many wait, and others are answered 429.
+AT_ONCE, REST, LONGEST_REST, WAITING = 2, 3, 1.0, 16
+# How long a desk that takes no connection is waited for.
+CONNECTING = 5
+# How many tables of all stations a name may ask for at once, and one more each so many seconds.
+TABLES, TABLE_SECONDS = 20, 0.5
+
+
+class Often:
+    """How often each name asks for a table of all stations. The proxy has seen its password."""
+
+    def __init__(self):
+        self.spent, self.lock = {}, threading.Lock()
+
+    def is_over(self, name):
+        now = time.monotonic()
+        with self.lock:
+            moment = max(self.spent.get(name, 0), now) + TABLE_SECONDS
+            if moment > now + TABLES * TABLE_SECONDS:
+                return True
+            self.spent[name] = moment
+            return False
+
+
+def without_slips(table):
+    """A table of stations of which each line ends with the revision. The first two are its head."""
+    lines = table.split(b"\n")
+    short = [re.sub(rb"^(\S+ +\d+ [a-z]+ +\d+) .*", rb"\1", line, flags=re.S) for line in lines[2:]]
+    return b"\n".join(lines[:2] + short)
+
+
+class Reader:
+    """Asks a desk for reports: those of the proxy, with their names, or those of a port."""
+
+    def __init__(self, desk, turns, often=None):
+        self.desk, self.turns, self.often = desk, turns, often
+        # The tables of all stations: one at a time, not before a moment, for so many who wait.
+        self.large, self.moment = threading.Lock(), 0.0
+        self.places = threading.BoundedSemaphore(WAITING)
+
+    def answered(self, method, path, fields, _):
+        if method != "GET":
+            return NOT_ALLOWED
+        if fields.get("Office-Allowed", "1") != "1":
+            return FORBIDDEN
+        wait = 0 if fields.get("Office-Wait") == "no" else None
+        found = re.fullmatch("/(stations|returns)/([A-Za-z0-9_-]+)", path)
+        if found and self.often:
+            return self.past_the_cache(*found.groups(), fields)
+        if re.fullmatch("/con/[^/]+/(stations|returns)", path) and self.often:
+            return self.ask_large(path)
+        return self.ask(path, wait)
+
+    def past_the_cache(self, table, con, fields):
+        """A table of all stations for a name of the staff, as its role may see it."""
+        sees = fields.get("Office-Role") in SEE_FIGURES
+        if not sees and (table == "returns" or fields.get("Office-Role") != "second"):
+            return FORBIDDEN
+        if self.often.is_over(fields.get("Office-Name")):
+            return TOO_MANY
+        found = self.ask_large(f"/con/{con}/{table}")
+        if sees or found.status != 200:
+            return found
+        return Answer(200, without_slips(found.body), found.kind)
+
+    def ask_large(self, path):
+        if not self.places.acquire(blocking=False):
+            return TOO_MANY
+        try:
+            with self.large:
+                time.sleep(max(0.0, self.moment - time.monotonic()))
+                began = time.monotonic()
+                found = self.ask(path)
+                took = time.monotonic() - began
+                self.moment = time.monotonic() + min(REST * took, LONGEST_REST)
+                return found
+        finally:
+            self.places.release()
+
+    def ask(self, path, wait=None):
+        with self.turns:
+            return self.desk.ask("GET", path, wait=wait)
+
+
+def listen_to_port(address):
+    host, port = address.rsplit(":", 1)
+    return socket.create_server((host, int(port)), backlog=512)
+
+
+def main():
+    command = argparse.ArgumentParser(
+        description=__doc__, formatter_class=argparse.RawDescriptionHelpFormatter
+    )
+    command.add_argument("folder", type=Path, help="where the sockets are")
+    command.add_argument(
+        "--desk", action="append", metavar="HOST:PORT", help="an office; 127.0.0.1:8080 if none"
+    )
+    command.add_argument(
+        "--read", action="append", metavar="HOST:PORT", default=[], help="a port for GET alone"
+    )
+    command.add_argument("--group", help="who may write to the sockets, beside this program's user")
+    given = command.parse_args()
+    desks = given.desk or ["127.0.0.1:8080"]
+    if len(given.read) > len(desks):
+        command.error("there are more ports than desks")
+    given.folder.mkdir(parents=True, exist_ok=True)
+    often = Often()
+    for number, address in enumerate(desks, 1):
+        desk, turns = Desk(address, CONNECTING), threading.Semaphore(AT_ONCE)
+        sources = [(listen(given.folder / f"{number}.sock", given.group), THREADS, often)]
+        if number <= len(given.read):
+            sources.append((listen_to_port(given.read[number - 1]), PORT_THREADS, None))
+        for listener, threads, names in sources:
+            reader = Reader(desk, turns, names)
+            for _ in range(threads):
+                threading.Thread(target=serve, args=(listener, reader), daemon=True).start()
+    threading.Event().wait()
+
+
+if __name__ == "__main__":
+    with contextlib.suppress(KeyboardInterrupt):
+        sys.exit(main())

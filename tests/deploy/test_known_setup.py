@@ -1,0 +1,144 @@
+"""Pages, commands, the record and its tools know of which setup they are: lists in another order are never taken for these."""
+
+import json
+import subprocess
+import sys
+from pathlib import Path
+
+from tests.support.case import needs
+from tests.support.desks import answering_desk, recording_desk
+from tests.support.office import PROFILE, constituency, party_list, station, with_stations
+from tests.support.record import LODGED, chained
+from tests.support.safeguards import SLIP, Safeguards, hash_of_file, run, site
+from tests.support.scripts import loaded
+from tests.support.site import DEPLOY, SiteCase, plain, serving
+
+OTHER_ORDER = (
+    PROFILE + constituency("c1", "Twin Town", 3, "d0") + party_list("B", "Beta", "Bea")
+    + party_list("A", "Alpha", "Ana", "Abel") + station("s1") + station("s2")
+)
+
+
+def setup_json(text, folder="."):
+    Path("made.toml").write_text(text, encoding="utf-8")
+    Path(folder).mkdir(exist_ok=True)
+    return run("setup-json", "made.toml", folder)[0]
+
+
+def replay(record, *words):
+    done = subprocess.run([DEPLOY / "replay", *words], input=record, capture_output=True, text=False, timeout=60)
+    return done.returncode, done.stdout.decode(), done.stderr.decode()
+
+
+class Proxy(Safeguards):
+    @needs("nginx", "openssl")
+    def test_a_page_that_has_another_setup(self):
+        """Its commands are answered 409, and neither recorded nor done; a program that says nothing of it is served."""
+        Path("setup.toml").write_text(with_stations(2), encoding="utf-8")
+        with recording_desk() as (port, messages), site(port) as front:
+            known = hash_of_file(front.folder / "share/setup.json")
+            rows = {known: 200, "": 200, "0" * 64: 409, known[:-1]: 409, known + "0": 409, "x": 409}
+            for said, wanted in rows.items():
+                with self.subTest(said=said):
+                    before = len(messages)
+                    found = front.ask("POST", "/station/s1/lodge", LODGED, "clara", {"Office-Setup": said})
+                    self.assertEqual((found.status, len(messages) - before), (wanted, int(wanted == 200)))
+            self.assertEqual(front.ask("POST", "/station/s1/lodge", LODGED, "clara").status, 200)
+            # A trial says what an import would come to, and is of the same lists.
+            self.assertEqual(front.ask("POST", "/con/c1/trial", "x", "clara", {"Office-Setup": "x"}).status, 409)
+            record = front.record(3)
+            self.assertEqual(len(record), 3)
+            with open(front.folder / "log/commands.log", encoding="utf-8") as lines:
+                first = json.loads(next(lines))
+            self.assertEqual(first | {"time": ""}, {"n": 1, "time": "", "setup": known, "before": "0" * 64})
+
+    def test_the_page_sends_the_hash_of_what_it_has(self):
+        text = (DEPLOY / "www/clerk.html").read_text(encoding="utf-8")
+        self.assertIn('{ "Office-Setup": setupHash }', text)
+        self.assertIn("setupHash = crypto.subtle ? await hashOf(file.text)", text)
+        self.assertRegex(text, '(?m)^  409: "Nothing was done: the setup is another one')
+
+
+class Record(Safeguards):
+    def test_a_record_of_another_setup_is_not_gone_on_with(self):
+        recorder = loaded("recorder.py")
+        recorder.sys = type("Sys", (), {"stdout": open("copy", "wb"), "stderr": sys.stderr})
+        setup_json(with_stations(2), "one")
+        setup_json(OTHER_ORDER, "other")
+        one, other = (recorder.read_setup(Path(folder, "setup.json")) for folder in ("one", "other"))
+        self.assertEqual((one.hash, one.stations), (hash_of_file("one/setup.json"), {"s1", "s2"}))
+        self.assertNotEqual(one.hash, other.hash)
+        # Nothing is written before there is a command.
+        self.assertEqual((recorder.Record("log", 0, one).number, Path("log").read_bytes()), (0, b""))
+        self.assertEqual(recorder.Record("log", 0, one).add({"name": "clara"}), 2)
+        self.assertEqual(json.loads(Path("log").read_text().splitlines()[0])["setup"], one.hash)
+        self.assertEqual(recorder.Record("log", 0, one).add({"name": "clara"}), 3)
+        for record in (recorder.Record("log", 0, other),):
+            self.assertIn("is the record of another setup", record.fault)
+            with self.assertRaises(OSError):
+                record.add({"name": "clara"})
+        self.assertEqual(len(Path("log").read_bytes().splitlines()), 3)
+        # One that began without a setup goes on.
+        Path("old").write_bytes(chained({"name": "clara"}))
+        self.assertEqual(recorder.Record("old", 0, one).add({"name": "clara"}), 2)
+
+    def test_the_index_has_the_stations_of_the_setup_alone(self):
+        recorder = loaded("recorder.py")
+        rows = "".join(f"x{n},p,0,0,1,2\n" for n in range(5000))
+        command = {"path": "/con/c1/import", "method": "POST", "body": f"station\ns1,p,0,0,1,2\n{rows}"}
+        lines = chained(command, {"to": 1, "status": 200, "answer": '{"lodged":1}'}).splitlines(keepends=True)
+        for known, wanted in ((frozenset({"s1", "s2"}), 1), (None, 5002)):
+            with self.subTest(known=known):
+                index = recorder.Index(known)
+                for line in lines:
+                    index.take(line, 0)
+                self.assertEqual(len(index.places), wanted)
+
+
+class Replay(SiteCase):
+    def record(self, folder):
+        lodge = {"name": "clara", "role": "clerk", "address": "127.0.0.1", "office": 1, "method": "POST",
+                 "path": "/station/s1/lodge", "body": json.dumps(LODGED)}
+        answer = {"to": 2, "status": 200, "answer": '{"ok":"lodged","rev":1}'}
+        return chained({"setup": hash_of_file(f"{folder}/setup.json")}, lodge, answer)
+
+    def test_a_record_is_sent_to_an_office_of_its_setup_alone(self):
+        setup_json(with_stations(2), "one")
+        setup_json(OTHER_ORDER, "other")
+        record = self.record("one")
+        mine = {"/con/c1/returns": "station,slip,blank,spoiled,A,B\n", "/station/s1/lodge": "{}"}
+        others = mine | {"/con/c1/returns": "station,slip,blank,spoiled,B,A\n"}
+        rows = ((mine, ("--setup", "one/setup.json"), 0, ""),
+                (others, ("--setup", "one/setup.json"), 2, "no office has the constituency c1 with these lists"),
+                (others, ("--setup", "other/setup.json"), 2, "the record is of another setup"),
+                (mine, (), 2, "name its setup.json"),
+                (mine, ("--setup", "nonesuch.json"), 2, "nonesuch.json"))
+        for answers, words, wanted, why in rows:
+            with self.subTest(words=words, why=why), answering_desk(answers) as (port, asked):
+                status, _, said = replay(record, f"http://127.0.0.1:{port}", *words)
+                self.assertEqual((status, "/station/s1/lodge" in asked), (wanted, wanted == 0))
+                self.assertIn(why, said)
+
+    def test_a_check_compares_the_setup_where_it_is_named(self):
+        setup_json(with_stations(2), "one")
+        setup_json(OTHER_ORDER, "other")
+        record = self.record("one")
+        self.assertEqual(replay(record, "--check")[0], 0)
+        self.assertEqual(replay(record, "--check", "--setup", "one/setup.json")[0], 0)
+        self.assertEqual(replay(record, "--check", "--setup", "other/setup.json")[0], 2)
+
+    @needs("nginx", "openssl")
+    def test_two_offices_whose_lists_are_in_another_order(self):
+        """The very programs: the record of one is refused for the other, which stays as it was."""
+        with serving(with_stations(2)) as desk, site(desk.port) as front:
+            self.assertEqual(front.ask("POST", "/station/s1/lodge", SLIP, "clara").status, 200)
+            front.record(1)
+            record = (front.folder / "log/commands.log").read_bytes()
+            setup = front.folder / "share/setup.json"
+            with serving(OTHER_ORDER, "other.db") as other:
+                before = plain(other.port, "GET", "/con/c1/returns").body
+                status, _, said = replay(record, f"http://127.0.0.1:{other.port}", "--setup", setup)
+                self.assertEqual((status, plain(other.port, "GET", "/con/c1/returns").body), (2, before))
+            with serving(with_stations(2), "again.db") as again:
+                status, said, _ = replay(record, f"http://127.0.0.1:{again.port}", "--setup", setup)
+                self.assertEqual((status, said.split(";")[0]), (0, "sent 1, to look at 0"))
