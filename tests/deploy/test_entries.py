@@ -167,11 +167,11 @@ class Entries(SiteCase):
             "line 2: it answers line 1, which is not there: nobody knows what was done",
             f"s1: its second entry is by clara ({TIME}), and its first is not in this record",
             "closed 1, of these by a second entry 1, to look at 3"]))
-        # Numbers, hashes and further keys are nothing to it.
+        # A record that was changed is read, and is not whole.
         changed = record_of(twice).replace(b'"clara"', b'"sara"', 1)
-        changed = changed.replace(b'"before"', b'"beside"')
-        self.assertEqual(self.entries(changed),
-                         (0, ["closed 1, of these by a second entry 1, to look at 0"]))
+        self.assertEqual(self.entries(changed), (2, [
+            "the record is not whole: line 2: not as it was written, or one before it",
+            "closed 1, of these by a second entry 1, to look at 0"]))
         second = given("sara", "/station/s1/confirm")
         for unknown in (without_answer("clara", "/station/s1/lodge"),
                         *(given("clara", "/station/s1/lodge", "{}", status)

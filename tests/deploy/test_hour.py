@@ -7,7 +7,7 @@ from tests.support.case import needs
 from tests.support.desks import recording_desk
 from tests.support.proxy import errors, proxy
 from tests.support.running import until
-from tests.support.site import DEPLOY, SiteCase, ran
+from tests.support.site import DEPLOY, SiteCase, printed, ran
 
 
 class Hour(SiteCase):
@@ -17,7 +17,7 @@ class Hour(SiteCase):
         nothing is done at the hour."""
         with recording_desk(b"TALLY c1 Twin Town\n") as (port, messages), proxy(port) as front:
             (front.folder / "pages/index.html").write_text("a page", encoding="utf-8")
-            targets = ("/", "/index.html", "/progress", "/station/s1", "/con/c1", "/con/c1/tally")
+            targets = ("/", "/index.html", "/progress", "/country", "/con/c1", "/con/c1/tally")
             without = ({}, {"name": "clara", "password": "x"}, {"name": "x", "password": "x"})
             # Where the machine is too slow for what is asked before the hour, the hour is a later
             # one.
@@ -25,7 +25,7 @@ class Hour(SiteCase):
                 front.end()
                 messages.clear()
                 hour = datetime.now().astimezone() + timedelta(seconds=seconds)
-                front.put("embargo.conf", ran(DEPLOY / "embargo", hour.isoformat()))
+                front.put("embargo.conf", printed(DEPLOY / "embargo", hour.isoformat()))
                 front.start()
                 refused = [(target, [front.ask("GET", target, **words).status for words in without])
                            for target in targets]
@@ -39,21 +39,22 @@ class Hour(SiteCase):
                              ([(target, [403, 401, 401]) for target in targets], 0, [200] * 6, 200))
             until(lambda: datetime.now().astimezone() > hour + timedelta(seconds=1))
             self.assertEqual([front.ask("GET", target).status for target in targets], [200] * 6)
-        for words in (["tomorrow"], ["2026-11-29T20:00:00"], ["2026-11-29T20:00:00+01:00", "x"]):
+        for words in ([], [""], ["tomorrow"], ["2026-11-29T20:00:00"],
+                      ["2100-11-29T20:00:00+01:00", "x", "y"]):
             ran(DEPLOY / "embargo", *words, status=2)
 
     def test_the_hour_as_a_pattern(self):
         """Of some hours the seconds before and after."""
         for second in (1_795_978_800, 1_795_979_999, 1_800_000_000, 2_000_000_000, 1_999_999_999):
             with self.subTest(second=second):
-                said = ran(DEPLOY / "embargo",
-                           datetime.fromtimestamp(second).astimezone().isoformat())
+                said = printed(DEPLOY / "embargo",
+                               datetime.fromtimestamp(second).astimezone().isoformat(), "--past")
                 pattern = re.search('"~(.*)" office;', said)[1]
                 for moment in (second - 1000, second - 61, second - 1, second, second + 1,
                                second + 60, second + 10**9):
                     with self.subTest(moment=moment):
                         self.assertEqual(bool(re.match(pattern, f"{moment}.000")), moment < second)
-        self.assertEqual(ran(DEPLOY / "embargo"),
+        self.assertEqual(printed(DEPLOY / "embargo", "now"),
                          (DEPLOY / "nginx/embargo.conf").read_text(encoding="utf-8"))
 
     @needs("nginx", "openssl")
@@ -61,7 +62,7 @@ class Hour(SiteCase):
         """A name that cannot be one gets into no log there either."""
         with recording_desk() as (port, messages), proxy(port) as front:
             front.end()
-            front.put("embargo.conf", ran(DEPLOY / "embargo", "2100-01-01T00:00:00+00:00"))
+            front.put("embargo.conf", printed(DEPLOY / "embargo", "2100-01-01T00:00:00+00:00"))
             front.start()
             for name in ("x\ny", "x\x1b[31m", "clara ", "../staff", "x" * 33):
                 with self.subTest(name=name):

@@ -22,8 +22,8 @@ from tests.support.scripts import loaded
 from tests.support.site import DEPLOY, NAME, SiteCase
 
 # A request with its status, how many answers come at once, and how many a second after that.
-RATES = (("GET /con/c1/tally", b"200", 400, 200), ("GET /station/s1", b"200", 400, 200),
-         ("GET /progress", b"200", 400, 200), ("GET /con/c1/stations", b"200", 10, 2),
+RATES = (("GET /con/c1/tally", b"200", 400, 200), ("GET /station/s1", b"401", 400, 200),
+         ("GET /progress", b"200", 400, 200), ("GET /con/c1/stations", b"401", 10, 2),
          ("GET /nonesuch", b"404", 200, 50), ("GET /now/progress", b"401", 200, 50),
          ("GET /now/con/c1", b"401", 200, 50), ("POST /con/c1/certify", b"401", 100, 20),
          ("POST /station/s1/lodge", b"401", 100, 20), ("GET /clerk.html", b"401", 100, 20),
@@ -379,13 +379,15 @@ class Limits(SiteCase):
 
     @needs("nginx", "openssl")
     def test_tables_without_a_recorder(self):
-        """While neither the office nor the recorder is there a table cannot be had; it can as soon
-        as the office is there again."""
+        """While there is no reader a table cannot be had; it can as soon as the reader and the
+        office are there again, without a recorder."""
         with recording_desk() as (port, _):
             pass
         with proxy(port) as front:
             front.end_recorder()
+            front.end_reader()
             self.assertEqual(front.ask("GET", "/con/c1").status, 502)
+            front.start_reader()
             with desk_with(lambda *_: answer_of("{}"), port):
                 # (an answer is kept for a second)
                 until(lambda: front.ask("GET", "/con/c1").status == 200)

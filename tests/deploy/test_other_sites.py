@@ -201,7 +201,7 @@ class OtherSites(SiteCase):
             for name in ("index.html", "results.csv", "index.json", "con-C_1.html", "map.png",
                          "other.txt"):
                 (front.folder / "pages" / name).write_text("x", encoding="utf-8")
-            lasts = {"/progress": "max-age=1", "/station/s1": "max-age=1", "/con/c1": "max-age=1",
+            lasts = {"/progress": "max-age=1", "/station/s1": "no-store", "/con/c1": "max-age=1",
                      "/con/c1/tally": "max-age=1", "/": "max-age=5", "/country": "max-age=1",
                      "/index.html": "max-age=5", "/results.csv": "max-age=5",
                      "/index.json": "max-age=5", "/con-C_1.html": "max-age=5",

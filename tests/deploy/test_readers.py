@@ -107,9 +107,9 @@ class Readers(SiteCase):
 
     @needs("nginx", "openssl")
     def test_the_desk_is_asked_once_a_second_for_what_it_refuses(self):
-        """No certificate yet, a station without a return, an office that was shut: of forty readers
-        at once the desk hears one."""
-        refusals = {"/con/c1/seats": 409, "/station/s1": 404, "/progress": 503}
+        """No certificate yet, no such constituency, an office that was shut: of forty readers at
+        once the desk hears one."""
+        refusals = {"/con/c1/seats": 409, "/con/c1": 404, "/progress": 503}
         slow = {target: lambda status=status: time.sleep(0.2) or (status, "{}")
                 for target, status in refusals.items()}
         with answering_desk(slow) as (port, asked), proxy(port) as front:

@@ -120,13 +120,13 @@ class Recorder(SiteCase):
         recorder.sys = type("Sys", (), {"stdout": open("copy", "wb")})
         desk = type("Desk", (), {"lock": threading.Lock(),
                                  "ask": lambda _, *message: asked.append(message)
-                                 or (200, recorder.answer(200, b"OK", b"{}"))})()
+                                 or recorder.Answer(200, b"{}")})()
         one = recorder.Recorder(recorder.Record("commands.log", 0), desk, 1, recorder.Limit())
 
         def given(act, name="clara"):
             fields = {"office-name": name, "office-role": "clerk", "office-address": "192.0.2.1",
                       "office-allowed": "1"}
-            return int(one.answered("POST", f"/con/c1/{act}", fields, b"\1" * 1_000_000)[9:12])
+            return one.answered("POST", f"/con/c1/{act}", fields, b"\1" * 1_000_000).status
 
         self.assertEqual([given(act) for act in 3 * ["trial"] + 9 * ["import"] + ["trial"]],
                          [200] * 10 + [429] * 3)

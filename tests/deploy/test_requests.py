@@ -144,7 +144,7 @@ class Requests(SiteCase):
             known = ["/con/c1", "/con/C1", "/con/c1/tally", "/con/c1/stations", "/station/s1",
                      "/station/s3", "/progress", "/country"]
             for target in known:
-                front.ask("GET", target)
+                front.ask("GET", target, name="clara")
             self.assertEqual(asked, known)
             self.assertEqual((front.ask("GET", "/now/con/c2", name="clara").body,
                               front.ask("POST", "/con/c2/certify", {"edition": 1}, "berta").body),

@@ -15,6 +15,8 @@ GETS = ("/progress", "/country", "/station/s1", "/con/c1",
           for name in (
               "tally", "seats", "quotients", "awards", "quota", "short", "holders", "past",
               "stations", "returns")))
+# What slips say, for who may see it.
+OF_SLIPS = ("/station/s1", "/con/c1/stations", "/con/c1/returns")
 OF_CLERKS = ("/station/s1/query", "/station/s1/correct", "/station/s1/close", "/con/c1/import",
              "/con/c1/import/semicolon")
 TRIALS = ("/con/c1/trial", "/con/c1/trial/semicolon")
@@ -50,7 +52,8 @@ class Roles(SiteCase):
             stations = iter(range(1, 7))
 
             def kept(name):
-                before, number = front.ask("GET", f"/con/c1/{name}"), next(stations)
+                before = front.ask("GET", f"/con/c1/{name}", name="clara")
+                number = next(stations)
                 front.ask("GET", "/progress")
                 self.assertEqual(front.ask(
                     "POST", f"/station/s{number}/lodge",
@@ -58,8 +61,8 @@ class Roles(SiteCase):
                 until(lambda: front.ask("GET", "/progress").body.split()[3] == b"%d" % number)
                 self.assertNotEqual(front.ask("GET", f"/now/con/c1/{name}", name="clara").body,
                                     before.body)
-                self.assertEqual((front.ask("GET", f"/con/c1/{name}").body, before.status),
-                                 (before.body, 200))
+                again = front.ask("GET", f"/con/c1/{name}", name="clara")
+                self.assertEqual((again.body, before.status), (before.body, 200))
 
             for name in ("stations", "returns"):
                 with self.subTest(name=name):
@@ -90,6 +93,9 @@ class Roles(SiteCase):
                     for target in GETS:
                         with self.subTest(target=target):
                             found = front.ask("GET", target, **asks)
+                            if target in OF_SLIPS:
+                                self.assertIn(found.status, self.of_slips(name, target, statuses))
+                                continue
                             # Nothing is lodged or certified: the desk says so, to everybody alike.
                             word = b"no_return" if "station" in target else b"not_certified"
                             self.assertTrue(found.status == 200 or word in found.body, found)
@@ -100,8 +106,14 @@ class Roles(SiteCase):
             self.assertEqual(record, {("s1", 400): 1, ("s1", 403): 9, ("s2", 403): 10,
                                       ("clara", 400): 6, ("clara", 403): 4, ("berta", 400): 4,
                                       ("berta", 403): 6})
-            refused = collections.Counter(line["name"] for line in front.refused(72))
-            self.assertEqual(refused, {"": 12, "unknown": 12, "clara": 24, "berta": 12, "s1": 12})
+            refused = collections.Counter(line["name"] for line in front.refused(90))
+            self.assertEqual(refused, {"": 15, "unknown": 15, "clara": 30, "berta": 15, "s1": 15})
+
+    @staticmethod
+    def of_slips(name, target, statuses):
+        """The statuses of what a slip says: of no return, 404."""
+        sees = name in ("clara", "berta") or (name, target) == ("s1", "/station/s1")
+        return (401,) if statuses[0] == 401 else (200, 404) if sees else (403,)
 
     @needs("nginx", "openssl")
     def test_what_has_a_name_of_its_own(self):

@@ -266,7 +266,8 @@ class SecondEntry(SiteCase):
                     "s1                   300 received     1\n"
                     f"s2                   300 queried      2\n{rest}")
             target = "/now/con/c1/stations"
-            for name, text in (("clara", whole), ("berta", whole), ("sara", bare), ("s1", bare)):
+            self.assertEqual(front.ask("GET", target, name="s1").status, 403)
+            for name, text in (("clara", whole), ("berta", whole), ("sara", bare)):
                 with self.subTest(name=name, text=text):
                     for headers in ({}, {"Office-Role": "clerk", "Office-Allowed": "1"}):
                         with self.subTest(headers=headers):

@@ -31,6 +31,8 @@ SCRIPTS_MAY = ALL_MAY | {"SystemCallFilter=~@resources", "SystemCallFilter=~@pri
 MAY = {"office": ALL_MAY, "office-press": SCRIPTS_MAY | {"UMask="},
        "office-recorder": SCRIPTS_MAY
        | {"UMask=", "SupplementaryGroups=", "RestrictAddressFamilies=~AF_UNIX"},
+       "office-reader": SCRIPTS_MAY
+       | {"UMask=", "SupplementaryGroups=", "RestrictAddressFamilies=~AF_UNIX"},
        "office-backup": SCRIPTS_MAY | {"SupplementaryGroups=", "RestrictAddressFamilies=~AF_UNIX"}}
 
 
@@ -57,9 +59,16 @@ BOOTED = {
                                 "LogsDirectoryMode": "0750", "UMask": "0027",
                                 "LogRateLimitIntervalSec": "0", "OOMScoreAdjust": "-500",
                                 "SystemCallErrorNumber": "EPERM"},
+    "office-reader.service": {"WantedBy": "multi-user.target", "Restart": "always",
+                              "RestartSec": "100ms", "StartLimitIntervalSec": "0",
+                              "SupplementaryGroups": "www-data",
+                              "RuntimeDirectory": "office-reader", "UMask": "0027",
+                              "OOMScoreAdjust": "-500",
+                              "InaccessiblePaths": "-/var/log/office -/run/office-recorder",
+                              "SystemCallErrorNumber": "EPERM"},
     "office-press.service": {"WantedBy": "multi-user.target", "Restart": "always",
                              "RestartSec": "5", "StartLimitIntervalSec": "0",
-                             "After": "office.service office-recorder.service",
+                             "After": "office.service office-recorder.service office-reader.service",
                              "ReadWritePaths": "/var/www/office", "UMask": "0022",
                              "SystemCallErrorNumber": "EPERM"},
     "office-backup.service": {"Type": "oneshot", "SupplementaryGroups": "office-recorder",
@@ -156,7 +165,7 @@ class Services(SiteCase):
                 for file in ["/usr/local/share/doc/office/README.md",
                              *re.findall(r"/usr/local/\S+", " ".join(lines["ExecStart"]))]:
                     with self.subTest(file=file):
-                        self.assertIn(file, installed)
+                        self.assertTrue(file in installed or file.endswith("/setup.json"))
         for line in ("-m 700 -o office -g office /var/lib/office",
                      "-m 755 -o office-press -g office-press /var/www/office",
                      "-m 750 -o office-recorder -g office-recorder /var/log/office"):
@@ -184,28 +193,34 @@ class Services(SiteCase):
         """The very lines of the units, each with a folder of its own in the place of the system's,
         make an office behind the proxy: an act is recorded, on the pages, and in the copy."""
         port = free_port()
+        Path("setup.toml").write_text(SETUP, encoding="utf-8")
         with proxy(port) as front:
             front.end_recorder()
+            front.end_reader()
             (front.folder / "lib").mkdir()
             places = {"/usr/local/bin/office": PROGRAM, "/usr/local/lib/office/": f"{DEPLOY}/",
                       "/var/lib/office": front.folder / "lib",
                       "/var/log/office": front.folder / "log",
                       "/run/office-recorder": front.folder / "recorder",
                       "/var/www/office": front.folder / "pages", "/etc/office": Path.cwd(),
+                      "/usr/local/share/office": front.folder / "share",
+                      "/run/office-reader": front.folder / "reader", "8090": free_port(),
                       "/usr/bin/python3": sys.executable, "8080": port,
                       "www-data": grp.getgrgid(os.getgid()).gr_name}
             new(SETUP, front.folder / "lib/office.db")
             recorder = started("office-recorder.service", places)
-            with started("office.service", places) as office, recorder:
+            reader = started("office-reader.service", places)
+            with started("office.service", places) as office, recorder, reader:
                 self.assertTrue(office.stdout.readline().startswith("listening on "))
                 until(lambda: (front.folder / "recorder/head").exists())
                 self.assertEqual(front.ask("POST", "/station/s1/lodge", LODGED, "clara").status,
                                  200)
-                until(lambda: json.loads((front.folder / "recorder/head").read_text())["n"] == 2)
+                # The first line has the setup.
+                until(lambda: json.loads((front.folder / "recorder/head").read_text())["n"] == 3)
                 with started("office-press.service", places) as press:
                     self.assertIn(" pages 2 failed 0 ", press.stdout.readline())
                 self.assertEqual(json.loads((front.folder / "pages/manifest.json").read_text(
-                    encoding="utf-8"))["record"]["lines"], 2)
+                    encoding="utf-8"))["record"]["lines"], 3)
                 self.assertEqual(json.loads((front.folder / "pages/setup.json").read_text(
                     encoding="utf-8"))[0]["code"], "c1")
                 with started("office-backup.service", places) as copying:
@@ -251,7 +266,8 @@ class Services(SiteCase):
             places = {"8080": fresh.port, "-o office -g office ": "",
                       "-o office-recorder -g office-recorder ": "", "tar -C /": "tar -C new",
                       "/usr/local/lib/office/": f"{DEPLOY}/", "/var/lib/office": "lib",
-                      "/var/log/office": "log"}
+                      "/var/log/office": "log", "/etc/office/setup.toml": "setup.toml",
+                      "/usr/local/share/office": ".", "/etc/nginx/office": "."}
             its = {"PATH": f"{Path.cwd()}/bin:{os.environ['PATH']}",
                    "OFFICE": str(fresh.process.pid), "PROGRAM": str(PROGRAM),
                    "PORT": str(fresh.port)}

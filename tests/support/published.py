@@ -16,7 +16,7 @@ from pathlib import Path
 from tests.support.desks import answering_desk, recording_desk
 from tests.support.pages import REOPENED, TWIN, press, read
 from tests.support.proxy import with_a_second
-from tests.support.site import DEPLOY, ran, same
+from tests.support.site import DEPLOY, printed, same
 
 try:
     import jsonschema
@@ -258,5 +258,5 @@ def before_the_hour(front):
     """Starts the proxy again, an hour before results are public."""
     front.end()
     hour = datetime.now().astimezone() + timedelta(hours=1)
-    front.put("embargo.conf", ran(DEPLOY / "embargo", hour.isoformat(timespec="seconds")))
+    front.put("embargo.conf", printed(DEPLOY / "embargo", hour.isoformat(timespec="seconds")))
     front.start()
