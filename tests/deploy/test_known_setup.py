@@ -1,4 +1,5 @@
-"""Pages, commands, the record and its tools know of which setup they are: lists in another order are never taken for these."""
+"""Pages, commands, the record and its tools know their setup: lists in another order are never
+taken for these."""
 
 import json
 import subprocess
@@ -14,8 +15,12 @@ from tests.support.scripts import loaded
 from tests.support.site import DEPLOY, SiteCase, plain, serving
 
 OTHER_ORDER = (
-    PROFILE + constituency("c1", "Twin Town", 3, "d0") + party_list("B", "Beta", "Bea")
-    + party_list("A", "Alpha", "Ana", "Abel") + station("s1") + station("s2")
+    PROFILE
+    + constituency("c1", "Twin Town", 3, "d0")
+    + party_list("B", "Beta", "Bea")
+    + party_list("A", "Alpha", "Ana", "Abel")
+    + station("s1")
+    + station("s2")
 )
 
 
@@ -26,14 +31,17 @@ def setup_json(text, folder="."):
 
 
 def replay(record, *words):
-    done = subprocess.run([DEPLOY / "replay", *words], input=record, capture_output=True, text=False, timeout=60)
+    done = subprocess.run(
+        [DEPLOY / "replay", *words], input=record, capture_output=True, text=False, timeout=60
+    )
     return done.returncode, done.stdout.decode(), done.stderr.decode()
 
 
 class Proxy(Safeguards):
     @needs("nginx", "openssl")
     def test_a_page_that_has_another_setup(self):
-        """Its commands are answered 409, and neither recorded nor done; a program that says nothing of it is served."""
+        """Its commands are answered 409, and neither recorded nor done; a program that says nothing
+        of it is served."""
         Path("setup.toml").write_text(with_stations(2), encoding="utf-8")
         with recording_desk() as (port, messages), site(port) as front:
             known = hash_of_file(front.folder / "share/setup.json")
@@ -41,16 +49,24 @@ class Proxy(Safeguards):
             for said, wanted in rows.items():
                 with self.subTest(said=said):
                     before = len(messages)
-                    found = front.ask("POST", "/station/s1/lodge", LODGED, "clara", {"Office-Setup": said})
-                    self.assertEqual((found.status, len(messages) - before), (wanted, int(wanted == 200)))
+                    found = front.ask(
+                        "POST", "/station/s1/lodge", LODGED, "clara", {"Office-Setup": said}
+                    )
+                    self.assertEqual(
+                        (found.status, len(messages) - before), (wanted, int(wanted == 200))
+                    )
             self.assertEqual(front.ask("POST", "/station/s1/lodge", LODGED, "clara").status, 200)
             # A trial says what an import would come to, and is of the same lists.
-            self.assertEqual(front.ask("POST", "/con/c1/trial", "x", "clara", {"Office-Setup": "x"}).status, 409)
+            self.assertEqual(
+                front.ask("POST", "/con/c1/trial", "x", "clara", {"Office-Setup": "x"}).status, 409
+            )
             record = front.record(3)
             self.assertEqual(len(record), 3)
             with open(front.folder / "log/commands.log", encoding="utf-8") as lines:
                 first = json.loads(next(lines))
-            self.assertEqual(first | {"time": ""}, {"n": 1, "time": "", "setup": known, "before": "0" * 64})
+            self.assertEqual(
+                first | {"time": ""}, {"n": 1, "time": "", "setup": known, "before": "0" * 64}
+            )
 
     def test_the_page_sends_the_hash_of_what_it_has(self):
         text = (DEPLOY / "www/clerk.html").read_text(encoding="utf-8")
@@ -65,11 +81,15 @@ class Record(Safeguards):
         recorder.sys = type("Sys", (), {"stdout": open("copy", "wb"), "stderr": sys.stderr})
         setup_json(with_stations(2), "one")
         setup_json(OTHER_ORDER, "other")
-        one, other = (recorder.read_setup(Path(folder, "setup.json")) for folder in ("one", "other"))
+        one, other = (
+            recorder.read_setup(Path(folder, "setup.json")) for folder in ("one", "other")
+        )
         self.assertEqual((one.hash, one.stations), (hash_of_file("one/setup.json"), {"s1", "s2"}))
         self.assertNotEqual(one.hash, other.hash)
         # Nothing is written before there is a command.
-        self.assertEqual((recorder.Record("log", 0, one).number, Path("log").read_bytes()), (0, b""))
+        self.assertEqual(
+            (recorder.Record("log", 0, one).number, Path("log").read_bytes()), (0, b"")
+        )
         self.assertEqual(recorder.Record("log", 0, one).add({"name": "clara"}), 2)
         self.assertEqual(json.loads(Path("log").read_text().splitlines()[0])["setup"], one.hash)
         self.assertEqual(recorder.Record("log", 0, one).add({"name": "clara"}), 3)
@@ -85,8 +105,14 @@ class Record(Safeguards):
     def test_the_index_has_the_stations_of_the_setup_alone(self):
         recorder = loaded("recorder.py")
         rows = "".join(f"x{n},p,0,0,1,2\n" for n in range(5000))
-        command = {"path": "/con/c1/import", "method": "POST", "body": f"station\ns1,p,0,0,1,2\n{rows}"}
-        lines = chained(command, {"to": 1, "status": 200, "answer": '{"lodged":1}'}).splitlines(keepends=True)
+        command = {
+            "path": "/con/c1/import",
+            "method": "POST",
+            "body": f"station\ns1,p,0,0,1,2\n{rows}",
+        }
+        lines = chained(command, {"to": 1, "status": 200, "answer": '{"lodged":1}'}).splitlines(
+            keepends=True
+        )
         for known, wanted in ((frozenset({"s1", "s2"}), 1), (None, 5002)):
             with self.subTest(known=known):
                 index = recorder.Index(known)
@@ -97,8 +123,15 @@ class Record(Safeguards):
 
 class Replay(SiteCase):
     def record(self, folder):
-        lodge = {"name": "clara", "role": "clerk", "address": "127.0.0.1", "office": 1, "method": "POST",
-                 "path": "/station/s1/lodge", "body": json.dumps(LODGED)}
+        lodge = {
+            "name": "clara",
+            "role": "clerk",
+            "address": "127.0.0.1",
+            "office": 1,
+            "method": "POST",
+            "path": "/station/s1/lodge",
+            "body": json.dumps(LODGED),
+        }
         answer = {"to": 2, "status": 200, "answer": '{"ok":"lodged","rev":1}'}
         return chained({"setup": hash_of_file(f"{folder}/setup.json")}, lodge, answer)
 
@@ -108,11 +141,18 @@ class Replay(SiteCase):
         record = self.record("one")
         mine = {"/con/c1/returns": "station,slip,blank,spoiled,A,B\n", "/station/s1/lodge": "{}"}
         others = mine | {"/con/c1/returns": "station,slip,blank,spoiled,B,A\n"}
-        rows = ((mine, ("--setup", "one/setup.json"), 0, ""),
-                (others, ("--setup", "one/setup.json"), 2, "no office has the constituency c1 with these lists"),
-                (others, ("--setup", "other/setup.json"), 2, "the record is of another setup"),
-                (mine, (), 2, "name its setup.json"),
-                (mine, ("--setup", "nonesuch.json"), 2, "nonesuch.json"))
+        rows = (
+            (mine, ("--setup", "one/setup.json"), 0, ""),
+            (
+                others,
+                ("--setup", "one/setup.json"),
+                2,
+                "no office has the constituency c1 with these lists",
+            ),
+            (others, ("--setup", "other/setup.json"), 2, "the record is of another setup"),
+            (mine, (), 2, "name its setup.json"),
+            (mine, ("--setup", "nonesuch.json"), 2, "nonesuch.json"),
+        )
         for answers, words, wanted, why in rows:
             with self.subTest(words=words, why=why), answering_desk(answers) as (port, asked):
                 status, _, said = replay(record, f"http://127.0.0.1:{port}", *words)
@@ -138,7 +178,9 @@ class Replay(SiteCase):
             with serving(OTHER_ORDER, "other.db") as other:
                 before = plain(other.port, "GET", "/con/c1/returns").body
                 status, _, said = replay(record, f"http://127.0.0.1:{other.port}", "--setup", setup)
-                self.assertEqual((status, plain(other.port, "GET", "/con/c1/returns").body), (2, before))
+                self.assertEqual(
+                    (status, plain(other.port, "GET", "/con/c1/returns").body), (2, before)
+                )
             with serving(with_stations(2), "again.db") as again:
                 status, said, _ = replay(record, f"http://127.0.0.1:{again.port}", "--setup", setup)
                 self.assertEqual((status, said.split(";")[0]), (0, "sent 1, to look at 0"))

@@ -1,4 +1,5 @@
-"""Who reaches the office on its computer, by nftables and the units; the proxy as a service; its ciphers."""
+"""Who reaches the office on its computer, by nftables and the units; the proxy as a service; its
+ciphers."""
 
 import ctypes
 import os
@@ -16,7 +17,14 @@ from tests.support.site import DEPLOY
 
 README = (DEPLOY / "README.md").read_text(encoding="utf-8")
 # The users of the steps, under numbers that no machine needs to know.
-USERS = {"root": 0, "www-data": 64001, "office": 64002, "office-recorder": 64003, "office-press": 64004, "nobody": 65534}
+USERS = {
+    "root": 0,
+    "www-data": 64001,
+    "office": 64002,
+    "office-recorder": 64003,
+    "office-press": 64004,
+    "nobody": 65534,
+}
 NEW_NETWORK = 0x40000000
 # The unit of Debian 12, which the drop-in goes with.
 DEBIAN = """[Unit]
@@ -55,7 +63,9 @@ def reaches(port, user):
 
 class Ports(Safeguards):
     def test_the_rules_of_the_steps(self):
-        found = dict(re.findall(r"tcp dport (\d+) meta skuid != \{ ([^}]*) \} reject", "\n".join(rules())))
+        found = dict(
+            re.findall(r"tcp dport (\d+) meta skuid != \{ ([^}]*) \} reject", "\n".join(rules()))
+        )
         self.assertEqual(found, {"8080": "root, office-recorder", "8090": "root, office-press"})
 
     @needs("nft", "ip")
@@ -83,34 +93,50 @@ class Ports(Safeguards):
         for name, number in sorted(USERS.items(), key=lambda one: -len(one[0])):
             text = re.sub(rf"(?<=[{{,] ){name}(?=[ ,])", str(number), text)
         subprocess.run(["ip", "link", "set", "lo", "up"], check=True, timeout=PATIENCE)
-        done = subprocess.run(["nft", "-f", "-"], input=text, text=True, capture_output=True, timeout=PATIENCE)
+        done = subprocess.run(
+            ["nft", "-f", "-"], input=text, text=True, capture_output=True, timeout=PATIENCE
+        )
         if done.returncode:
             print(done.stderr, file=sys.stderr)
             return 77 if "Operation not" in done.stderr or "not supported" in done.stderr else 1
         # (a user who may not read Python's own files has loaded what it needs)
         "127.0.0.1".encode("idna")
         listeners = [socket.create_server(("127.0.0.1", port), backlog=64) for port in (8080, 8090)]
-        found = {name: tuple(reaches(port, number) for port in (8080, 8090)) for name, number in USERS.items()}
+        found = {
+            name: tuple(reaches(port, number) for port in (8080, 8090))
+            for name, number in USERS.items()
+        }
         wanted = dict.fromkeys(USERS, (False, False)) | {
-            "root": (True, True), "office-recorder": (True, False), "office-press": (False, True)}
+            "root": (True, True),
+            "office-recorder": (True, False),
+            "office-press": (False, True),
+        }
         print(found, file=sys.stderr) if found != wanted else None
         for listener in listeners:
             listener.close()
         return int(found != wanted)
 
     def test_what_the_units_and_the_proxy_ask(self):
-        """Only the reader and the recorder, as one user, ask the office; the proxy asks their sockets, and the pages the reader."""
+        """Only the reader and the recorder, as one user, ask the office; the proxy asks their
+        sockets, and the pages the reader."""
         askers = {}
         for unit in DEPLOY.glob("*.service"):
             text = unit.read_text(encoding="utf-8")
             if re.search("^ExecStart=.*127.0.0.1:8080", text, re.M):
                 askers[unit.stem] = re.search("^User=(.*)$", text, re.M)[1]
-        self.assertEqual(askers, {"office-recorder": "office-recorder", "office-reader": "office-recorder"})
+        self.assertEqual(
+            askers, {"office-recorder": "office-recorder", "office-reader": "office-recorder"}
+        )
         press = (DEPLOY / "office-press.service").read_text(encoding="utf-8")
         self.assertIn(" http://127.0.0.1:8090 ", press)
-        proxy = "".join(file.read_text(encoding="utf-8") for file in (DEPLOY / "nginx.conf", *DEPLOY.glob("nginx/*.conf")))
-        self.assertEqual(set(re.findall(r"^\s*server ([^{;]+);", proxy, re.M)),
-                         {"unix:/run/office-reader/1.sock", "unix:/run/office-recorder/1.sock"})
+        proxy = "".join(
+            file.read_text(encoding="utf-8")
+            for file in (DEPLOY / "nginx.conf", *DEPLOY.glob("nginx/*.conf"))
+        )
+        self.assertEqual(
+            set(re.findall(r"^\s*server ([^{;]+);", proxy, re.M)),
+            {"unix:/run/office-reader/1.sock", "unix:/run/office-recorder/1.sock"},
+        )
         for name in ("split", "nginx.conf"):
             self.assertNotIn("server 127.0.0.1", (DEPLOY / name).read_text(encoding="utf-8"))
 
@@ -123,15 +149,35 @@ class Service(Safeguards):
         Path("bare.service").write_text(DEBIAN, encoding="utf-8")
 
         def exposure(unit):
-            done = subprocess.run(["systemd-analyze", "security", "--offline=yes", "--no-pager", "--threshold=100", unit],
-                                  capture_output=True, text=True, timeout=PATIENCE)
-            return float(re.search(r"exposure level for \S+ (\d+\.\d+)", done.stdout.replace("\n", " ").replace(":", ""))[1])
+            done = subprocess.run(
+                [
+                    "systemd-analyze",
+                    "security",
+                    "--offline=yes",
+                    "--no-pager",
+                    "--threshold=100",
+                    unit,
+                ],
+                capture_output=True,
+                text=True,
+                timeout=PATIENCE,
+            )
+            return float(
+                re.search(
+                    r"exposure level for \S+ (\d+\.\d+)",
+                    done.stdout.replace("\n", " ").replace(":", ""),
+                )[1]
+            )
 
         self.assertGreater(exposure("./bare.service"), 9)
         self.assertLess(exposure("./nginx.service"), 3)
         for line in ("Restart=always", "OOMScoreAdjust=-500", "StartLimitIntervalSec=0"):
             self.assertIn(f"\n{line}\n", drop_in)
-        self.assertIn("    install -m 644 deploy/nginx-office.conf /etc/systemd/system/nginx.service.d/office.conf\n", README)
+        self.assertIn(
+            "    install -m 644 deploy/nginx-office.conf "
+            "/etc/systemd/system/nginx.service.d/office.conf\n",
+            README,
+        )
 
     @needs("nginx", "openssl")
     def test_forward_secrecy_whatever_the_certificate(self):
@@ -139,19 +185,58 @@ class Service(Safeguards):
         with recording_desk() as (port, _), site(port) as front:
             front.process.terminate()
             front.process.wait(timeout=PATIENCE)
-            subprocess.run(["openssl", "req", "-x509", "-newkey", "rsa:2048", "-nodes", "-days", "2", "-subj", "/CN=office.example",
-                            "-keyout", front.folder / "office/key.pem", "-out", front.folder / "office/certificate.pem"],
-                           check=True, capture_output=True, timeout=PATIENCE)
+            subprocess.run(
+                [
+                    "openssl",
+                    "req",
+                    "-x509",
+                    "-newkey",
+                    "rsa:2048",
+                    "-nodes",
+                    "-days",
+                    "2",
+                    "-subj",
+                    "/CN=office.example",
+                    "-keyout",
+                    front.folder / "office/key.pem",
+                    "-out",
+                    front.folder / "office/certificate.pem",
+                ],
+                check=True,
+                capture_output=True,
+                timeout=PATIENCE,
+            )
             front.end()
             front.start()
 
             def accepted(cipher):
-                done = subprocess.run(["openssl", "s_client", "-connect", f"127.0.0.1:{front.port}", "-servername", "office.example", "-tls1_2",
-                                       "-cipher", cipher], input="", capture_output=True, text=True, timeout=PATIENCE)
+                done = subprocess.run(
+                    [
+                        "openssl",
+                        "s_client",
+                        "-connect",
+                        f"127.0.0.1:{front.port}",
+                        "-servername",
+                        "office.example",
+                        "-tls1_2",
+                        "-cipher",
+                        cipher,
+                    ],
+                    input="",
+                    capture_output=True,
+                    text=True,
+                    timeout=PATIENCE,
+                )
                 return bool(re.search("Cipher is (?!\\(NONE\\))", done.stdout))
 
-            rows = {"ECDHE-RSA-AES128-GCM-SHA256": True, "ECDHE-RSA-CHACHA20-POLY1305": True, "AES128-SHA": False, "AES256-SHA256": False,
-                    "AES128-GCM-SHA256": False, "ECDHE-RSA-AES128-SHA": False}
+            rows = {
+                "ECDHE-RSA-AES128-GCM-SHA256": True,
+                "ECDHE-RSA-CHACHA20-POLY1305": True,
+                "AES128-SHA": False,
+                "AES256-SHA256": False,
+                "AES128-GCM-SHA256": False,
+                "ECDHE-RSA-AES128-SHA": False,
+            }
             for cipher, wanted in rows.items():
                 with self.subTest(cipher=cipher):
                     self.assertEqual(accepted(cipher), wanted)

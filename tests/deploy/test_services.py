@@ -68,7 +68,8 @@ BOOTED = {
                               "SystemCallErrorNumber": "EPERM"},
     "office-press.service": {"WantedBy": "multi-user.target", "Restart": "always",
                              "RestartSec": "5", "StartLimitIntervalSec": "0",
-                             "After": "office.service office-recorder.service office-reader.service",
+                             "After":
+                                 "office.service office-recorder.service office-reader.service",
                              "ReadWritePaths": "/var/www/office", "UMask": "0022",
                              "SystemCallErrorNumber": "EPERM"},
     "office-backup.service": {"Type": "oneshot", "SupplementaryGroups": "office-recorder",

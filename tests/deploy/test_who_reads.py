@@ -1,4 +1,5 @@
-"""Who may read what the office has, and how little of the office's time that takes: the reader, the routes, the hour."""
+"""Who may read what the office has, and how little of its time that takes: the reader, the routes,
+the hour."""
 
 import http.client
 import socket
@@ -11,14 +12,26 @@ from tests.support.desks import answer_of, desk_with, recording_desk
 from tests.support.office import with_stations
 from tests.support.running import PATIENCE, free_port, until
 from tests.support.safeguards import (
-    SLIP, TWO_TOWNS, Safeguards, office_and_site, post, site, started,
+    SLIP,
+    TWO_TOWNS,
+    Safeguards,
+    office_and_site,
+    post,
+    site,
+    started,
 )
 from tests.support.scripts import loaded
 from tests.support.site import SiteCase
 
 # Every way to what a slip says.
-OF_SLIPS = ("/station/s1", "/con/c1/stations", "/con/c1/returns",
-            "/now/station/s1", "/now/con/c1/stations", "/now/con/c1/returns")
+OF_SLIPS = (
+    "/station/s1",
+    "/con/c1/stations",
+    "/con/c1/returns",
+    "/now/station/s1",
+    "/now/con/c1/stations",
+    "/now/con/c1/returns",
+)
 TABLE = b"STATIONS c1 Twin\nstations 1\ns1         300 received     1 p1      191       2       1\n"
 
 
@@ -41,14 +54,22 @@ def asked(address, method, path, headers=None):
 class Slips(SiteCase):
     @needs("nginx", "openssl")
     def test_who_sees_what_a_slip_says(self):
-        """Clerks, the board and the station itself: no other station, no second, and nobody without a name."""
+        """Clerks, the board and the station itself: no other station, no second, and nobody without
+        a name."""
         with office_and_site(TWO_TOWNS, stations=("s1", "s2")) as (desk, front):
             self.assertEqual(post(desk, "/station/s1/lodge", SLIP), 200)
             for target in OF_SLIPS:
                 own = 200 if target.endswith("/s1") else 403
                 short = 200 if target == "/now/con/c1/stations" else 403
-                statuses = {"clara": 200, "berta": 200, "s1": own, "s2": 403, "sara": short,
-                            None: 401, "unknown": 401}
+                statuses = {
+                    "clara": 200,
+                    "berta": 200,
+                    "s1": own,
+                    "s2": 403,
+                    "sara": short,
+                    None: 401,
+                    "unknown": 401,
+                }
                 for name, wanted in statuses.items():
                     with self.subTest(target=target, name=name):
                         found = front.ask("GET", target, name=name)
@@ -57,11 +78,18 @@ class Slips(SiteCase):
                             self.assertNotIn(b"p1", found.body)
                             self.assertNotIn(b"120", found.body)
                 with self.subTest(target=target, name="clara with a wrong password"):
-                    self.assertEqual(front.ask("GET", target, name="clara", password="x").status, 401)
+                    self.assertEqual(
+                        front.ask("GET", target, name="clara", password="x").status, 401
+                    )
             # Of what is kept for a clerk a second gets nothing.
             for _ in range(2):
-                self.assertEqual([front.ask("GET", "/con/c1/returns", name=name).status
-                                  for name in ("clara", "sara")], [200, 403])
+                self.assertEqual(
+                    [
+                        front.ask("GET", "/con/c1/returns", name=name).status
+                        for name in ("clara", "sara")
+                    ],
+                    [200, 403],
+                )
 
     @needs("nginx", "openssl")
     def test_what_a_client_says_of_itself_is_nothing(self):
@@ -77,25 +105,44 @@ class Slips(SiteCase):
     def test_a_station_before_the_hour(self):
         """It sees its own return and the setup; the staff see all, and strangers nothing."""
         Path("setup.toml").write_text(with_stations(2), encoding="utf-8")
-        with recording_desk(b"{}") as (port, _), site(port, embargo="2100-01-01T00:00:00+00:00") as front:
+        with recording_desk(b"{}") as (port, _), site(
+            port, embargo="2100-01-01T00:00:00+00:00"
+        ) as front:
             (front.folder / "pages/index.html").write_text("a page", encoding="utf-8")
-            rows = {"/": (404, 200, 403), "/index.html": (404, 200, 403), "/progress": (403, 200, 403),
-                    "/country": (403, 200, 403), "/con/c1": (403, 200, 403),
-                    "/con/c1/tally": (403, 200, 403), "/now/con/c1": (403, 200, 401),
-                    "/now/progress": (403, 200, 401), "/now/country": (403, 200, 401),
-                    "/station/s1": (200, 200, 401), "/now/station/s1": (200, 200, 401),
-                    "/station/s2": (403, 200, 401), "/con/c1/returns": (403, 200, 401),
-                    "/setup.json": (200, 200, 403), "/clerk.html": (200, 200, 401)}
+            rows = {
+                "/": (404, 200, 403),
+                "/index.html": (404, 200, 403),
+                "/progress": (403, 200, 403),
+                "/country": (403, 200, 403),
+                "/con/c1": (403, 200, 403),
+                "/con/c1/tally": (403, 200, 403),
+                "/now/con/c1": (403, 200, 401),
+                "/now/progress": (403, 200, 401),
+                "/now/country": (403, 200, 401),
+                "/station/s1": (200, 200, 401),
+                "/now/station/s1": (200, 200, 401),
+                "/station/s2": (403, 200, 401),
+                "/con/c1/returns": (403, 200, 401),
+                "/setup.json": (200, 200, 403),
+                "/clerk.html": (200, 200, 401),
+            }
             for target, wanted in rows.items():
                 with self.subTest(target=target):
                     # The clerk's answer is kept, and no station gets it.
-                    found = [front.ask("GET", target, name=name).status for name in ("clara", "s1", None)]
+                    found = [
+                        front.ask("GET", target, name=name).status for name in ("clara", "s1", None)
+                    ]
                     self.assertEqual((found[1], found[0], found[2]), wanted)
             # A name that nobody has is answered as one of the staff with a wrong password.
             for name in ("clara", "s1", "nobody-9"):
                 with self.subTest(name=name):
-                    self.assertEqual([front.ask("GET", target, name=name, password="x").status
-                                      for target in rows], [401] * len(rows))
+                    self.assertEqual(
+                        [
+                            front.ask("GET", target, name=name, password="x").status
+                            for target in rows
+                        ],
+                        [401] * len(rows),
+                    )
 
     @needs("nginx", "openssl")
     def test_a_station_after_the_hour(self):
@@ -114,8 +161,10 @@ class Slips(SiteCase):
                     found = front.ask("GET", target, name="s1", source=f"127.9.{number}.1")
                     self.assertEqual(found.status, 403)
             self.assertEqual(messages, [])
-            found = [front.ask("GET", "/now/con/c1/stations", name="clara", source=f"127.9.{n}.1").status
-                     for n in range(40)]
+            found = [
+                front.ask("GET", "/now/con/c1/stations", name="clara", source=f"127.9.{n}.1").status
+                for n in range(40)
+            ]
             self.assertEqual(found[:20], [200] * 20)
             self.assertIn(429, found[20:])
             # Another name is not held up by that.
@@ -127,7 +176,8 @@ class Reader(Safeguards):
         """Whatever else is sent, the desk hears nothing of it; and of a GET the target alone."""
         port = free_port()
         with recording_desk(b"a table") as (desk, messages), started(
-                "reader.py", "reader", "--desk", f"127.0.0.1:{desk}", "--read", f"127.0.0.1:{port}"):
+            "reader.py", "reader", "--desk", f"127.0.0.1:{desk}", "--read", f"127.0.0.1:{port}"
+        ):
             until(lambda: port_listens(port))
             for address in ("reader/1.sock", port):
                 for method in ("POST", "PUT", "DELETE", "PATCH", "OPTIONS", "HEAD"):
@@ -138,13 +188,17 @@ class Reader(Safeguards):
                 self.assertEqual(asked(address, "GET", "/progress", headers), (200, b"a table"))
                 [(head, body)] = messages
                 lines = [line.lower() for line in head.split(b"\r\n")]
-                self.assertEqual((lines, body), (
-                    [b"get /progress http/1.1", b"host: office", b"connection: close"], b""))
+                self.assertEqual(
+                    (lines, body),
+                    ([b"get /progress http/1.1", b"host: office", b"connection: close"], b""),
+                )
                 messages.clear()
             # What a socket says in the middle of a head is no second request.
             with socket.create_connection(("127.0.0.1", port), timeout=PATIENCE) as it:
-                it.sendall(b"GET /progress HTTP/1.1\r\nContent-Length: 50\r\n\r\n"
-                           + b"POST /station/s1/lodge HTTP/1.1\r\nHost: x\r\n\r\n".ljust(50))
+                it.sendall(
+                    b"GET /progress HTTP/1.1\r\nContent-Length: 50\r\n\r\n"
+                    + b"POST /station/s1/lodge HTTP/1.1\r\nHost: x\r\n\r\n".ljust(50)
+                )
                 while it.recv(65536):
                     pass
             self.assertEqual([head.split(b" ")[0] for head, _ in messages], [b"GET"])
@@ -168,8 +222,12 @@ class Reader(Safeguards):
 
         def at_once(path, times):
             found, most[0] = [], 0
-            threads = [threading.Thread(target=lambda: found.append(one.answered("GET", path, {}, b"").status))
-                       for _ in range(times)]
+            threads = [
+                threading.Thread(
+                    target=lambda: found.append(one.answered("GET", path, {}, b"").status)
+                )
+                for _ in range(times)
+            ]
             for thread in threads:
                 thread.start()
             for thread in threads:
@@ -190,10 +248,14 @@ class Reader(Safeguards):
         with started("reader.py", "reader", "--desk", f"127.0.0.1:{desk}"):
             until(lambda: Path("reader/1.sock").exists())
             began = time.monotonic()
-            self.assertEqual(asked("reader/1.sock", "GET", "/progress", {"Office-Wait": "no"})[0], 502)
+            self.assertEqual(
+                asked("reader/1.sock", "GET", "/progress", {"Office-Wait": "no"})[0], 502
+            )
             self.assertLess(time.monotonic() - began, 2)
             found = []
-            waiting = threading.Thread(target=lambda: found.append(asked("reader/1.sock", "GET", "/progress")))
+            waiting = threading.Thread(
+                target=lambda: found.append(asked("reader/1.sock", "GET", "/progress"))
+            )
             waiting.start()
             time.sleep(0.5)
             with desk_with(lambda *_: answer_of("{}"), desk):
@@ -202,8 +264,10 @@ class Reader(Safeguards):
 
     def test_a_second_sees_revisions_alone(self):
         reader = loaded("reader.py")
-        self.assertEqual(reader.without_slips(TABLE),
-                         b"STATIONS c1 Twin\nstations 1\ns1         300 received     1\n")
+        self.assertEqual(
+            reader.without_slips(TABLE),
+            b"STATIONS c1 Twin\nstations 1\ns1         300 received     1\n",
+        )
 
 
 def port_listens(port):

@@ -1,4 +1,5 @@
-"""The hour from which results are public, the names of a setup, and what tools leave where they fail."""
+"""The hour from which results are public, the names of a setup, and what tools leave where they
+fail."""
 
 import os
 import re
@@ -28,17 +29,25 @@ class Embargo(Safeguards):
         self.assertEqual(os.listdir(), ["embargo.conf"])
 
     def test_until_when_nothing_is_public(self):
-        hour = datetime.now().astimezone().replace(microsecond=0) + timedelta(hours=3, minutes=12, seconds=30)
+        hour = datetime.now().astimezone().replace(microsecond=0) + timedelta(
+            hours=3, minutes=12, seconds=30
+        )
         printed, said = run("embargo", hour.isoformat())
         self.assertEqual(said, f"nothing is public until {hour.isoformat()}, in 0 d 3 h 12 min\n")
         self.assertIn('" office;', printed)
         self.assertEqual(run("embargo", hour.isoformat(), "embargo.conf")[0], "")
-        self.assertEqual((Path("embargo.conf").read_text(), os.stat("embargo.conf").st_mode & 0o777), (printed, 0o644))
+        self.assertEqual(
+            (Path("embargo.conf").read_text(), os.stat("embargo.conf").st_mode & 0o777),
+            (printed, 0o644),
+        )
 
     def test_at_once_is_said(self):
         past = "2020-11-29T20:00:00+01:00"
         now, said = run("embargo", "now")
-        self.assertEqual((now, said), ((DEPLOY / "nginx/embargo.conf").read_text(), "everything is public at once\n"))
+        self.assertEqual(
+            (now, said),
+            ((DEPLOY / "nginx/embargo.conf").read_text(), "everything is public at once\n"),
+        )
         self.assertEqual(run("embargo", past, "--past")[1], "everything is public at once\n")
 
 
@@ -53,7 +62,10 @@ class Names(Safeguards):
             ("Alpha", "Beta"): [],
             ("Ałpha", "Beta", "Ñandú"): [],
             ("שלום", "Beta"): [],
-            ("Alpha", "Alph\u0430"): ["has letters of two alphabets in Alph\\u0430", "Alpha and Alph\\u0430 look alike"],
+            ("Alpha", "Alph\u0430"): [
+                "has letters of two alphabets in Alph\\u0430",
+                "Alpha and Alph\\u0430 look alike",
+            ],
             ("Alpha\u202e", "Beta"): ["has U+202E, which no reader sees"],
             ("Al\u200bpha", "Alpha"): ["has U+200B, which no reader sees", "look alike"],
             ("Unión", "UNION"): ["look alike"],
@@ -61,8 +73,12 @@ class Names(Safeguards):
         }
         for names, wanted in rows.items():
             with self.subTest(names=names):
-                lists = [{"code": str(n), "name": name, "candidates": []} for n, name in enumerate(names)]
-                found = odd_names.warnings([{"code": "c1", "name": "Town", "lists": lists, "stations": []}])
+                lists = [
+                    {"code": str(n), "name": name, "candidates": []} for n, name in enumerate(names)
+                ]
+                found = odd_names.warnings(
+                    [{"code": "c1", "name": "Town", "lists": lists, "stations": []}]
+                )
                 self.assertEqual(len(found), len(wanted))
                 for said, words in zip(found, wanted):
                     self.assertIn(words, said)
@@ -77,8 +93,16 @@ class Names(Safeguards):
         self.assertEqual(run("setup-json", "plain.toml", ".")[1], "")
 
     def test_a_station_called_as_one_of_the_staff(self):
-        Path("staff.conf").write_text("# nobody s9;\nClara clerk;\nsara second;\n", encoding="utf-8")
-        for code, refused in (("clara", True), ("SARA", True), ("logout", True), ("s9", False), ("s1", False)):
+        Path("staff.conf").write_text(
+            "# nobody s9;\nClara clerk;\nsara second;\n", encoding="utf-8"
+        )
+        for code, refused in (
+            ("clara", True),
+            ("SARA", True),
+            ("logout", True),
+            ("s9", False),
+            ("s1", False),
+        ):
             with self.subTest(code=code):
                 text = PROFILE + constituency("c1", "Twin Town", 3, "d0") + LISTS + station(code)
                 Path("setup.toml").write_text(text, encoding="utf-8")
@@ -91,7 +115,9 @@ class Names(Safeguards):
         Path("setup.toml").write_text(with_stations(1), encoding="utf-8")
         self.assertEqual(run("setup-json", "setup.toml", ".", "codes.conf"), ("", ""))
         text = Path("codes.conf").read_text()
-        self.assertEqual(re.findall("^    ([0-9a-f]{64}) 0;$", text, re.M), [hash_of_file("setup.json")])
+        self.assertEqual(
+            re.findall("^    ([0-9a-f]{64}) 0;$", text, re.M), [hash_of_file("setup.json")]
+        )
         # A setup that cannot be read leaves what was there.
         Path("setup.toml").write_text("[" * 100_000, encoding="utf-8")
         said = run("setup-json", "setup.toml", ".", "codes.conf", status=1)[1]
