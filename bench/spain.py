@@ -1,5 +1,5 @@
 #!/usr/bin/env python3
-"""Holds an election of the size of Spain's Congress of Deputies, and prints the time of each part.
+"""Runs an election as large as that of Spain's Congress of Deputies, and prints the time of each part.
 
     bench/spain.py
     bench/spain.py --stations 5000 --program crates/tally_office/out/tally_office

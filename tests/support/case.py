@@ -63,7 +63,7 @@ class Cut:
 
 
 def too_long(*_):
-    """Ends the suite: a table's row would take an assertion for its own, and the next would begin."""
+    """Ends the suite: `subTest` would catch an assertion, and go on with the next row."""
     raise KeyboardInterrupt("a test takes more than two hours")
 
 
@@ -77,7 +77,7 @@ class Case(unittest.TestCase):
     maxDiff = None
     of_the_program = False
     prefix = "office-test-"
-    # Whether a folder that cannot be removed is left behind, as one that a browser still writes in.
+    # Whether a folder may stay that cannot be removed, as one that a browser still writes in.
     may_leave_files = False
 
     @classmethod
