@@ -207,7 +207,7 @@ def score(chosen, folder):
     """Tries these mutations, and prints each: how many survive."""
     @cache
     def good(module):
-        # It is asked while a mutation is in place, so it runs in a clean copy.
+        # It is asked during a mutation: without one it is tried in a copy of its own.
         with tempfile.TemporaryDirectory() as clean:
             copied(Path(clean))
             found = passes(module, clean)

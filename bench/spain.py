@@ -1,5 +1,5 @@
 #!/usr/bin/env python3
-"""Holds an election of the size of Spain's Congress of Deputies, and prints the time of each part.
+"""Runs an election as large as that of Spain's Congress of Deputies, and prints its times.
 
     bench/spain.py
     bench/spain.py --stations 5000 --program crates/tally_office/out/tally_office
@@ -7,7 +7,7 @@
 52 constituencies have 350 seats, 15 lists each and 60,000 stations, of which Madrid has 8,200. An
 office is made, takes the returns over HTTP, closes them, certifies, publishes its pages and files,
 and is counted again from its database and from the published returns. A time is that of the clock.
-The second number is the office's seconds on a processor. With fewer stations all shrink alike.
+Beside it are the seconds of the office on a processor. With fewer stations all shrink alike.
 The exit status is 1 if the office refuses something, or a recount differs.
 """
 

@@ -86,7 +86,7 @@ class Offices(SiteCase):
             self.assertEqual(front.ask("GET", "/progress").body.decode(), progress)
             self.assertEqual(front.ask("GET", "/now/progress", name="clara").body.decode(),
                              progress)
-            self.assertEqual([front.ask("GET", target).status
+            self.assertEqual([front.ask("GET", target, name="clara").status
                               for target in ("/progress/1", "/now/progress/1", "/progress/x",
                                              "/station/unknown")], [404, 404, 404, 404])
             self.assertEqual(front.ask("GET", "/now/progress").status, 401)

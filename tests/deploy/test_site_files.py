@@ -143,12 +143,13 @@ class SiteFiles(SiteCase):
             page_of("index.html")
             picture = re.search(r'<figure class="map".*?</figure>', text, re.S)[0]
             self.assertNotRegex(picture, r"script|style|image|onclick|onload|nowhere")
-            for part in ('<path d="M0 0H4V4Z" class="con list-A"><title>\u2068Norte\u2069: A</title>'
-                         '</path>',
-                         '<g class="con list-B"><title>\u2068Este\u2069: B</title><rect x="5" y="0" '
-                         'width="2" height="2"></rect>',
+            for part in ('<path d="M0 0H4V4Z" class="con list-A">'
+                         '<title>\u2068Norte\u2069: A</title></path>',
+                         '<g class="con list-B"><title>\u2068Este\u2069: B</title>'
+                         '<rect x="5" y="0" width="2" height="2"></rect>',
                          '<path d="M5 5h3v3z" class="con list-D pale">'
-                         '<title>\u2068Óeste &lt;3&gt;\u2069: D</title></path>', '<path d="M0 8h1"></path>'):
+                         '<title>\u2068Óeste &lt;3&gt;\u2069: D</title></path>',
+                         '<path d="M0 8h1"></path>'):
                 with self.subTest(part=part):
                     self.assertIn(part, picture)
             self.refused_site(port, "map.svg", map="<svg")

@@ -1,6 +1,6 @@
 """The launcher's lock, what it leaves of the input, and the order of its sources.
 
-A stub stands in the place of `rt`, in a copy of the repository.
+A stub takes the place of `rt`, in a copy of the repository.
 """
 
 import fcntl

@@ -184,7 +184,7 @@ class OfReturns(Case):
                 )
 
     def test_a_lot_that_nothing_needs(self):
-        """The votes decide, so that no lot may stand."""
+        """The votes decide, so that no lot is allowed."""
         setup, rows = profile("d0") + town(seats=2), ("AB", "c1-1,p,0,0,100,100", "c1-2,q,0,0,0,0")
         self.assertEqual(
             self.given(setup, "c1 A B", c1=rows),
@@ -323,7 +323,7 @@ class OfDatabases(ProgramCase):
                 spoiled(f"c1 differs: {said}\n", db)
 
     def test_a_lot_without_a_certificate(self):
-        """It stands only where all stations are closed and it is needed."""
+        """It is allowed only where all stations are closed and it is needed."""
         twin_town()
         change("UPDATE cons SET certified = 0, edition = 4, note = 'again'")
         change("DELETE FROM seats")

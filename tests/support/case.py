@@ -43,7 +43,8 @@ def needs(*names):
         def run(self, *given):
             for name in names:
                 for file in ("chromium", "chromedriver") if name == "chromium" else (name,):
-                    if not find(file):
+                    other = "chromium-browser" if file == "chromium" else file
+                    if not find(file) and not find(other):
                         raise unittest.SkipTest(f"{file} is not there")
             return test(self, *given)
         return run
@@ -62,7 +63,8 @@ class Cut:
 
 
 def too_long(*_):
-    raise AssertionError("it takes more than two hours")
+    """Ends the suite: `subTest` would catch an assertion, and go on with the next row."""
+    raise KeyboardInterrupt("a test takes more than two hours")
 
 
 class Case(unittest.TestCase):
@@ -75,7 +77,7 @@ class Case(unittest.TestCase):
     maxDiff = None
     of_the_program = False
     prefix = "office-test-"
-    # Whether a folder that cannot be removed is left behind, as one that a browser still writes in.
+    # Whether a folder may stay that cannot be removed, as one that a browser still writes in.
     may_leave_files = False
 
     @classmethod

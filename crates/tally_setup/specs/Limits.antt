@@ -56,8 +56,8 @@ pub record IsStation (station : Station) : Type 0 where
   pub agents : station.agents ≤ most_agents
   pub entitled : entitled station ≤ most_electors
 
--- The limits of a constituency, and that no two of its lists have one code. At most as many may vote
--- at its stations as an allotment can have votes, so its closed votes are within that limit.
+-- The limits of a constituency, and that no two of its lists have one code. At most as many may
+-- vote at its stations as an allotment can have votes, so its closed votes are within that limit.
 pub record IsConstituency (con : Constituency) : Type 0 where
   pub code : is_code con.code ≡ true
   pub name : IsName con.name
