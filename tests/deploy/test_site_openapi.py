@@ -112,7 +112,7 @@ class SiteOpenapi(SiteCase):
                         answered[target] |= self.asked_in_every_way(
                             front, f"127.0.11.{n + 1}", method, target, roles, answers, public)
             for target in [target for _, target, _, answers in self.operations()
-                           if "304" in answers and "404" in answers]:
+                           if "304" in answers and "404" in answers and target != "/"]:
                 Path(front.folder, "share" if target == "/setup.json" else "pages",
                      target[1:]).unlink()
                 answered[target].add(front.ask("GET", target, name="clara").status)
