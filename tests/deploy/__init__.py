@@ -8,19 +8,21 @@ So suites run side by side. A test that needs nginx, Chromium, openssl, rsync or
 skipped where that is missing. Clients and attackers are processes and threads of this machine, at
 addresses of its own (127.0.0.0/8).
 
-- The proxy and the reader: test_roles, test_who_reads, test_passwords, test_other_sites,
-  test_requests, test_limits, test_readers, test_floods, test_hour, test_offices.
+- The proxy and the reader: test_roles, test_who_reads, test_passwords, test_names_alike,
+  test_other_sites, test_requests, test_limits, test_readers, test_floods, test_hour,
+  test_hours_at_random, test_offices.
 - The record of commands: test_record, test_recorder, test_replay, test_entries, test_history,
-  test_acts_and_record, test_known_setup.
-- The machine: test_backup, test_services, test_ports_and_units, test_status.
+  test_acts_and_record, test_known_setup, test_record_at_its_edges.
+- The machine: test_backup, test_room_for_copies, test_services, test_ports_and_units, test_status.
 - An office on one computer: test_desk, test_desk_roles.
 - Setups and the words of tools: test_setup_from_tables, test_setup_table_faults,
   test_large_setups, test_words_of_tools.
 - The press pages: test_press_pages, test_country_page, test_first_election, test_site_files,
-  test_weights, test_country. In a browser: test_shown_pages, test_pictures.
+  test_weights, test_country, test_templates, test_names, test_published_of_one_moment. In a
+  browser: test_shown_pages, test_pictures.
 - The published data: test_data, test_station_files, test_published, test_feed, test_site_openapi.
-- The clerks' page: test_clerks_page, test_slips, test_second_entry.
-- The audit: test_audit_rule, test_audit_commands.
+- The clerks' page: test_clerks_page, test_clerk_page, test_slips, test_second_entry.
+- The audit: test_audit_rule, test_audit_commands, test_audit_at_its_limits.
 
 These variables of the environment change a run:
 
