@@ -24,6 +24,8 @@ from tests.support.site import BOTH, SiteCase, plain
 WARNED = """return [...document.querySelectorAll('#lodge .warning > span')].map((e) =>
     [e.closest('.counts > div').querySelector('span').textContent.split(' ')[0], e.textContent])"""
 MORE = "More than twice its share in the constituency so far."
+# A moment as English has it.
+AT = r"\w+ \d{1,2}, \d{4} at \d{1,2}:\d\d:\d\d\s[AP]M "
 LESS = "Less than half of its share in the constituency so far."
 # A slip of 1,000 electors, and what is unusual in it. What is closed so far has 300, 200 and 20
 # votes: of 520 again these are expected, of 560 some 323, 215 and 22, of 245 some 141, 94 and 9.
@@ -36,8 +38,8 @@ UNUSUAL = (
     ([30, 200, 15], 0, 0, [["A", LESS], ["B", MORE]]),
     ([300, 200, 20], 28, 0, [["Blank", "More than 5 per cent of all votes are blank."]]),
     ([300, 200, 20], 0, 28, [["Spoiled", "More than 5 per cent of all votes are spoiled."]]),
-    ([115, 77, 7], 0, 0, [["Total", "Less than 20 per cent of the 1000 electors."]]),
-    ([549, 366, 36], 0, 0, [["Total", "More than 95 per cent of the 1000 electors."]]),
+    ([115, 77, 7], 0, 0, [["Total", "Less than 20 per cent of the 1,000 electors."]]),
+    ([549, 366, 36], 0, 0, [["Total", "More than 95 per cent of the 1,000 electors."]]),
 )
 # Slips that are just usual: 27 and 27 of 574 are 4.7 per cent each; 38 is less than twice 19.9, 10
 # more than half of 19.6; 200 and 950 of 1,000 are 20 and 95 per cent; of 20 votes fewer than 10 are
@@ -442,7 +444,7 @@ class Slips(SiteCase):
         self.assertEqual((it.asked(), it.visible("#receipt tr"), unspoken(it)), (False, True, []))
         found = receipt(it)
         self.assertEqual({name: found.get(name) for name in wanted}, wanted)
-        self.assertTrue(re.match(r"\w{3} \w{3} \d\d \d{4} \d\d:\d\d:\d\d ", found["At"]), found)
+        self.assertTrue(re.match(AT, found["At"]), found)
 
     @needs("chromium", "nginx", "openssl")
     def test_what_is_asked_once_and_its_receipt(self):
