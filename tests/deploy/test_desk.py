@@ -351,12 +351,12 @@ class AnOpenDesk(unittest.TestCase):
             with self.subTest(target=target):
                 text = self.desk.ask("clerk-1", "GET", target).text
                 self.assertEqual(text.count("PRUEBA · TRIAL"), 2)
-                self.assertRegex(text, r"<title>PRUEBA · TRIAL: \w")
+                self.assertRegex(text, "<title>PRUEBA · TRIAL: \u2068?\\w")
                 self.assertLess(text.index("<body"), text.index('<p class="of-trial"'))
         self.assertIn("This is a trial", self.desk.said)
 
     def test_the_press_pages_have_the_policy_of_the_proxy(self):
-        text = (ROOT / "deploy/nginx/file.conf").read_text(encoding="utf-8")
+        text = (ROOT / "deploy/nginx/policy.conf").read_text(encoding="utf-8")
         wanted = re.search(r'Content-Security-Policy "(.*?)"', text)
         found = self.desk.ask("clerk-1", "GET", "/index.html")
         self.assertEqual(found.heads["Content-Security-Policy"], wanted[1])
