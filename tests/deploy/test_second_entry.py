@@ -238,6 +238,7 @@ class SecondEntry(SiteCase):
                              ("s1", ["close", "query", "import"]))
             desk.end()
             front.end_recorder()
+            front.end_reader()
             it.click("#find")
             said(it, "The office does not answer now.")
             self.assertEqual(
