@@ -25,7 +25,7 @@ from pathlib import Path
 # What is imported from here is not to be left beside it in compiled form.
 sys.dont_write_bytecode = True
 from building import PROGRAM, ROOT, processor
-from check import LISTS, codes
+from check import ELECTORS, LISTS, codes
 from databases import Con, ask_in_memory, certify, closes_of, import_returns, make, open_command, reopen, show_command
 from measuring import run_timed
 from serving import get, office, post
@@ -38,12 +38,16 @@ GOAL = 1.3
 
 
 class LargeCon(Con):
-    """A constituency of the size that its stations need."""
+    """A constituency of the size that its stations need. 20,000 may have 250,000 electors each."""
 
     def setup(self):
         size = "large" if len(self.stations) > NORMAL else "normal"
         # (the key comes before the tables of lists)
-        return super().setup().replace("\n\n", f'\nsize = "{size}"\n\n', 1)
+        text = super().setup().replace("\n\n", f'\nsize = "{size}"\n\n', 1)
+        return text.replace(f"electors = {ELECTORS}\n", f"electors = {ELECTORS // 4}\n")
+
+    def returns(self):
+        return [(station, slip, [n // 4 for n in counts]) for station, slip, counts in super().returns()]
 
 
 def made(folder, program, count):
