@@ -287,4 +287,4 @@ class OtherSites(SiteCase):
                              ["answers", "body", "fastcgi", "proxy", "scgi", "uwsgi"])
             self.assertEqual(
                 {file.name: file.stat().st_size for file in (front.folder / "log").iterdir()},
-                {"error.log": 0, "refused.log": 0, "recorder": 0, "commands.log": 0})
+                {"error.log": 0, "refused.log": 0, "recorder": 0, "reader": 0, "commands.log": 0})
