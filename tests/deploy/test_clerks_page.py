@@ -81,7 +81,7 @@ class ClerksPage(SiteCase):
         enter(it, "lodge", LATE["04-002-A"] | {"votes": [40, 40, 21, 0, 0]})
         said(it, "Another return of this station is recorded, in revision 1.")
         enter(it, "lodge", LATE["04-002-A"] | {"votes": [400, 40, 21, 0, 0]})
-        said(it, "more than the station has electors")
+        said(it, "more than the station has electors and agents")
         enter(it, "lodge", LATE["04-002-A"])
         said(it, "Both entries are the same; recorded in revision 1.")
         for station in STATIONS:

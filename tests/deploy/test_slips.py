@@ -57,7 +57,8 @@ NAMED = ["Row 2, below the header: station s2: another return of its station is 
          "Row 7, below the header: its slip is not a code.",
          "Row 8, below the header: under spoiled there is no whole number of 1 to 9 digits.",
          "Row 9, below the header: station s3: a number is above 1,000,000.",
-         "Row 10, below the header: station s3: its votes are more than the station has electors."]
+         "Row 10, below the header: station s3: its votes are more than the "
+         "station has electors and agents."]
 # The next command is done, and its answer is lost.
 LOST = """const ask = window.fetch; window.fetch = async (target, more) => {
   const answer = await ask(target, more);
@@ -509,7 +510,7 @@ class Slips(SiteCase):
                                         "input:not([type=checkbox], [type=file], "
                                         "[name=note])')].map((e) => e.autocomplete)"), ["off"] * 18)
                 enter(it, "correct", SLIP | {"votes": [301, 0], "total": 304})
-                said(it, "are more than the station has electors.")
+                said(it, "are more than the station has electors and agents.")
                 self.assertEqual((it.text("#status"), focused(it)[0]), ("", "total"))
                 for button, words in (("again", "This is what the office has now."),
                                       ("who", "The history of station s1 is shown.")):
