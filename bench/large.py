@@ -1,10 +1,10 @@
 #!/usr/bin/env python3
 """Measures a constituency of 20,000 stations and 60 lists, a large one, beside one of 5,000.
 
-Each is imported in files of 5,000 returns, opened, and served from a database in a file. A reading, an import and an
-opening are measured for each station. A request is measured for itself: the return of a station, a tally, a certificate
-and its reopening, a trial of 500 returns. What is asked of all stations at once, the stations and the returns, holds the
-office for as long as is printed.
+Each is imported, opened, and served from a database in a file. What a new office, an import and an opening take is
+measured for each station. Several files cost an opening each, so they are sent over HTTP where that counts. A request is
+measured for itself: the return of a station, a tally, a certificate and its reopening, a trial of 500 returns. What is
+asked of all stations at once, the stations and the returns, holds the office for as long as is printed.
 
 The returns are published, read back into a new office, and counted again by examples/recount.py.
 
@@ -31,8 +31,8 @@ from measuring import run_timed
 from serving import get, office, post
 
 LARGE, NORMAL = 20_000, 5_000
-# How many returns a file has that is imported, and how many a trial.
-IN_A_FILE, IN_A_TRIAL = 5_000, 500
+# How many returns a trial has.
+IN_A_TRIAL = 500
 # How many times as long it may take for a station, or a request, as in a constituency of 5,000.
 GOAL = 1.3
 
@@ -51,14 +51,11 @@ class LargeCon(Con):
 
 
 def made(folder, program, count):
-    """A database with the returns of each station, and the microseconds a station of `new` and of the imports."""
+    """A database with the returns of each station, and the microseconds a station of `new` and of an import."""
     con, name = LargeCon(codes("station", count)), f"large-{count}.db"
     began = make(program, folder, name, [con])
-    returns = con.returns()
-    imports = [
-        import_returns(program, folder / name, con, returns[at : at + IN_A_FILE])
-        for at in range(0, count, IN_A_FILE)]
-    return con, folder / name, began.spent * 1000 / count, sum(it.spent for it in imports) * 1000 / count
+    imported = import_returns(program, folder / name, con, con.returns())
+    return con, folder / name, began.spent * 1000 / count, imported.spent * 1000 / count
 
 
 def requests_of(con, asked):
@@ -80,7 +77,9 @@ def ask(folder, program, db, con, asked, taken):
     copy = folder / "served.db"
     shutil.copy(db, copy)
     kinds = requests_of(con, asked)
-    with office(program, copy, sum(map(len, kinds.values()))) as server:
+    with office(program, copy, 1 + sum(map(len, kinds.values()))) as server:
+        # The memory of an opening is given back before the first answer.
+        server.ask(get("/progress"))
         for kind, messages in kinds.items():
             taken.setdefault(kind, []).append(server.ask_all(messages).spent)
 

@@ -19,6 +19,8 @@ import unittest
 from pathlib import Path
 from unittest import mock
 
+from tests.support.record import chained
+
 ROOT = Path(__file__).resolve().parents[2]
 sys.dont_write_bytecode = True
 
@@ -421,7 +423,7 @@ class Agents(Case):
                 },
                 {"to": n, "status": 200},
             ]
-        record = "".join(json.dumps(line) + "\n" for line in lines)
+        record = chained(*lines).decode()
         out, _ = self.ran(ROOT / "deploy/entries", "setup.toml", given=record, status=1)
         self.assertEqual(
             out,

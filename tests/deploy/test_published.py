@@ -105,13 +105,14 @@ class Published(SiteCase):
         vacated = two | {target: said for target, said in VACATED.items()
                          if target.startswith("/con/c1")}
         publish(two, "--setup", "setup.toml", *a_head(7))
-        since = json.loads(read("con-c1.json"))["time"]
+        names = ("con-c1.json", "con-c2.json", "index.json")
+        since = [json.loads(read(name))["time"] for name in names]
         found = self.rewritten((two, 7), (two, 9), (vacated, 9))
         self.assertEqual(found, [{"manifest.json"}, {"manifest.json", "record.csv"},
                                  {"manifest.json", "con-c1.json", "feed.atom"}])
-        self.assertLess(since, json.loads(read("con-c1.json"))["time"])
-        self.assertTrue(since == json.loads(read("con-c2.json"))["time"]
-                        == json.loads(read("index.json"))["time"])
+        times = [json.loads(read(name))["time"] for name in names]
+        self.assertLess(since[0], times[0])
+        self.assertEqual(since[1:], times[1:])
 
     @needs("nginx", "openssl")
     def test_a_reader_who_asks_again(self):
