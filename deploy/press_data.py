@@ -12,7 +12,7 @@ from press_names import isolated
 
 # Of the form of the files. The first number is raised when something goes or means something else,
 # the second when something is added.
-VERSION = "1.1.0"
+VERSION = "1.2.0"
 
 # In the name of a file of returns, in the place of the edition of a certificate.
 OPEN = "open"
