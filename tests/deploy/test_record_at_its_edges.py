@@ -20,7 +20,7 @@ class RowsOfAFile(Case):
         """The stations of the rows that an import lodges, by the tool that reads records."""
         [con] = tomllib.loads(setup)["constituency"]
         text = "station,slip,blank,spoiled,A,B\n" + "".join(f"{row}\n" for row in rows)
-        return list(entries.rows_of(text, False, con))
+        return [code for code, _ in entries.rows_of(text, False, con)]
 
     def test_as_many_votes_as_electors(self):
         """Twin Town's station has 300 electors."""
