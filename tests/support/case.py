@@ -75,7 +75,7 @@ class Case(unittest.TestCase):
     maxDiff = None
     of_the_program = False
     prefix = "office-test-"
-    # Whether a folder that cannot be removed is left behind, as one that a browser still writes in.
+    # Whether a folder that cannot be removed may stay, as one that a browser still writes in.
     may_leave_files = False
 
     @classmethod
