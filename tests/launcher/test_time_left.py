@@ -234,7 +234,7 @@ class TimeLeft(LauncherCase):
             line.split() for line in record.read_text().splitlines() if not line.startswith("#")
         )
         self.assertEqual(
-            [*written], ["reading", "tally_frac", "tally_desk_message", "tally_office", "building"]
+            [*written], ["reading", "tally_desk_message", "tally_frac", "tally_office", "building"]
         )
         assert (
             written["tally_desk_message"] == "40"
