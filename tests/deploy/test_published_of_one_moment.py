@@ -49,7 +49,7 @@ class Feed(Case):
                 {"list": "B", "place": 2, "note": "no such place"}]
         con = {"past": [], "view": {"note": "", "gone": gone}}
         names = [event[2]["name"] for event in data.events(con, self.CANDIDATES)]
-        self.assertEqual(names, [" (Abel)", " (Bea)", ""])
+        self.assertEqual(names, [" (\u2068Abel\u2069)", " (\u2068Bea\u2069)", ""])
 
 
 class Reports(Case):
