@@ -95,6 +95,14 @@ opened: UPDATE setup SET text = replace(text, 'profile = "d0"', 'profile = "d0"'
     'entry = "double"')
 bad_setup: UPDATE setup SET text = replace(text, 'profile = "d0"', 'profile = "d0"' || char(10) ||
     'entry = "twice"')
+opened: UPDATE setup SET text = replace(text, 'profile = "d0"', 'profile = "d0"' || char(10) ||
+    'size = "large"')
+bad_setup: UPDATE setup SET text = replace(text, 'profile = "d0"', 'profile = "d0"' || char(10) ||
+    'size = "huge"')
+opened: UPDATE setup SET text = replace(text, 'electors = 300', 'electors = 300' || char(10) ||
+    'agents = 2')
+bad_setup: UPDATE setup SET text = replace(text, 'electors = 300', 'electors = 300' || char(10) ||
+    'agents = 1001')
 bad_tables: DROP TABLE past; UPDATE setup SET version = 1; UPDATE seats SET n = 3 - n
 """
 

@@ -215,6 +215,10 @@ class Con:
         self.names = [one["name"] for one in setup["list"]]
         self.candidates = [one["candidates"] for one in setup["list"]]
         self.electors = {station["code"]: station["electors"] for station in setup["station"]}
+        self.entitled = {
+            station["code"]: station["electors"] + station.get("agents", 0)
+            for station in setup["station"]
+        }
         self.twice = setup.get("entry", "single") == "double"
         self.returns, self.edition, self.certified, self.note = {}, 1, None, ""
         self.lot, self.gone, self.past = [], {}, {}
@@ -339,7 +343,7 @@ class Office:
         need(
             len(votes) == len(con.lists) and all(n <= 1000000 for n in [*votes, blank, spoiled]), 4
         )
-        need(sum(votes) + blank + spoiled <= con.electors[station], 6)
+        need(sum(votes) + blank + spoiled <= con.entitled[station], 6)
 
     def lodge(self, con, station, slip, votes, blank, spoiled):
         self.check_counts(con, station, votes, blank, spoiled)
