@@ -11,10 +11,10 @@ by which the longest begin first.
 
 A suite that says `ALONE = True` measures time or needs much of the machine: it runs after the
 others, by itself. A suite that fails beside others runs once more by itself, since they can spoil
-what it measures, and the second result counts. Of a suite that fails all that it printed is shown. The last line is `N passed, M
-failed, K skipped`. The status is 0 where nothing failed and nothing was skipped of tests/program
-and tests/documents, which need no more than Python and a C compiler. Where TEST_MINUTES is set and
-over, another part that has not begun counts as skipped.
+what it measures, and the second result counts. Of a suite that fails all that it printed is shown.
+The last line is `N passed, M failed, K skipped`. The status is 0 where nothing failed and nothing
+was skipped of tests/program and tests/documents, which need no more than Python and a C compiler.
+Where TEST_MINUTES is set and over, another part that has not begun counts as skipped.
 """
 
 import argparse
