@@ -17,7 +17,7 @@ import sys
 import tempfile
 from pathlib import Path
 
-# What is imported from here is not to be left beside it in compiled form.
+# The modules imported from here are not to be left beside it in compiled form.
 sys.dont_write_bytecode = True
 from building import build_office, build_plain, processor
 from measuring import Numbers
@@ -37,10 +37,10 @@ RULES = [
 ]
 CALLS = ["allot", "lot_need", "is_allotment", "votes_short"]
 
-# At most so many times the time of the plain program's award.
+# At most this many times the time of the plain program's award.
 GOALS = {"allot": 1.3, "lot_need": 20, "is_allotment": 20}
 
-# votes_short takes at most so many times the time of one allot of this repository, not the plain
+# votes_short takes at most this many times the time of one allot of this repository, not the plain
 # one's.
 MOST_ALLOTS = 3
 
@@ -51,7 +51,7 @@ def votes_apart(numbers):
 
 
 def votes_alike(numbers):
-    """The same votes for each list, and the lot that then decides: all places in some order."""
+    """Equal votes for each list, and the lot that then decides: all places in some order."""
     places = list(range(1, LISTS + 1))
     for at in range(LISTS - 1, 0, -1):
         other = numbers.below(at + 1)
@@ -67,7 +67,7 @@ WORKLOADS = {
 
 
 def text_of(make, polls):
-    """So many polls, each a line with its votes and its lot."""
+    """This many polls, each a line with its votes and its lot."""
     numbers = Numbers(1)
     lines = []
     for _ in range(polls):

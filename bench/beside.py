@@ -18,7 +18,7 @@ import sys
 import tempfile
 from pathlib import Path
 
-# What is imported from here is not to be left beside it in compiled form.
+# The modules imported from here are not to be left beside it in compiled form.
 sys.dont_write_bytecode = True
 from building import PROGRAM, processor
 from check import LISTS, codes
@@ -28,7 +28,7 @@ from serving import office, post
 
 
 def prepare(folder, program, con, asked):
-    """Makes an empty database, one that lacks so many returns, and one whose returns are all closed."""
+    """Makes an empty database, one that lacks this many returns, and one whose returns are all closed."""
     make(program, folder, "new.db", [con])
     for name, returns in (("lacking.db", con.returns()[:-asked]), ("closed.db", con.returns())):
         shutil.copy(folder / "new.db", folder / name)

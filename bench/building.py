@@ -171,7 +171,7 @@ def crates_in_turn(tops=(TOP,)):
 
 
 def seconds_of_ends(ends):
-    """What each part took, by the times at which the parts ended: a worker begins a crate once those that it uses ended."""
+    """The seconds of each part, by the times at which the parts ended: a worker begins a crate once those that it uses ended."""
     lines = [line.split() for line in ends.read_text().splitlines()]
     workers = next(int(line[1]) for line in lines if line[0] == "workers")
     ended = {part: int(at) for part, at, *_ in lines}
@@ -194,7 +194,7 @@ def seconds_of_ends(ends):
 
 
 def seconds_of_files():
-    """What each crate took, by the times of the files that its check left: the folder of the library is made again when the
+    """The seconds of each crate, by the times of the files that its check left: the folder of the library is made again when the
     check begins, and its stamp is written last. In a copy, whose folders are newer, and for the program itself the first
     module stands for the folder. A crate that was proved in several goes is left out.
     """

@@ -20,7 +20,7 @@ import sys
 import tempfile
 from pathlib import Path
 
-# What is imported from here is not to be left beside it in compiled form.
+# The modules imported from here are not to be left beside it in compiled form.
 sys.dont_write_bytecode = True
 from building import HERE, PROGRAM, build_office, build_plain
 from measuring import Numbers, number_text, run
@@ -37,7 +37,7 @@ ELECTORS = 1_000_000
 
 
 def codes(word, count):
-    """So many codes of 16 characters."""
+    """This many codes of 16 characters."""
     return [f"{word}-{n:0{15 - len(word)}d}" for n in range(count)]
 
 

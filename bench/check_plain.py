@@ -1,5 +1,5 @@
 #!/usr/bin/env python3
-"""What `office check` does, as a plain Python program: the measure for its speed.
+"""A plain Python program that does what `office check` does: the measure for its speed.
 
 It reads a CSV of returns on the standard input and writes the check text on the standard output.
 """

@@ -96,7 +96,7 @@ def show_command(program, db, report, con=None):
 
 
 def open_command(program, db):
-    """What opens a database and is then refused, with status 1: no constituency has this code."""
+    """A command that opens a database and is then refused, with status 1: no constituency has this code."""
     return [program, "show", "--db", db, "--report", "tally", "--con", "none"]
 
 
@@ -119,9 +119,10 @@ def ask_over_http(program, db, messages):
 
 
 def ask_in_memory(program, db, messages):
-    """The same with its database in memory, so that no message waits for a disk."""
+    """As the server on a disk, with its database in memory, so that no message waits for a disk."""
     place = MEMORY if MEMORY.is_dir() else db.parent
     with tempfile.TemporaryDirectory(dir=place) as folder:
         fast = Path(shutil.move(db, folder))
-        ask_over_http(program, fast, messages)
+        taken = ask_over_http(program, fast, messages)
         shutil.move(fast, db)
+    return taken

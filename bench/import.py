@@ -14,7 +14,7 @@ import statistics
 import subprocess
 import sys
 
-# What is imported from here is not to be left beside it in compiled form.
+# The modules imported from here are not to be left beside it in compiled form.
 sys.dont_write_bytecode = True
 from building import ROOT, keeper_program
 from check import ELECTORS, LISTS, codes, distinct_rows, long_row, short_row, text_of
@@ -26,7 +26,7 @@ from tests.support.office import constituency, party_list, profile, station
 # As many as a constituency may have.
 STATIONS = 5_000
 
-# An import may take at most so many times as long as the check.
+# An import may take at most this many times as long as the check.
 GOAL = 2
 
 CALLS = ["import", "check"]
@@ -49,7 +49,7 @@ def shuffled(rows):
     return rows
 
 
-# The workloads by name, and how the rows of so many stations are made.
+# The workloads by name, and how the rows of this many stations are made.
 WORKLOADS = {
     "in order, long": lambda stations: distinct_rows(stations, long_row),
     "in order, short": lambda stations: distinct_rows(stations, short_row),

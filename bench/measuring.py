@@ -1,4 +1,4 @@
-"""What the benchmarks measure with."""
+"""The tools with which the benchmarks measure."""
 
 import os
 import re
@@ -38,7 +38,7 @@ def run(command, path, status=0):
 
 @dataclass
 class Ran:
-    """What a run of a command took: milliseconds of the processor and of the clock, its peak memory in
+    """The cost of a run of a command: milliseconds of the processor and of the clock, its peak memory in
     MiB, or None where GNU time is not there, and what it wrote."""
 
     spent: float
@@ -75,7 +75,7 @@ class Medians:
 
 
 def in_turn(rounds, commands, before=lambda: None, refused=()):
-    """What each command took, by its name. In each round the commands run one after the other, each after
+    """The cost of each command, by its name. In each round the commands run one after the other, each after
     `before`. Those that are refused end with status 1."""
     runs = {name: [] for name in commands}
     for _ in range(rounds):
@@ -115,7 +115,7 @@ def number_before(lines, what):
 
 
 def took_text(name, took):
-    """What a command took, as the first columns of a line."""
+    """The cost of a command, as the first columns of a line."""
     return f"  {name:22} {took.spent:7.0f} {took.least:7.0f} {took.clock:14.0f} {number_text(took.peak):>6}"
 
 

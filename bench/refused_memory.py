@@ -1,16 +1,16 @@
 #!/usr/bin/env python3
-"""Refuses a check its memory, once at each place where it asks for some.
+"""Refuses a check and an allotment their memory, once at each place where they ask for some.
 
 A library of a few lines of C comes before the allocator of the C library. It refuses the first
 request for memory, then in another run the second, and so on until a run makes fewer requests than
 that; and again so that every request from the chosen one on is refused. Each run of `office check`
-has to end with status 3 and `failed: memory`, with nothing on standard output, or to do without
+and `office allot` has to end with status 3 and `failed: memory`, with nothing on standard output, or to do without
 what was refused and answer as it does with ample memory.
 
     bench/refused_memory.py [--program PATH] [--every N]
 
 With `--every N` only every Nth request is refused, alone and with all after it. A C compiler is needed, as
-`cc`. The last line is `N passed, M failed, K skipped`: texts, or the script where there is no compiler.
+`cc`. The last line is `N passed, M failed, K skipped`: commands and texts, or the script where there is no compiler.
 """
 
 import argparse
@@ -21,7 +21,7 @@ import sys
 import tempfile
 from pathlib import Path
 
-# What is imported from here is not to be left beside it in compiled form.
+# The modules imported from here are not to be left beside it in compiled form.
 sys.dont_write_bytecode = True
 from building import PROGRAM
 
@@ -85,8 +85,25 @@ void *realloc(void *old, size_t size)
 WHOLE = 2**62
 
 
+def cases():
+    """Short texts, and one that makes every container grow, each with the words of its command."""
+    checks = {name: (["check"], text) for name, text in texts().items()}
+    lists = "list,votes\n" + "".join(f"L{n},100\n" for n in range(60))
+    law = "list,votes\nA,168000\nB,104000\nC,72000\nD,64000\nE,40000\nF,32000\n"
+    words = ["allot", "--seats", "8", "--threshold", "100", "--awards", "--method"]
+    lot = ["--lot", ",".join(f"L{n}" for n in range(60))]
+    return checks | {
+        "seats by divisors": ([*words, "dhondt"], law),
+        "seats by quotas": ([*words, "hare"], law),
+        "a lot among 60 lists": ([*words, "dhondt", *lot], lists),
+        "a lot that is missing": ([*words, "dhondt"], lists),
+        "a lot that is not needed": ([*words, "dhondt", "--lot", "A,B"], law),
+        "votes of a list twice": ([*words, "dhondt"], law + "A,1\n"),
+    }
+
+
 def texts():
-    """Short texts, and one that makes every container grow."""
+    """Texts of returns."""
     header = "station,slip,blank,spoiled,A,B\n"
     rows = [f"s{n},p{n},0,0,{n},{2 * n}\n" for n in range(2_000)]
     quoted = [f'"s{n}","p\n{n}",0,0,"{n}",x\r\n' for n in range(100)]
@@ -137,38 +154,41 @@ class Runs:
 
 
 class NotPromised(Exception):
-    """What came of a refusal that may not come of it."""
+    """An outcome of a refusal that is not allowed."""
 
 
 class Checks:
-    """Runs of a check under the library, in which every so manyth request is refused."""
+    """Runs of a command under the library, in which one of every few requests is refused."""
 
     def __init__(self, program, library, every):
         self.program, self.every = program, every
         self.runs = Runs(library)
 
-    def run(self, text, first, last):
-        return self.runs.run([self.program, "check"], text.encode(), first, last)
+    def run(self, case, first, last):
+        words, text = case
+        return self.runs.run([self.program, *words], text.encode(), first, last)
 
-    def is_done_without(self, text, ample, at, last):
-        """Whether a check with this request refused came to the same as with ample memory. It may fail out of memory."""
-        count, answer = self.run(text, at, last)
+    def is_done_without(self, case, ample, at, last):
+        """Whether a command with this request refused came to the same as with ample memory. It may
+        fail out of memory.
+        """
+        count, answer = self.run(case, at, last)
         if count is None or count < at:
             raise NotPromised(f"request {at} was not made, or the program was killed: {answer}")
         if answer not in (ample, (3, b"", b"failed: memory\n")):
             raise NotPromised(f"with request {at} refused the answer is {answer}")
         return answer == ample
 
-    def refuse_each(self, text):
-        """What came of the refusals, in words."""
-        asked, ample = self.run(text, WHOLE, WHOLE)
-        if ample[0] != 0 or not asked:
+    def refuse_each(self, case):
+        """The outcomes of the refusals, in words."""
+        asked, ample = self.run(case, WHOLE, WHOLE)
+        if ample[0] not in (0, 1) or not asked:
             raise NotPromised(f"with ample memory the answer is {ample}, after {asked} requests")
         places = range(1, asked + 1, self.every)
-        alone = sum(self.is_done_without(text, ample, at, at) for at in places)
-        with_all = sum(self.is_done_without(text, ample, at, WHOLE) for at in places)
+        alone = sum(self.is_done_without(case, ample, at, at) for at in places)
+        with_all = sum(self.is_done_without(case, ample, at, WHOLE) for at in places)
         words = requests_refused(len(places), asked)
-        return f"{words}, alone and with all after it; {alone + with_all} times the check did without"
+        return f"{words}, alone and with all after it; {alone + with_all} times it did without"
 
 
 def requests_refused(refused, asked):
@@ -211,7 +231,7 @@ def main():
         return ended(0, 0, 1)
     with tempfile.TemporaryDirectory() as folder:
         checks = Checks(given.program.resolve(), library_in(folder), given.every)
-        return ended(*each_judged(texts().items(), checks.refuse_each))
+        return ended(*each_judged(cases().items(), checks.refuse_each))
 
 
 if __name__ == "__main__":

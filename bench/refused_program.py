@@ -37,7 +37,7 @@ from collections import Counter
 from concurrent.futures import ThreadPoolExecutor
 from pathlib import Path
 
-# What is imported from here is not to be left beside it in compiled form.
+# The modules imported from here are not to be left beside it in compiled form.
 sys.dont_write_bytecode = True
 ROOT = Path(__file__).resolve().parent.parent
 sys.path[:0] = [str(ROOT / "bench"), str(ROOT)]
@@ -61,7 +61,8 @@ RIVERS = "\n" + profile("h0", "hare", 0, "lists") + constituency("h1", "Three Ri
     party_list("C", "Gamma", "Cid", "Cora") + party_list("D", "Delta", "Dan") + station("r1", 1000)
 )
 
-REPORTS = ("tally", "seats", "quotients", "awards", "quota", "short", "holders", "past", "stations", "returns")
+REPORTS = ("tally", "seats", "quotients", "awards", "quota", "short", "holders", "past", "provisional", "stations",
+           "returns")
 
 
 # ---- messages
@@ -82,8 +83,8 @@ GONE = LODGE[:60]
 
 PROGRESS = message("/progress")
 
-# What leaves both constituencies certified, the first one for the second time, and a candidate of
-# it gone.
+# The requests that leave both constituencies certified, the first one for the second time, and a
+# candidate of it gone.
 ELECTION = (
     message("/con/c1/import", RETURNS),
     *(message(f"/station/s{n}/close", {"rev": 1}) for n in (1, 2, 3)),
@@ -143,7 +144,7 @@ def rows_of(db):
 
 
 class Judge:
-    """What the databases of folders hold. What was found of the same bytes is known again."""
+    """The contents of the databases of folders. What was found of the same bytes is known again."""
 
     def __init__(self, program, folder):
         self.program, self.folder, self.known, self.seen = program, folder, {}, {}
@@ -161,7 +162,7 @@ class Judge:
         return self.known[key]
 
     def looked(self, files, look):
-        """What is seen of a copy of the files, or why nothing is."""
+        """The contents of a copy of the files, or why none are seen."""
         with tempfile.TemporaryDirectory(dir=self.folder) as copy:
             for name, held in files.items():
                 (Path(copy) / name).write_bytes(held)
@@ -189,7 +190,7 @@ def is_office(state):
 
 
 class Bench:
-    """What the workloads share: the program, runs that are refused memory, a judge, folders."""
+    """The parts that the workloads share: the program, runs that are refused memory, a judge, folders."""
 
     def __init__(self, program, folder):
         self.program, self.folder = program, Path(folder)
@@ -249,7 +250,7 @@ class Command:
         return asked, answer, self.bench.judge.state(folder), sorted(os.listdir(folder))
 
     def outcome(self, first, last):
-        """What came of a run, in words, and whether that is as promised."""
+        """The outcome of a run, in words, and whether that is as promised."""
         asked, answer, state, left = self.run(first, last)
         if asked is None or asked < first:
             return f"{answer} after {asked} requests", False
@@ -328,7 +329,7 @@ class Server:
         return asked, (process.returncode, output, line + error), made
 
     def outcome(self, first, last):
-        """What came of a run, in words, and whether that is as promised."""
+        """The outcome of a run, in words, and whether that is as promised."""
         try:
             asked, ended, made = self.run(first, last, lambda port: self.talk(port, first == last))
         except NotPromised as error:
@@ -355,7 +356,7 @@ class Server:
         return ended[0] == 0 and ended[1] in lines and not ended[2]
 
     def talk(self, port, one_alone):
-        """What came of the messages, in words, and after how many of them the rows are to be those that are left."""
+        """The outcome of the messages, in words, and after how many of them the rows are to be those that are left."""
         refused = None
         for place, (text, wanted) in enumerate(zip(self.messages, self.answers)):
             answer = ask(port, text)

@@ -22,7 +22,7 @@ import tempfile
 from collections import Counter
 from pathlib import Path
 
-# What is imported from here is not to be left beside it in compiled form.
+# The modules imported from here are not to be left beside it in compiled form.
 sys.dont_write_bytecode = True
 from building import ROOT
 from refused_memory import WHOLE, NotPromised, Runs, each_judged, ended, has_no_compiler, library_in, requests_refused
@@ -35,7 +35,7 @@ TESTS = {
     "imports": "imports::imports_come_to_what_they_do",
 }
 
-# What a test writes of what was refused its memory, and once it has passed.
+# The lines that a test writes of what was refused its memory, and once it has passed.
 REFUSED = b"refused: "
 PASSED = b"test result: ok"
 
@@ -51,7 +51,7 @@ OWN_ERRORS = {
 
 
 def refuse_each(runs, every, command):
-    """What came of the refusals, in words."""
+    """The outcomes of the refusals, in words."""
     asked, ample = runs.run(command, b"", WHOLE, WHOLE)
     if not asked or outcome(ample) != "did without":
         raise NotPromised(f"with ample memory the answer is {ample}, after {asked} requests")
@@ -71,7 +71,7 @@ def refuse_each(runs, every, command):
 
 
 def outcome(answer):
-    """What came of a refusal; nothing where it may not come."""
+    """The outcome of a refusal; nothing where it is not allowed."""
     status, output, error = answer
     lines = output.split(b"\n")
     refused = sum(line.startswith(REFUSED) for line in lines)

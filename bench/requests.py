@@ -25,7 +25,7 @@ import subprocess
 import sys
 from importlib import import_module
 
-# What is imported from here is not to be left beside it in compiled form.
+# The modules imported from here are not to be left beside it in compiled form.
 sys.dont_write_bytecode = True
 from building import keeper_program
 from check import ELECTORS, LISTS, codes, short_row, text_of
@@ -48,7 +48,7 @@ LARGE_SHARES = [20, 15] + [8] * 16
 TURNS = 1_000
 
 # The kinds in the order in which they are asked: what they are called, and how many requests there
-# are with so many stations.
+# are with this many stations.
 KINDS = {
     "lodge": ("Lodge", lambda stations: stations),
     "lodge_again": ("Lodge, the same again", lambda stations: stations),
@@ -142,7 +142,7 @@ def agree(returns, answered, end):
 
 
 def write(folder, stations):
-    """Writes a setup and the returns of so many stations: the returns and the two paths."""
+    """Writes a setup and the returns of this many stations: the returns and the two paths."""
     returns = returns_of(stations)
     setup, text = folder / f"setup-{stations}.toml", folder / f"returns-{stations}.csv"
     setup.write_text(imports.setup_of(stations))

@@ -32,7 +32,7 @@ import sys
 import tempfile
 from pathlib import Path
 
-# What is imported from here is not to be left beside it in compiled form.
+# The modules imported from here are not to be left beside it in compiled form.
 sys.dont_write_bytecode = True
 from building import PROGRAM, build_office, processor
 from check import LISTS, codes
@@ -48,12 +48,12 @@ WHOLE_MESSAGES = 200
 PIECED_MESSAGES = 5
 READS = 200
 
-# At most so many microseconds a request may be spent in the desk, and so many times as long may a
-# message take that comes byte by byte.
+# At most this many microseconds a request may be spent in the desk, and this many times as long may
+# a message take that comes byte by byte.
 DESK_GOAL = 100
 PIECES_GOAL = 10
 
-# What is measured.
+# The parts that are measured, and the servers.
 PARTS = ["requests", "pieces"]
 SERVERS = ["file", "/dev/shm", "desk", "alone"]
 
@@ -66,7 +66,7 @@ PROGRAMS = {
 
 
 def kinds_of(con, asked):
-    """So many messages of each kind, in the order in which they are asked."""
+    """This many messages of each kind, in the order in which they are asked."""
     lodges = [
         post(f"/station/{station}/lodge", {"slip": slip, "votes": votes, "blank": blank, "spoiled": spoiled})
         for station, slip, (blank, spoiled, *votes) in con.returns()[:asked]
@@ -152,7 +152,7 @@ def show(taken):
 
 
 def head_of(fields):
-    """A request for the progress whose head has just as many bytes as it may have, in so many fields."""
+    """A request for the progress whose head has just as many bytes as it may have, in this many fields."""
     start = b"GET /progress HTTP/1.1\r\n"
     names = [b"x-%02d: " % place for place in range(fields)]
     left = HEAD_BYTES - len(start) - 2 - sum(len(name) + 2 for name in names)
@@ -164,13 +164,13 @@ def head_of(fields):
 
 
 def lines_before():
-    """The same after as many empty lines as there may be."""
+    """A request for the progress after as many empty lines as there may be."""
     request = b"GET /progress HTTP/1.1\r\n\r\n"
     return b"\r\n" * ((HEAD_BYTES - len(request)) // 2) + request
 
 
 def ask_by_bytes(server, message):
-    """What is answered to a message that is sent a byte at a time."""
+    """The answer to a message that is sent a byte at a time."""
     with socket.create_connection(("127.0.0.1", server.port), timeout=60) as connection:
         connection.setsockopt(socket.IPPROTO_TCP, socket.TCP_NODELAY, 1)
         for byte in message:
@@ -203,7 +203,7 @@ def pieces(folder, built, rounds):
 
 
 def read_alone(program, path, step):
-    """The microseconds of the thread in which a message is read that comes by pieces of so many bytes."""
+    """The microseconds of the thread in which a message is read that comes by pieces of this many bytes."""
     ran = subprocess.run([program, path, str(step), str(READS)], capture_output=True, text=True, check=True)
     nanoseconds, read = map(int, ran.stdout.split())
     if read != READS:

@@ -16,7 +16,7 @@ from tests.support.running import free_port
 
 @dataclass
 class Taken:
-    """What so many requests took: microseconds a request of the clock, and of the server's processor."""
+    """The cost of some requests: microseconds a request of the clock, and of the server's processor."""
 
     clock: float
     spent: float
@@ -33,7 +33,7 @@ def post(path, body):
 
 
 class Server:
-    """A server of so many connections, which says that it listens in a line of standard error.
+    """A server of this many connections, which says that it listens in a line of standard error.
 
     It is started for a `with`, at whose end it has to have served them and to end well.
     """
@@ -85,6 +85,6 @@ def rest_of(connection):
 
 
 def office(program, db, count):
-    """The office as it serves so many connections on a database."""
+    """The office as it serves this many connections on a database."""
     port = free_port()
     return Server([program, "serve", "--db", db, "--port", port, "--count", count], port)

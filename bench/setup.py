@@ -18,7 +18,7 @@ import sys
 import tempfile
 from pathlib import Path
 
-# What is imported from here is not to be left beside it in compiled form.
+# The modules imported from here are not to be left beside it in compiled form.
 sys.dont_write_bytecode = True
 from building import HERE, ROOT, build_office, processor
 from measuring import run

@@ -24,7 +24,7 @@ import sys
 import tempfile
 from pathlib import Path
 
-# What is imported from here is not to be left beside it in compiled form.
+# The modules imported from here are not to be left beside it in compiled form.
 sys.dont_write_bytecode = True
 from building import HERE, PROGRAM, build_office, processor
 from check import LISTS, codes
@@ -56,12 +56,12 @@ GROWING = [500, 1_000, 2_000, 4_000]
 SHOW_GOAL = 1.3
 AWARDS_GOAL = 2
 
-REPORTS = ["progress", "country", "tally", "seats", "quotients", "awards", "short", "holders", "past", "stations", "returns", "quota"]
+REPORTS = ["progress", "country", "tally", "seats", "quotients", "awards", "short", "holders", "past", "provisional", "stations", "returns", "quota"]
 
 # Those that are of no constituency alone.
 OF_ALL = ("progress", "country")
 
-# What is measured.
+# The parts that are measured.
 PARTS = ["one", "many", "instructions", "growth"]
 
 PLAIN = [sys.executable, HERE / "store_plain.py"]

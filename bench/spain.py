@@ -7,8 +7,9 @@
 52 constituencies have 350 seats, 15 lists each and 60,000 stations, of which Madrid has 8,200. An
 office is made, takes the returns over HTTP, closes them, certifies, publishes its pages and files,
 and is counted again from its database and from the published returns. A time is that of the clock.
-Beside it are the seconds of the office on a processor. With fewer stations all shrink alike.
-The exit status is 1 if the office refuses something, or a recount differs.
+Beside it are the seconds on a processor: of the office while it serves, else of the command. With
+fewer stations all shrink alike. The exit status is 1 if the office refuses something, or a recount
+differs.
 """
 
 import argparse
@@ -16,6 +17,7 @@ import http.client
 import json
 import os
 import random
+import resource
 import subprocess
 import sys
 import tempfile
@@ -120,12 +122,19 @@ class Office:
         self.process.stderr.close()
 
 
+def seconds_of_commands():
+    """The seconds that the commands that have ended took of the processor."""
+    used = resource.getrusage(resource.RUSAGE_CHILDREN)
+    return used.ru_utime + used.ru_stime
+
+
 @contextmanager
 def timed(words, desk=None):
-    began, spent = time.monotonic(), desk.seconds() if desk else 0
+    seconds = desk.seconds if desk else seconds_of_commands
+    began, spent = time.monotonic(), seconds()
     yield
-    of_office = f"{desk.seconds() - spent:10.1f}" if desk else ""
-    print(f"{words:38} {time.monotonic() - began:10.1f} {of_office}", flush=True)
+    took, spent = time.monotonic() - began, seconds() - spent
+    print(f"{words:38} {took:10.1f} {spent:10.1f}", flush=True)
 
 
 def run(*words):
@@ -136,7 +145,7 @@ def run(*words):
 
 
 def count(desk, stations, texts):
-    """Imports and closes all returns, and certifies; the lots that were needed."""
+    """Imports and closes all returns, and certifies; the lots that were needed, and the seats."""
     with timed("52 imports over HTTP", desk):
         for con, text in texts.items():
             counts = json.loads(desk.ask("POST", f"/con/{con}/import", text))
@@ -157,7 +166,7 @@ def count(desk, stations, texts):
                 desk.ask("POST", f"/con/{con}/certify", '{"edition":2}')
             elif "refused" in said:
                 sys.exit(f"{con}: {said}")
-    return lots
+    return lots, {con: json.loads(desk.ask("GET", f"/con/{con}"))["seats"] for con in stations}
 
 
 def publish(desk):
@@ -172,7 +181,7 @@ def publish(desk):
             Path(f"returns/{con}.csv").write_text(text, encoding="utf-8")
 
 
-def recount(lots):
+def recount(lots, wanted):
     """Counts the election again, and compares the seats with those of the office."""
     Path("lots").write_text("".join(" ".join([con, *lot]) + "\n" for con, lot in lots.items()))
     script = ROOT / "examples/recount.py"
@@ -181,28 +190,29 @@ def recount(lots):
     with timed("recount of the returns"):
         said = run(sys.executable, script, "--setup", "setup.toml", "--returns", "returns",
                    "--lots", "lots")
-    seats = sum(int(word) for line in said.splitlines()
-                for word in line.split(" (")[0].split()[2::2])
-    print(f"seats in all: {seats}")
+    rows = [line.split(" (")[0].split() for line in said.splitlines()]
+    found = {con: [int(seats) for seats in words[1::2]] for con, *words in rows}
+    if found != wanted or sum(map(sum, found.values())) != sum(SEATS.values()):
+        sys.exit(f"the seats are not those of the office: {said}")
+    print(f"the same {sum(SEATS.values())} seats, with {len(lots)} lots")
 
 
 def election(program, total):
     draw, stations = random.Random(2023), spread(total)
-    with timed("setup and returns written"):
-        Path("setup.toml").write_text(setup_of(stations), encoding="utf-8")
-        texts = {con: returns_of(number, many, draw)
-                 for number, (con, many) in enumerate(stations.items(), 1)}
+    Path("setup.toml").write_text(setup_of(stations), encoding="utf-8")
+    texts = {con: returns_of(number, many, draw)
+             for number, (con, many) in enumerate(stations.items(), 1)}
     with timed("office new"):
         run(program, "new", "--db", "office.db", "--setup", "setup.toml")
     desk = Office(program, "office.db")
     try:
-        lots = count(desk, stations, texts)
+        lots, seats = count(desk, stations, texts)
         publish(desk)
     finally:
         desk.end()
     with timed("office show, which opens it again"):
         run(program, "show", "--db", "office.db", "--report", "country")
-    recount(lots)
+    recount(lots, seats)
 
 
 def main():
@@ -213,7 +223,8 @@ def main():
     command.add_argument("--folder", type=Path, help="where the database is, as /dev/shm")
     given = command.parse_args()
     program = given.program.resolve()
-    print(f"{'':38} {'seconds':>10} {'of office':>10}")
+    print(f"{os.cpu_count()} processors, load {os.getloadavg()[0]:.1f}")
+    print(f"{'':38} {'seconds':>10} {'processor':>10}", flush=True)
     with tempfile.TemporaryDirectory(dir=given.folder) as folder:
         os.chdir(folder)
         election(program, given.stations)

@@ -17,7 +17,7 @@ import sys
 import tempfile
 from pathlib import Path
 
-# What is imported from here is not to be left beside it in compiled form.
+# The modules imported from here are not to be left beside it in compiled form.
 sys.dont_write_bytecode = True
 from building import PROGRAM, build_office
 from check import HOSTILE, WORKLOADS, text_of

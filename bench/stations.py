@@ -26,7 +26,7 @@ import sys
 import tempfile
 from pathlib import Path
 
-# What is imported from here is not to be left beside it in compiled form.
+# The modules imported from here are not to be left beside it in compiled form.
 sys.dont_write_bytecode = True
 from building import PROGRAM, Kept, processor
 from check import LISTS, codes
@@ -59,12 +59,12 @@ PROGRESS_GOAL = 10
 
 
 def certificates(con, edition, count):
-    """The messages that certify a constituency and open it again, so many times, from an edition on."""
+    """The messages that certify a constituency and open it again, this many times, from an edition on."""
     return [turn for at in range(edition, edition + 2 * count, 2) for turn in (certify(con, at), reopen(con, at + 1))]
 
 
 def moves(con, count):
-    """The messages that query, correct and close so many closed returns, one station after the other."""
+    """The messages that query, correct and close this many closed returns, one station after the other."""
     returns, messages = con.returns(), []
     for place in range(count):
         again, at = divmod(place, len(returns))
@@ -79,7 +79,7 @@ def moves(con, count):
 
 
 def kinds_of(con, asked, edition=1):
-    """So many messages of each kind, in the order in which they are asked of a constituency in an edition."""
+    """This many messages of each kind, in the order in which they are asked of a constituency in an edition."""
     return {
         "GET con": [get(f"/con/{con.code}")] * asked,
         "GET tally": [get(f"/con/{con.code}/tally")] * asked,

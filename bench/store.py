@@ -23,7 +23,7 @@ copy in memory (/dev/shm). Where `strace` is installed, a third run counts how l
 the disk (fdatasync, fsync).
 
 With `--country` a country of 52 constituencies, 60,000 stations and 20 lists is measured once, and a
-tenth of it; with numbers after it, countries of so many stations in place of these.
+tenth of it; with numbers after it, countries of this many stations in place of these.
 
 With `--part` only the parts that are named are measured.
 
@@ -42,7 +42,7 @@ import tempfile
 from contextlib import closing
 from pathlib import Path
 
-# What is imported from here is not to be left beside it in compiled form.
+# The modules imported from here are not to be left beside it in compiled form.
 sys.dont_write_bytecode = True
 from building import HERE, PROGRAM, build_office, processor
 from check import LISTS, codes
@@ -85,7 +85,7 @@ CONSTITUENCIES = 52
 COUNTRY_LISTS = 20
 COUNTRY_STATIONS = [6_000, 60_000]
 
-# What is measured of a constituency.
+# The parts that are measured of a constituency.
 PARTS = ["import", "opening", "instructions", "growth", "returns", "requests"]
 
 # How many returns are imported where instructions are counted.
@@ -213,7 +213,7 @@ def grow(folder, program, con, rounds):
 
 
 def opening_of(db, program, rounds):
-    """What an opening takes."""
+    """The cost of an opening."""
     return in_turn(rounds, {"": open_command(program, db)}, refused=[""])[""]
 
 
@@ -378,7 +378,7 @@ def prepare(folder, program, con):
 
 
 def country(folder, program, alone, stations):
-    """Measures a country of so many stations once: `new`, the imports, an opening and a certificate.
+    """Measures a country of this many stations once: `new`, the imports, an opening and a certificate.
 
     All constituencies but the last are imported by messages to one server, since each `office import`
     opens the whole database.
@@ -411,7 +411,7 @@ def imports_by_messages(program, db, cons):
 
 
 def cons_of(cons, stations, lists):
-    """So many constituencies, among which the stations are shared."""
+    """This many constituencies, among which the stations are shared."""
     all_stations = codes("station", stations)
     bounds = [stations * place // cons for place in range(cons + 1)]
     return [

@@ -48,7 +48,7 @@ BASES = {"valid": "the valid votes", "lists": "the votes of the lists"}
 
 
 class Unusable(Exception):
-    """What was given cannot be used."""
+    """The files or numbers given cannot be used."""
 
 
 def need(holds, words):
@@ -78,7 +78,7 @@ class Constituency:
 
 def read_setup(file):
     """The constituencies of a setup, as the office takes it or as it is published."""
-    text = file.read_text(encoding="utf-8-sig")
+    text = file.read_bytes().decode("utf-8-sig")
     lists, stations = "list", "station"
     if file.suffix == ".json":
         entries, lists, stations = json.loads(text), "lists", "stations"
@@ -107,7 +107,7 @@ def read_rows(file):
 
 
 def counts_of(file, con, second, header, rows):
-    """What each station has in a file: what the second column says, and the counts: the votes of each list, the blank votes
+    """The line of each station in a file: what the second column says, and the counts: the votes of each list, the blank votes
     and the spoiled ones, or None where they are not filled in. The second column is `slip` or `drawn`."""
     wanted = ["station", second, "blank", "spoiled", *con.lists]
     need(header == wanted, f"{file}: the header is not {','.join(wanted)}")
@@ -192,7 +192,7 @@ class Assertion:
     high: int  # and at most
 
     def votes(self):
-        """So many votes have to be recorded wrongly at least if it is false."""
+        """This many votes have to be recorded wrongly at least if it is false."""
         return Fraction(self.margin, self.high - self.low)
 
 
@@ -208,7 +208,7 @@ class Audit:
         self.lots = [it for it in self.assertions if it.margin <= 0]
         # Of each station the bound, in the setup's order, and the sum of the bounds so far.
         self.rows = [(*it.terms, it.low, it.margin) for it in self.assertions]
-        # The same with the most that a paper can come to there, the greatest first.
+        # These with the most that a paper can come to there, the greatest first.
         self.by_most = [] if self.lots else sorted(
             ((-((it.low - max(it.high, 0)) * MILLION // it.margin), row) for it, row in zip(self.assertions, self.rows)), reverse=True)
         self.bounds = {} if self.lots else {
@@ -276,7 +276,7 @@ class Audit:
                     for (i, a), (j, b), (k, c), _, margin in self.rows)
 
     def bound(self, counts, papers):
-        """Of all assertions the largest of: what these counts of a station add to the sum, less the least that so many papers, of
+        """Of all assertions the largest of: what these counts of a station add to the sum, less the least that this many papers, of
         all its electors and agents, could add, over the margin. What cannot come to more than was found is not looked at."""
         found = -math.inf
         for most, ((i, a), (j, b), (k, c), low, margin) in self.by_most:
@@ -297,12 +297,12 @@ class Audit:
         return self.largest([a - b for a, b in zip(self.seen(self.recorded[station]), self.seen(papers))])
 
     def factor(self, station, error):
-        """What a draw multiplies the risk by, above and below the line; the latter is 0 where the error is as great as can be."""
+        """The factor by which a draw multiplies the risk, above and below the line; the latter is 0 where the error is as great as can be."""
         total, bound = self.sums[-1], self.bounds[station]
         return (total - MILLION) * bound, total * (bound - error)
 
     def expected(self, times, wrong=0):
-        """How many draws are expected to make the risk so many times less, where this part of all votes is recorded wrongly,
+        """How many draws are expected to make the risk this many times less, where this part of all votes is recorded wrongly,
         each to the harm of the closest assertion. None where no number does."""
         total = self.sums[-1] / MILLION
         if total <= 1:
@@ -313,7 +313,7 @@ class Audit:
         return math.ceil(math.log(times) / (math.log1p(-taint) - math.log1p(-1 / total)))
 
     def reached(self, draws):
-        """How many stations and papers so many draws are expected to reach."""
+        """How many stations and papers this many draws are expected to reach."""
         chances = {station: -math.expm1(draws * math.log1p(-min(bound / self.sums[-1], 1 - 1e-12)))
                    for station, bound in self.bounds.items()}
         return sum(chances.values()), sum(chance * sum(self.recorded[station]) for station, chance in chances.items())
@@ -333,7 +333,7 @@ def decimal(millionths):
 
 
 def print_sums(given, returns):
-    """What the audit is of, so that it can be made again."""
+    """The subject of the audit, so that it can be made again."""
     for name, file in (("setup", given.setup), ("returns", returns)):
         print(f"{name:8} {hashlib.sha256(file.read_bytes()).hexdigest()}  {file.name}")
 
@@ -346,7 +346,7 @@ def print_lots(audit):
 
 
 def work(audit, draws):
-    """The words for so many draws; whether that is nearly all of the work."""
+    """The words for this many draws; whether that is nearly all of the work."""
     if draws is None:
         return "no number of draws is enough", True
     stations, papers = audit.reached(draws)

@@ -38,7 +38,7 @@ def setup_of(entry):
 
 
 class Chain:
-    """What is known of the lines so far, and of those that were shown."""
+    """The facts known of the lines so far, and of those that were shown."""
 
     def __init__(self, shown=None):
         self.number, self.hash, self.setup, self.shown = 0, FIRST, None, dict(shown or {})

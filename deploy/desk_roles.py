@@ -28,10 +28,10 @@ ACTS = {
 # Bytes that the body of an import, and of another command, may have.
 MOST_OF_IMPORT, MOST_OF_COMMAND = 1_048_576, 16_384
 
-# What a request of each kind is answered from: `page` is the clerks' page, `setup` the lists of the
-# setup, `file` a press page. The reader has each `table`, also those that are asked for `now`, for
-# who acts on them; what says `slips`, for who may see these; and `all` stations of a constituency,
-# as a role may see them. The recorder has a `history`, and passes on each `command`.
+# The source of the answer to each kind of request: `page` is the clerks' page, `setup` the lists of
+# the setup, `file` a press page. The reader has each `table`, also those that are asked for `now`,
+# for who acts on them; what says `slips`, for who may see these; and `all` stations of a
+# constituency, as a role may see them. The recorder has a `history`, and passes on each `command`.
 READ = ("GET", "HEAD")
 METHODS = {"page": READ, "logout": READ, "setup": READ, "file": READ, "table": READ, "slips": READ,
            "now": ("GET",), "now_slips": ("GET",), "now_all": ("GET",), "history": ("GET",),
@@ -43,7 +43,8 @@ SEE_SLIPS = ("clerk", "board")
 
 CODE = "[A-Za-z0-9_-]{1,16}"
 STATION, CON = f"/station/(?P<station>{CODE})", f"/con/(?P<con>{CODE})"
-REPORTS, OF_ALL = "tally|seats|quotients|awards|quota|short|holders|past", "stations|returns"
+REPORTS = "tally|seats|quotients|awards|quota|short|holders|past|provisional"
+OF_ALL = "stations|returns"
 # The kinds by the patterns of their targets: the first that fits decides.
 TARGETS = [(kind, re.compile(pattern)) for kind, pattern in (
     ("table", "/progress|/country"),
@@ -68,7 +69,7 @@ FILES = ("page", "logout", "setup", "file")
 
 @dataclass(frozen=True)
 class Request:
-    """What a target asks for; empty texts where it names no station, constituency or act."""
+    """A request by its target; empty texts where it names no station, constituency or act."""
     kind: str
     path: str
     station: str = ""
@@ -96,7 +97,7 @@ class Request:
 
 
 def request_of(target):
-    """What a target asks for, or None where there is nothing of that name."""
+    """The request of a target, or None where there is nothing of that name."""
     path, question, _ = target.partition("?")
     for kind, pattern in TARGETS:
         found = pattern.fullmatch(path)

@@ -24,7 +24,8 @@ from desk_roles import FROM_A_PAGE, request_of
 ENTER = "/enter/"
 HTML = "text/html; charset=utf-8"
 KINDS = {".html": HTML, ".csv": "text/csv; charset=utf-8", ".json": "application/json",
-         ".atom": "application/atom+xml", ".svg": "image/svg+xml", ".png": "image/png"}
+         ".atom": "application/atom+xml", ".svg": "image/svg+xml", ".png": "image/png",
+         ".pdf": "application/pdf"}
 HEADS = {"Cache-Control": "no-store", "X-Content-Type-Options": "nosniff",
          "X-Frame-Options": "DENY", "Referrer-Policy": "no-referrer",
          "Cross-Origin-Opener-Policy": "same-origin",
@@ -47,14 +48,14 @@ class Person:
 
 @dataclass(frozen=True)
 class House:
-    """What all doors share: two sockets, the files, and who may connect."""
+    """The things that all doors share: two sockets, the files, and who may connect."""
     reader: Path
     recorder: Path
     pages: Path
     setup: bytes
     clerk: str
     enter: Template
-    # What each page begins with, of a trial; else empty.
+    # The text with which each page of a trial begins; else empty.
     banner: str
     # The policy of the press pages, as the proxy has it.
     policy: str
@@ -63,7 +64,7 @@ class House:
 
 
 class Gate:
-    """What commands go through until it is shut."""
+    """The gate through which commands go until it is shut."""
 
     def __init__(self):
         self.condition, self.inside, self.is_shut = threading.Condition(), 0, False

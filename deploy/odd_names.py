@@ -30,7 +30,7 @@ def mixed(text):
 
 
 def look(text):
-    """What a reader sees of a name, without accents, capitals, points and spaces."""
+    """A name as a reader sees it, without accents, capitals, points and spaces."""
     plain = unicodedata.normalize("NFKD", text).translate(LIKE).casefold()
     return "".join(c for c in plain if c.isalnum())
 
@@ -45,7 +45,7 @@ def names_of(setup):
 
 
 def warnings(setup):
-    """What is odd about the names, a line each, and each once."""
+    """The oddities of the names, a line each, and each once."""
     found = {}
     for group in names_of(setup):
         seen = {}

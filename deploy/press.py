@@ -15,8 +15,9 @@ datapackage.json, the schemas and openapi.json say what the files have.
 The pages are made by press_pages.py, the other files by press_data.py. A page is written when something on it changes, and
 those of the country and of the count in each round. The stations of a constituency are asked for once a certificate; without
 one where something of it has changed, and once a minute. With --every a round waits for them for half a second and one answer,
-and the others are asked for in later rounds, those first that waited longest. A file is written beside and renamed, so nobody reads half of one, and once
-more compressed. Where the office does not answer, or its answers do not agree with one another, the page that was there stays,
+and the others are asked for in later rounds, those first that waited longest. If that answer takes longer, as that of a large
+constituency, the rounds after it wait less. A file is written beside and renamed, so nobody reads half of one, and once more
+compressed. Where the office does not answer, or its answers do not agree with one another, the page that was there stays,
 with a line that says how old it is. With --every it goes on until it is ended. Each round prints a line, with how many GETs it
 took; the status is 1 where the last one failed in part. Python 3.11 or later.
 """
@@ -24,6 +25,7 @@ took; the status is 1 where the last one failed in part. Python 3.11 or later.
 import argparse
 import csv
 import gzip
+import hashlib
 import json
 import math
 import os
@@ -39,7 +41,7 @@ from datetime import datetime
 from functools import partial
 from pathlib import Path
 
-from press_data import (OPEN, STATION, adds_up, con_csv, con_json, datapackage, feed, goes_on,
+from press_data import (ACTS, OF_HASH, OPEN, STATION, adds_up, con_csv, con_json, datapackage, feed, goes_on,
                         index_csv, index_json, json_text, manifest, record_csv, results_csv,
                         returns_csv, returns_in, schemas)
 from press_pages import (aged, con_bodies, con_page, count_pages, details_page, index_pages,
@@ -54,10 +56,12 @@ PATIENCE = 60
 ROUTES = Path(__file__).resolve().with_name("openapi.json")
 # A constituency that changes while it is asked for is asked for again, so often.
 TRIES = 3
-# Where there is no certificate the stations are asked for again after so many seconds, though no
+# Where there is no certificate the stations are asked for again after this many seconds, though no
 # number is another one: two changes may leave each as it was. A round of --every asks for stations
-# as long as it waited less than so long for them: the office answers nobody else meanwhile.
-AGAIN, STATIONS = 60, 0.5
+# as long as it waited less than so long for them: the office answers nobody else meanwhile. A round
+# that waited longer leaves less to those after it, at most ten of them: an answer may also be late
+# since the office was at an import.
+AGAIN, STATIONS, MOST_OWED = 60, 0.5, 5.0
 
 
 # ---- asking the office
@@ -177,8 +181,8 @@ def fetched_or_moved(office, con, view):
 
 
 def read_setup(file):
-    """What the pages and the clerks need of a setup: per constituency its names, its rule and its stations."""
-    setup = tomllib.loads(file.read_text(encoding="utf-8"))
+    """The parts of a setup that the pages and the clerks need: per constituency its names, its rule and its stations."""
+    setup = tomllib.loads(file.read_bytes().decode("utf-8-sig"))
     profiles = {profile["code"]: profile for profile in setup["profile"]}
     found = []
     for con in setup["constituency"]:
@@ -267,7 +271,7 @@ def mark_old(site, file):
 
 
 def of_setup(target, found, wanted):
-    """What has to be as the setup has it."""
+    """Fails where the stations or lists are other ones than the setup's."""
     if list(found) != list(wanted):
         raise NoAnswer(f"{target}: other stations or lists than those of the setup")
 
@@ -365,6 +369,17 @@ def write_open(office, folder, site, con, row, entry, seen, may_ask):
     return {OPEN: name} if (folder / name).exists() else {}
 
 
+def acts_of(folder, code, edition, returns):
+    """The PDF files of acts that deploy/papers made of this certificate, each with its kind and its language: its edition and the
+    beginning of the hash of its returns are in their names. An act of another edition or of other returns is none of them."""
+    if edition not in returns:
+        return []
+    digest = hashlib.sha256((folder / returns[edition]).read_bytes()).hexdigest()[:OF_HASH]
+    name = re.compile(rf"act-({'|'.join(ACTS)})-{re.escape(code)}-{edition}-{digest}-([A-Za-z0-9-]+)\.pdf")
+    found = (name.fullmatch(file.name) for file in sorted(folder.glob("act-*.pdf")))
+    return [(one[0], one[1], one[2]) for one in found if one]
+
+
 def write_stations(folder, site, code, con, entry, file, states=None):
     """Writes the pages of the stations from a file of returns."""
     write_parts(folder, f"stations-{code}", stations_pages(site, code, con, entry, text_of(folder / file), states) if file else [])
@@ -390,13 +405,15 @@ def write_parts(folder, name, pages):
 
 @dataclass
 class Seen:
-    """What was seen of an election: its constituencies, and of each what was written last, and the moment that its page says; of one
-    without a certificate its stations, and when they were asked for; what the offices add up."""
+    """The state of an election as it was seen: its constituencies, and of each what was written last, and the moment that its page says; of one
+    without a certificate its stations, and when they were asked for; what the offices add up; the seconds that the last round left
+    for stations, fewer than none where it waited longer."""
     cons: dict = field(default_factory=dict)
     written: dict = field(default_factory=dict)
     moments: dict = field(default_factory=dict)
     stations: dict = field(default_factory=dict)
     country: list | None = None
+    left: float = 0.0
 
 
 def write_con(folder, site, row, con, entry, returns, seen):
@@ -457,7 +474,7 @@ def progress_of(offices):
 
 
 def country_of(offices):
-    """What the offices add up, each at one moment; None where there is no such text, as at a proxy in front of several."""
+    """The sums of the offices, each at one moment; None where there is no such text, as at a proxy in front of several."""
     said = []
     for office in offices:
         status, text = office.get("/country")
@@ -473,7 +490,7 @@ def country_of(offices):
 
 
 class Round:
-    """One round over the constituencies, after what was seen in the ones before. Stations are asked for until the answers took so
+    """One round over the constituencies, after what was seen in the ones before. Stations are asked for until the answers took this
     many seconds."""
 
     def __init__(self, offices, folder, site, setup, seen, seconds):
@@ -484,7 +501,7 @@ class Round:
         self.cons, self.counts, self.files, self.failed = {}, {}, {}, set()
 
     def leave_as_it_is(self):
-        """What is of all offices is of all of them, or stays as it is."""
+        """A file of all offices has all of them, or stays as it is."""
         here = {row["con"] for _, row in self.rows}
         pages = [file for file in self.folder.glob("*.html") if con_of(file.name) not in here]
         for page in pages:
@@ -532,6 +549,8 @@ class Round:
         try:
             files = write_returns(office, self.folder, code, con, entry, may_ask)
             files |= write_open(office, self.folder, self.site, con, self.counts[code], entry, self.seen, may_ask)
+            if con["view"]["certified"]:
+                files["acts"] = acts_of(self.folder, code, con["view"]["edition"], files)
             self.seconds -= office.took - before
         except (ValueError, csv.Error) as error:
             raise NoAnswer(f"/con/{code}/returns: a text that is not of its report: {error!r}") from error
@@ -541,7 +560,7 @@ class Round:
         write_con(self.folder, self.site, self.counts[code], self.cons[code], self.setup.get(code), self.files[code], self.seen)
 
     def write_rest(self, head):
-        """What is of all constituencies."""
+        """Writes the files that are of all constituencies."""
         shown = head and self.rows and put_head(self.folder, head)
         rows = [row for _, row in self.rows]
         if self.whole:
@@ -550,6 +569,11 @@ class Round:
             codes = [row["con"] for row in rows]
             cons = {code: self.seen.cons[code] for code in codes if code not in self.failed}
             write_about(self.folder, self.site, cons, codes if self.whole else None, self.setup, self.seen, shown)
+
+
+def seconds_of_round(seen):
+    """How many seconds a round of --every may wait for stations."""
+    return STATIONS + min(0.0, max(seen.left, -MOST_OWED))
 
 
 def write_all(offices, folder, site, setup, seen, head=None, seconds=math.inf):
@@ -561,6 +585,7 @@ def write_all(offices, folder, site, setup, seen, head=None, seconds=math.inf):
     it.add_up()
     # First what is certified, and then those that waited longest.
     it.each(it.write_returns, lambda one: (not one[1]["certified"], seen.stations.get(one[1]["con"], (None, 0))[1]))
+    seen.left = it.seconds
     it.each(it.write_con)
     it.write_rest(head)
     return len(it.rows) - len(it.failed) + it.whole, it.failures
@@ -590,7 +615,7 @@ def main():
         before, began = asked, time.monotonic()
         try:
             written, failures = write_all(offices, given.folder, site, entries, seen, given.head,
-                                          math.inf if given.every is None else STATIONS)
+                                          math.inf if given.every is None else seconds_of_round(seen))
         except TemplateError as error:
             sys.exit(f"failed: templates: {fault_of(error)}")
         asked = sum(office.asked for office in offices)

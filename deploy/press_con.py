@@ -208,20 +208,22 @@ def past_sections(site, con, order, returns):
 
 
 def files_section(site, code, edition, returns):
-    """Links to the same numbers for programs."""
+    """Links to the acts of the certificate, and to the same numbers for programs."""
     links = [(f"con-{code}.csv", site.said("file_con")),
              (f"con-{code}.json", site.said("file_con_json"))]
     links += [(returns[which], site.said(words, edition=edition))
               for which, words in ((edition, "file_returns"), (OPEN, "file_open"))
               if which in returns]
-    return Part(site.templates.of_con.programs(links))
+    acts = [(name, site.said(f"act_{kind}", language=language))
+            for name, kind, language in returns.get("acts", ())]
+    return Part(site.templates.of_con.programs(links, acts))
 
 
 # ---- pages
 
 
 def con_bodies(site, code, con, row, entry, returns):
-    """What the page of a constituency has, and, where that is too long for one, the pages on which
+    """The parts of the page of a constituency, and, where that is too long for one, the pages on which
     it goes on; `entry` is what the setup says of the constituency, or None."""
     order = {listed["code"]: place for place, listed in enumerate(by_votes(con))}
     names = {listed["code"]: listed["candidates"] for listed in entry["lists"]} if entry else {}

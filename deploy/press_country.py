@@ -1,4 +1,4 @@
-"""What the constituencies of an election are together: seats, votes, turnout, and where a seat was close."""
+"""The constituencies of an election together: seats, votes, turnout, and where a seat was close."""
 
 from dataclasses import dataclass, field
 
@@ -77,7 +77,7 @@ def together(progress, cons, failed, setup, said=None):
 
 
 def sums_of(said):
-    """What several offices add up, together."""
+    """The sums of several offices, together."""
     lists = {}
     for one in said:
         for row in one["lists"]:

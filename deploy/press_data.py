@@ -16,6 +16,9 @@ VERSION = "1.2.0"
 
 # In the name of a file of returns, in the place of the edition of a certificate.
 OPEN = "open"
+# The acts that deploy/papers makes, as the names of their files begin, and how many digits of the
+# hash of the returns in them.
+ACTS, OF_HASH = ("count", "proclamation"), 12
 
 # ---- what a field may be, in the words of JSON Schema, and the fields of each table
 
@@ -166,7 +169,7 @@ def resource(file, words, fields, *key, **more):
 
 
 def resource_of(file, cons):
-    """What a CSV file is, by its name."""
+    """The kind of a CSV file, by its name."""
     if file.name == "index.csv":
         return resource(file.name, "The progress of all constituencies.", PROGRESS, "con")
     if file.name == "results.csv":
@@ -309,7 +312,7 @@ def manifest(files, head, moment):
 
 ATOM = "{http://www.w3.org/2005/Atom}"
 ET.register_namespace("", ATOM[1:-1])
-# What XML 1.0 cannot say, not even escaped.
+# The characters that XML 1.0 cannot have, not even escaped.
 NO_XML = re.compile("[^\t\n\r\x20-\ud7ff\ue000-\ufffd\U00010000-\U0010ffff]")
 NAMES = uuid.UUID("5c1b9a5e-4e0f-4d0c-9a8e-0c6f6f1d2b47")
 
@@ -320,7 +323,7 @@ def identity(*words):
 
 
 def events(con, candidates):
-    """What a constituency shows of its certificates, reopenings and vacancies, as far as can be known in order of time: kind,
+    """The events of a constituency: its certificates, reopenings and vacancies, as far as can be known in order of time: kind,
     words that tell it from any other, the values of its title, and its text."""
     past = con["past"]
     certified = [(one["edition"], {row["code"]: row["seats"] for row in one["lists"]}) for one in past]

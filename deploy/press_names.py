@@ -5,7 +5,7 @@ A name may have characters that turn the direction of a text. On a page each is 
 own, and in plain text between U+2068 and U+2069, which end what a name has begun.
 """
 
-# What begins an isolated part of a text, and what ends it.
+# The characters that begin an isolated part of a text, and the one that ends it.
 BEGINS, ENDS = "\u2066\u2067\u2068", "\u2069"
 # A line that ends would end the isolation too.
 LINE_ENDS = "\n\r\v\f\x1c\x1d\x1e\x85\u2028\u2029"

@@ -62,7 +62,7 @@ def chart_of(site, country):
 
 
 def former_of(site, country, cons):
-    """What seats and shares are compared with, each where it can be."""
+    """The values with which seats and shares are compared, each where it can be."""
     certified = [code for code, con in cons.items() if "seats" in con]
     whole = (country.closed == country.stations and not country.unknown
              and country.bases == {"valid"})
@@ -127,7 +127,7 @@ def programs(site, setup):
 
 
 def country_values(site, country, cons, names):
-    """What the page of the country has, but for its tables."""
+    """The parts of the page of the country, but for its tables."""
     share = site.per_cent(hundredths(country.closed, country.stations))
     return {
         "title": title_of(site), "certified": certified_said(site, country),
@@ -184,7 +184,7 @@ def shown_codes(values, parties, firsts):
 
 
 def in_order(text):
-    """What a name is ordered by: its letters without accents and case."""
+    """The key by which a name is ordered: its letters without accents and case."""
     letters = unicodedata.normalize("NFD", text.casefold())
     return "".join(letter for letter in letters if not unicodedata.combining(letter))
 

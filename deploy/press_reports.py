@@ -1,4 +1,4 @@
-"""What the office's texts say: a reader for each report."""
+"""Readers of the office's texts: one for each report."""
 
 import re
 

@@ -1,4 +1,4 @@
-"""What an office says of its pages, in a folder of its own: title and language, colours of lists,
+"""The settings that an office has for its pages, in a folder of its own: title and language, colours of lists,
 names of stations, a former result, a map, a logo, a style, templates. Each may be missing."""
 
 import base64
@@ -27,7 +27,7 @@ PALETTE = (("#0f4775", "#2f7dc0"), ("#cc5f20", "#ffc08a"), ("#14532d", "#2f8a55"
 LANGUAGES = {file.stem.removeprefix("press_"): file
              for file in Path(__file__).resolve().parent.glob("press_*.toml")}
 ABOUT = {"title": str, "date": date, "authority": str, "licence": str, "language": str,
-         "contact": str, "accessibility": str}
+         "contact": str, "accessibility": str, "place": str, "board": list}
 # Bytes of a logo, which is in each page.
 LOGO_ROOM = 6_000
 SHAPES = {"svg", "g", "path", "polygon", "polyline", "rect", "circle", "ellipse", "line"}
@@ -110,7 +110,16 @@ def read_about(file):
         raise Wrong(f"{file}: no texts of the language {about['language']!r}")
     if not re.fullmatch(r"https?://\S+|[\w.-]+|", about.get("accessibility", "")):
         raise Wrong(f"{file}: accessibility is not an address such as https://example.org/access")
+    for member in about.get("board", ()):
+        if not is_member(member):
+            raise Wrong(f"{file}: board is not tables, each with a name and a role")
     return about
+
+
+def is_member(member):
+    """A member of the board: a name and a role, and perhaps the constituency of the board."""
+    return (isinstance(member, dict) and {"name", "role"} <= member.keys() <= {"name", "role", "con"}
+            and all(isinstance(value, str) and value for value in member.values()))
 
 
 def read_colours(file):
@@ -174,7 +183,7 @@ def read_style(file):
 
 
 class Site:
-    """What the folder says, with the words of its language."""
+    """The settings of the folder, with the words of its language."""
 
     def __init__(self, folder=None):
         folder = folder or Path("/nonexistent")
@@ -216,7 +225,7 @@ class Site:
         return self.words[key].format(**values)
 
     def said(self, key, **values):
-        """The same as a part of a page: escaped, but for values that templates made."""
+        """The text as a part of a page: escaped, but for values that templates made."""
         return Markup.escape(self.words[key]).format(**values)
 
     def number(self, value):

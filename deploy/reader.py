@@ -45,11 +45,11 @@ from recorder import (
 # How many requests of the proxy are read at once; of a port there are few.
 THREADS, PORT_THREADS = 64, 4
 # How many reports of a desk are asked for at once. After a table of all stations the next waits
-# three times as long as it took, and a second at most; so many wait, and others are answered 429.
+# three times as long as it took, and a second at most; this many wait, and others are answered 429.
 AT_ONCE, REST, LONGEST_REST, WAITING = 2, 3, 1.0, 16
 # How long a desk that takes no connection is waited for.
 CONNECTING = 5
-# How many tables of all stations a name may ask for at once, and one more each so many seconds.
+# How many tables of all stations a name may ask for at once, and one more each this many seconds.
 TABLES, TABLE_SECONDS = 20, 0.5
 
 
@@ -81,7 +81,7 @@ class Reader:
 
     def __init__(self, desk, turns, often=None):
         self.desk, self.turns, self.often = desk, turns, often
-        # The tables of all stations: one at a time, not before a moment, for so many who wait.
+        # The tables of all stations: one at a time, not before a moment, for this many who wait.
         self.large, self.moment = threading.Lock(), 0.0
         self.places = threading.BoundedSemaphore(WAITING)
 

@@ -2,7 +2,7 @@
 """Passes commands from the proxy to the office, each recorded on the disk before the office has it.
 
     deploy/recorder.py FOLDER RECORD [--desk HOST:PORT].. [--group NAME] [--room BYTES]
-                       [--setup setup.json] [--shown record.csv]
+                       [--setup setup.json] [--shown record.csv] [--two-of-board]
 
     deploy/recorder.py /run/office-recorder /var/log/office/commands.log --desk 127.0.0.1:8080
 
@@ -20,6 +20,13 @@ The record has a line of JSON for each command, with `n`, its own number, and an
 the command; each has in `before` the SHA-256 of the line before it. So no line can be changed, removed or put between others
 without changing the hash of the last, which is in FOLDER/head with its number. Each line goes to standard output too.
 
+With --two-of-board a lot, a certificate and a reopening need two names of the board: the first request is recorded and answered
+202, `waits_for_second_name`, and the same request from another name within an hour is sent to the office. It is another request
+where its body differs, as where it names another edition.
+
+Files are imported and tried one at a time; while others give commands, the desk is left to them three times as long as a file
+took. Of a name four may wait or be under way, and others are answered 429.
+
 While a desk starts again a command waits for it. A desk that ended without an answer is sent the command again: no command
 acts a second time.
 
@@ -33,6 +40,7 @@ read. Python 3.11 or later.
 
 import argparse
 import base64
+import collections
 import contextlib
 import csv
 import fcntl
@@ -53,23 +61,28 @@ from datetime import datetime
 from pathlib import Path
 from typing import NamedTuple
 
-# So many requests of a desk are under way at once; others wait.
+import second_name
+
+# This many requests of a desk are under way at once; others wait.
 THREADS = 64
 # How long a command waits for a desk that does not listen, and for the answer of one that does.
 WAIT, PATIENCE = 60, 300
 # How often a command is sent to a desk that ends without an answer.
 TRIES = 5
-# A station gives few commands: so many at once, and then one each so many seconds.
+# A station gives few commands: this many at once, and then one each this many seconds.
 STATION_COMMANDS, STATION_SECONDS = 20, 15
-# One of the staff sends so many bytes at once, and then so many a second, each command as if it had
-# so many more.
+# One of the staff sends this many bytes at once, and then this many a second, each command as if it
+# had this many more.
 STAFF_BYTES, STAFF_RATE, COMMAND_BYTES = 32 << 20, 20_000, 1000
-# A history has the last lines, so many of what was done and as many of what was not, and of one
+# This many files of a name, and of all, may wait for their turn or be under way. After one the next
+# waits three times as long as it took, and this many seconds at most, where others give commands.
+FILES_OF_NAME, FILES, REST, LONGEST_REST = 4, 16, 3, 10.0
+# A history has the last lines, this many of what was done and as many of what was not, and of one
 # that is longer not what was sent.
 LINES, LONGEST = 200, 65_536
 # The roles that see what a slip says. Who enters it a second time is not to see the first entry.
 SEE_FIGURES = ("clerk", "board")
-# What a status leaves open: the command may have been done.
+# The statuses that leave it open: the command may have been done.
 UNKNOWN = (None, 502, 503, 504)
 FIRST = "0" * 64
 
@@ -120,12 +133,14 @@ class Record:
     def __init__(self, file, room, setup=None, shown=None):
         self.file, self.room, self.lock = file, room, threading.Lock()
         self.index = Index(setup.stations if setup else None)
+        self.waiting = second_name.Waiting()
         self.descriptor = os.open(file, os.O_WRONLY | os.O_APPEND | os.O_CREAT, 0o640)
         self.setup, begins, shown = setup, "", dict(shown or {})
         self.number, self.size, line = 0, 0, b"\n"
         with open(file, "rb") as lines:
             for self.number, line in enumerate(lines, 1):
                 self.index.take(line, self.size)
+                self.take_of_board(line)
                 self.size += len(line)
                 begins = setup_of(line) if self.number == 1 else begins
                 if shown.get(self.number) == {hash_of(line.removesuffix(b"\n"))}:
@@ -143,18 +158,41 @@ class Record:
     def add(self, entry):
         """Adds a line, and returns its number; an OSError where that cannot be done. A new record begins with its setup."""
         with self.lock:
-            if self.setup and not self.number:
-                self.write({"setup": self.setup.hash})
+            self.begin()
             line, place = self.write(entry)
             number = self.number
         self.index.take(line, place)
         return number
 
-    def write(self, entry):
+    def add_of_board(self, entry):
+        """Adds a request that needs two names: its number, and the answer to it where it waits for the second one."""
+        with self.lock:
+            self.begin()
+            moment = datetime.now().astimezone()
+            firsts = self.waiting.firsts(entry, moment)
+            others = self.waiting.others(entry, moment)
+            line, place = self.write(entry | ({"first": max(firsts)} if firsts else {"status": second_name.WAITS}), moment)
+            number = self.number
+            self.take_of_board(line)
+        self.index.take(line, place)
+        return number, None if firsts else waits(moment, others)
+
+    def take_of_board(self, line):
+        """A line of the record, whatever is in it. Few are of requests that need two names, and only these are read."""
+        if b'"status": 202,' in line or b'"first": ' in line:
+            with contextlib.suppress(ValueError, KeyError, TypeError, AttributeError, RecursionError):
+                self.waiting.take(json.loads(line))
+
+    def begin(self):
+        """A new record begins with its setup."""
+        if self.setup and not self.number:
+            self.write({"setup": self.setup.hash})
+
+    def write(self, entry, moment=None):
         """Writes a line; the line, and its place in the file."""
-        number = self.number + 1
-        line = json.dumps({"n": number, "time": datetime.now().astimezone().isoformat(timespec="milliseconds"), **entry,
-                           "before": self.last}, ensure_ascii=False).encode()
+        number, moment = self.number + 1, moment or datetime.now().astimezone()
+        line = json.dumps({"n": number, "time": moment.isoformat(timespec="milliseconds"), **entry, "before": self.last},
+                          ensure_ascii=False).encode()
         whole = b"\n" * self.is_cut + line + b"\n"
         if self.fault:
             raise OSError(self.fault)
@@ -201,6 +239,14 @@ class Record:
         with self.lock:
             found = {"n": self.number, "hash": self.last, "time": datetime.now().astimezone().isoformat(timespec="seconds")}
             return found | ({"fault": self.fault} if self.fault else {})
+
+
+def waits(moment, others):
+    """The answer to a request that waits for a second name: until when, and what else waits there."""
+    until = (moment + second_name.PATIENCE).isoformat(timespec="seconds")
+    said = [{"name": name, "time": first.isoformat(timespec="seconds"), "act": act, "body": body}
+            for name, first, act, body in others[-5:]]
+    return Answer(second_name.WAITS, json.dumps({"word": "waits_for_second_name", "until": until, "others": said}).encode())
 
 
 class Index:
@@ -310,7 +356,7 @@ def text_or_bytes(name, data):
 
 
 class Limit:
-    """What a name may still give. The proxy has seen its password: nobody else uses it up."""
+    """The commands that a name may still give. The proxy has seen its password: nobody else uses it up."""
 
     def __init__(self):
         self.spent, self.lock = {}, threading.Lock()
@@ -329,13 +375,45 @@ class Limit:
             return False
 
 
+class Files:
+    """The files of a desk, imported or tried one at a time, so that other commands wait for one at most."""
+
+    def __init__(self):
+        self.turn, self.lock, self.names = threading.Lock(), threading.Lock(), collections.Counter()
+        # When the last file began, from when on the next one may, and when another command came.
+        self.began, self.moment, self.other = 0.0, 0.0, -1.0
+
+    def see_another(self):
+        self.other = time.monotonic()
+
+    def passed(self, name, act):
+        """The answer to an act, once it has its turn; 429 where too many wait."""
+        with self.lock:
+            if self.names[name] == FILES_OF_NAME or self.names.total() == FILES:
+                return TOO_MANY
+            self.names[name] += 1
+        try:
+            with self.turn:
+                left = self.moment - time.monotonic()
+                if left > 0 and self.other >= self.began:
+                    time.sleep(left)
+                self.began = time.monotonic()
+                found = act()
+                took = time.monotonic() - self.began
+                self.moment = time.monotonic() + min(REST * took, LONGEST_REST)
+                return found
+        finally:
+            with self.lock:
+                self.names[name] -= 1
+
+
 class Desk:
     """An office on a port of this machine, which answers one connection after the other."""
 
     def __init__(self, address, connecting=PATIENCE):
         host, port = address.rsplit(":", 1)
         self.address, self.connecting = (host, int(port)), connecting
-        self.lock = threading.Lock()
+        self.lock, self.files = threading.Lock(), Files()
 
     def connected(self, wait):
         """A connection, once the desk listens; None where it does not for long."""
@@ -429,8 +507,9 @@ def serve(listener, server):
 
 
 class Recorder:
-    def __init__(self, record, desk, office, limit):
+    def __init__(self, record, desk, office, limit, two_of_board=False):
         self.record, self.desk, self.office, self.limit = record, desk, office, limit
+        self.two_of_board = two_of_board
 
     def history(self, station, fields):
         """Who did what to a station, for a role that may see it."""
@@ -451,6 +530,15 @@ class Recorder:
         name, role = fields["office-name"], fields["office-role"]
         if self.limit.is_over(name, role, len(body)):
             return TOO_MANY
+        act = path.split("/")[3]
+        if fields["office-allowed"] == "1" and act in ("import", "trial"):
+            return self.desk.files.passed(name, lambda: self.commanded(method, path, fields, body))
+        self.desk.files.see_another()
+        return self.commanded(method, path, fields, body)
+
+    def commanded(self, method, path, fields, body):
+        """The answer to a command: it is recorded, and the desk has it; a trial is not recorded."""
+        name, role = fields["office-name"], fields["office-role"]
         if path.split("/")[3] == "trial":
             return self.desk.ask(method, path, body) if fields["office-allowed"] == "1" else FORBIDDEN
         entry = {"name": name, "role": role, "address": fields["office-address"], "office": self.office, "method": method, "path": path}
@@ -458,8 +546,14 @@ class Recorder:
             if fields["office-allowed"] != "1":
                 self.record.add(entry | {"bytes": len(body), "status": 403})
                 return FORBIDDEN
-            number = self.record.add(entry | text_or_bytes("body", body))
+            entry |= text_or_bytes("body", body)
+            if self.two_of_board and second_name.needs_two(path):
+                number, waiting = self.record.add_of_board(entry)
+            else:
+                number, waiting = self.record.add(entry), None
             self.record.sync()
+            if waiting:
+                return waiting
         except OSError as error:
             print(f"not recorded, and not done: {name} {method} {path}: {error}", file=sys.stderr, flush=True)
             return UNAVAILABLE
@@ -511,6 +605,7 @@ def main():
     command.add_argument("--room", type=int, default=256 << 20, metavar="BYTES", help="what has to be left on the disk of the record")
     command.add_argument("--setup", type=Path, metavar="FILE", help="setup.json, as setup-json writes it")
     command.add_argument("--shown", type=Path, metavar="FILE", help="what the press pages have shown of the record: record.csv")
+    command.add_argument("--two-of-board", action="store_true", help="a lot, a certificate and a reopening need two names")
     given = command.parse_args()
     try:
         setup, shown = read_setup(given.setup) if given.setup else None, read_shown(given.shown)
@@ -530,7 +625,7 @@ def main():
     for office, (listener, address) in enumerate(zip(listeners, desks), 1):
         desk = Desk(address)
         for _ in range(THREADS):
-            one = Recorder(record, desk, office, limit)
+            one = Recorder(record, desk, office, limit, given.two_of_board)
             threading.Thread(target=serve, args=(listener, one), daemon=True).start()
     show_head(given.folder, record)
 

@@ -330,7 +330,7 @@ def other_columns(table):
 
 
 def read_columns(folder, faults):
-    """What `columns.toml` says; without the file, nothing."""
+    """The contents of `columns.toml`; without the file, nothing."""
     file = folder / "columns.toml"
     if not file.exists():
         return {}

@@ -1,4 +1,4 @@
-"""What `deploy/status` looks at: each function looks at one part, and returns what it found."""
+"""The looks of `deploy/status`: each function looks at one part, and returns what it found."""
 
 import hashlib
 import http.client
@@ -18,7 +18,7 @@ HERE = Path(__file__).resolve().parent
 RECOUNTS = (HERE / "recount.py", HERE.parent / "examples/recount.py")
 # Seconds that an answer may take, and a day and a megabyte.
 PATIENCE, DAY, MEGABYTE = 10, 86_400, 1 << 20
-# What the first line of a record has as the hash of the line before it.
+# The first line of a record has this as the hash of the line before it.
 FIRST = "0" * 64
 
 
@@ -37,7 +37,7 @@ class Broken(Exception):
 
 
 class ToSocket(http.client.HTTPConnection):
-    """A connection to the socket of the recorder."""
+    """A connection to the socket of the recorder or the reader."""
 
     def __init__(self, file):
         super().__init__("office", timeout=PATIENCE)
@@ -81,6 +81,12 @@ def look_at_recorder(file, of):
     """The recorder, by a history that is for nobody: it refuses that, and records nothing."""
     fields = {"Office-Allowed": "0", "Office-Role": "nobody"}
     return of_answer("recorder", of, 403, answered(ToSocket(file), "/history/-", fields))
+
+
+def look_at_reader(file, of):
+    """The reader, by the progress that it gets from the desk. One that is away is not waited for."""
+    fields = {"Office-Allowed": "1", "Office-Wait": "no"}
+    return of_answer("reader", of, 200, answered(ToSocket(file), "/progress", fields))
 
 
 def spoken(seconds):
@@ -216,7 +222,7 @@ def followed_on(lines, before, end, head):
 
 
 def entry_of(line):
-    """What a line says, or None where it was cut."""
+    """The contents of a line, or None where it was cut."""
     try:
         entry = json.loads(line)
     except (ValueError, RecursionError):

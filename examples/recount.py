@@ -100,7 +100,7 @@ def judged(con, cast, lot):
 
 
 def recount(select, con):
-    """What differs in a constituency of a database, as a list of words."""
+    """The differences in a constituency of a database, as a list of words."""
     code, lists, cast = [con["code"]], len(con["list"]), {}
     for station, item, n in select("SELECT station, coalesce(item, 0), coalesce(n, 0) FROM returns "
                                    "LEFT JOIN counts USING (station) "
@@ -205,7 +205,7 @@ def main():
     try:
         if given.file:
             return count_database(given.file.resolve())
-        cons = read_setup(given.setup.read_text(encoding="utf-8"))
+        cons = read_setup(given.setup.read_bytes().decode())
         return count_returns(cons, given.returns, read_lots(given.lots, cons))
     except Exception as error:  # whatever it is: 1 is the status of a difference
         print(f"recount.py: error: {type(error).__name__}: {error}", file=sys.stderr)

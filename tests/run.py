@@ -33,6 +33,8 @@ from pathlib import Path
 
 ROOT = Path(__file__).resolve().parent.parent
 SECONDS = ROOT / "tests/seconds.txt"
+# The program that `rt ci` builds.
+PROGRAM = ROOT / "crates/tally_office/out/tally_office"
 # The folders of which no test may be skipped.
 NEEDED = ("program", "documents")
 # Programs outside of tests/ that are parts too, and refuse the program memory.
@@ -105,7 +107,7 @@ def named(parts, name):
 
 
 def result_of_unittest(part, status, text):
-    """What a suite comes to, by what `unittest -v` printed."""
+    """The outcome of a suite, by what `unittest -v` printed."""
     failed = set(re.findall(r"^(?:FAIL|ERROR): (\w+ \([\w.]+\)|.*)", text, re.M))
     skipped, last, notes = set(), "", []
     for line in text.splitlines():
@@ -125,7 +127,7 @@ def result_of_unittest(part, status, text):
 
 
 def result_of_last_line(part, status, text):
-    """What another program comes to, by its last line."""
+    """The outcome of another program, by its last line."""
     found = COUNTS.fullmatch(text.rstrip("\n").rpartition("\n")[2])
     if not found:
         return Result(part, failed=1, text=text + "\nits last line does not say what passed\n")
@@ -172,6 +174,9 @@ class Runner:
         count = len(PORTS) // self.places
         first = PORTS[place * count]
         environment = {**os.environ, "TEST_PORTS": f"{first}-{first + count - 1}"}
+        if os.access(PROGRAM, os.X_OK):
+            # (suites that need nothing but Python run the program only where it is named)
+            environment.setdefault("OFFICE_PROGRAM", str(PROGRAM))
         with tempfile.TemporaryFile() as said:
             ran = subprocess.Popen(
                 part.words,

@@ -180,16 +180,30 @@ async function command(target, body, done, receipt) {
   setBusy(true);
   say(T.sent);
   const answer = await ask("POST", target, body), value = answer.value || {};
-  if (value.group) lot = { con: shown.con, edition: shown.view.edition, group: value.group };
+  // A request of the board that waits for a second name is not done. That of a lot says among whom.
+  const waits = answer.status === 202, group = value.group || (waits && lotOf(value));
+  if (group) lot = { con: shown.con, edition: shown.view.edition, group };
   if (shown.station && (value.now || value.rev)) revisions[shown.station] = value.now || value.rev;
   if (answer.ok) shown.again = false;
   if (answer.ok && receipt.leaves) listed.filter((one) => one.code === receipt.station).forEach((one) => { one.status = receipt.leaves; });
   showOpen();
   const trouble = await look();
-  say(`${answer.ok ? done(value) : sentence(answer)}${trouble}`, answer.ok ? "done" : "refused");
-  if (answer.ok) showReceipt(done(value), answer.text, receipt);
+  say(`${waits ? waitsFor(value) : answer.ok ? done(value) : sentence(answer)}${trouble}`, waits ? "" : answer.ok ? "done" : "refused");
+  if (answer.ok && !waits) showReceipt(done(value), answer.text, receipt);
   setBusy(false);
   return answer;
+}
+
+function lotOf({ others }) {
+  const order = others.filter(({ act }) => act === "draw").map(({ body }) => read(body).order).at(-1);
+  return Array.isArray(order) ? [...order].sort() : null;
+}
+
+// Until when a request waits for a second name, and what others asked for in its place.
+function waitsFor({ until, others }) {
+  const titles = { draw: T.draw_title, certify: T.certify_title, reopen: T.reopen_title };
+  const more = others.map(({ name, act, body }) => T.other_waits({ name, act: titles[act], said: saidOf(read(body)) }));
+  return [T.waits_for_name({ until: moment(new Date(until)) }), ...more].join(" ");
 }
 
 // What has the focus loses it while it is disabled, and has it again afterwards.
@@ -558,9 +572,9 @@ function read(text) {
 }
 
 // What a command said of a return, as far as it can be read.
-function saidOf({ slip, votes, blank, spoiled, note }) {
+function saidOf({ slip, votes, blank, spoiled, note, order }) {
   const lists = Array.isArray(votes) ? votes.map((many, place) => `${(constituency().lists[place] || { code: "?" }).code} ${many}`) : [];
-  const parts = [...(slip ? [T.said_slip({ slip })] : []), ...lists, ...(blank === undefined ? [] : [T.said_blank({ number: blank }), T.said_spoiled({ number: spoiled })]), ...(note ? [T.said_note({ note: isolated(String(note)) })] : [])];
+  const parts = [...(slip ? [T.said_slip({ slip })] : []), ...lists, ...(blank === undefined ? [] : [T.said_blank({ number: blank }), T.said_spoiled({ number: spoiled })]), ...(Array.isArray(order) ? order : []), ...(note ? [T.said_note({ note: isolated(String(note)) })] : [])];
   return parts.length ? `: ${parts.join(", ")}` : "";
 }
 
@@ -644,6 +658,7 @@ async function choose(con, station) {
 async function begin() {
   const [own, file] = await Promise.all([ask("HEAD", "/clerk.html"), ask("GET", "/setup.json")]);
   person = { name: own.headers.get("X-Office-Name") || "", role: own.headers.get("X-Office-Role") || "" };
+  const bound = own.headers.get("X-Office-Bound-To");
   element("person").textContent = person.name ? `${person.name}, ${ROLES[person.role] || person.role}` : "";
   setup = file.value || [];
   setupHash = crypto.subtle ? await hashOf(file.text) : "";
@@ -652,6 +667,9 @@ async function begin() {
     for (const list of one.lists) Object.assign(list, { name: isolated(list.name), candidates: list.candidates.map(isolated) });
   }
   if (!setup.length) return say(T.no_setup, "refused");
+  // A name that is bound to constituencies may act in no other.
+  if (bound !== null) setup = setup.filter((one) => bound.trim().split(" ").includes(one.code));
+  if (!setup.length) return say(T.nowhere, "refused");
   element("con").replaceChildren(...setup.map((one) => {
     const option = made("option", `${one.name} (${one.code})`);
     option.value = one.code;

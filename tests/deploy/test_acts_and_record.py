@@ -79,6 +79,8 @@ class Entries(SiteCase):
             entries(record, "--office", copy),
             (0, ["closed 2, of these by a second entry 1, to look at 0"]),
         )
+        # The copy is still one file, as the board's papers want it.
+        self.assertEqual([file.name for file in Path("copies").iterdir()], [copy.name])
         status, said = entries(record, "--office", later)
         rest = "and no acts of this record left it so"
         self.assertEqual(

@@ -102,7 +102,7 @@ class AtTheLimit(Case):
     """A draw without an error multiplies the risk by (1 - 1/U)."""
 
     def followed(self, risk, draws):
-        """The status of an audit of so many draws without an error, at this limit."""
+        """The status of an audit of this many draws without an error, at this limit."""
         rows = [[60, 20, 0, 0], [50, 30, 0, 0], [10, 30, 0, 0]]
         found = audit_of(con_of("dhondt", 3, 2, [100] * 3), rows)
         given = SimpleNamespace(seed=SEED, risk=risk)

@@ -267,8 +267,8 @@ class Backup(SiteCase):
         self.assertEqual((status, out.split()[1:], said), (0, ["is", "the", "same", "already"], ""))
 
     def test_a_copy_and_what_came_after_it(self):
-        """What is done while the copy is looked at, which takes a while, is sent after it from the
-        record: nothing is lost between them."""
+        """A command that is done while the copy is looked at, which takes a while, is sent after
+        it from the record: nothing is lost between them."""
         script = loaded("backup")
         with serving(with_stations(20)) as desk, recorder_alone(desk.port):
             def lodge(n):

@@ -30,7 +30,7 @@ SPANISH = (DEPLOY / "clerk/texts_es.toml").read_text(encoding="utf-8")
 
 
 def build(folder, *words):
-    """What building says, and its status."""
+    """The output of building, and its status."""
     done = subprocess.run([sys.executable, folder / "build-clerk", *words], capture_output=True,
                           text=True, timeout=60, check=False)
     return done.stderr, done.returncode

@@ -70,7 +70,7 @@ NAMES = {"clerk-1": "clerk", "second-1": "second", "board-1": "board", "s1": "st
 
 @functools.cache
 def more_words():
-    """What the desk is started with on a computer that gives no program a network of its own."""
+    """The desk's arguments on a computer that gives no program a network of its own."""
     probe = "import desk_walls; desk_walls.leave_network()"
     done = subprocess.run([sys.executable, "-c", probe], cwd=DESK.parent, capture_output=True)
     return ("--open-port",) if done.returncode else ()

@@ -18,7 +18,7 @@ sys.path.insert(0, str(DEPLOY))
 import desk_roles
 
 REPORTS = ("tally", "seats", "quotients", "awards", "quota", "short", "holders", "past",
-           "stations", "returns")
+           "provisional", "stations", "returns")
 OF_STATION = ("lodge", "query", "correct", "close", "confirm")
 OF_CON = ("draw", "certify", "reopen", "vacate", "import", "import/semicolon", "trial",
           "trial/semicolon")
@@ -70,7 +70,7 @@ def pattern_of(text):
 
 
 def block_at(text, begin):
-    """What is between the brace that is next and the one that closes it."""
+    """The text between the brace that is next and the one that closes it."""
     begin = text.index("{", begin) + 1
     depth, end, quoted = 1, begin, False
     while depth:
@@ -175,7 +175,7 @@ class RoutesAndRoles(unittest.TestCase):
                     self.assertEqual(found.kind in desk_roles.FROM_A_PAGE, wanted[0].is_from_a_page)
 
     def test_each_role_may_do_the_same(self):
-        allowed = Map(TEXT, "allowed")
+        allowed = Map(TEXT, "role_may")
         found = [desk_roles.request_of(target) for target in TARGETS]
         acts = [it for it in found if it and it.act]
         self.assertEqual(len(acts), 15)
@@ -186,7 +186,7 @@ class RoutesAndRoles(unittest.TestCase):
                 self.assertEqual(it.is_allowed(name, role), wanted)
 
     def test_each_role_sees_the_same_slips(self):
-        sees = Map(TEXT, "sees_slips")
+        sees = Map(TEXT, "role_sees")
         found = [it for it in map(desk_roles.request_of, TARGETS) if it and "slips" in it.kind]
         self.assertEqual(len(found), 5)
         for it, role, name in itertools.product(found, desk_roles.ROLES, ("s1", "s2", "clerk-1")):

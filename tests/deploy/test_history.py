@@ -101,7 +101,7 @@ class History(SiteCase):
                 ask("GET", "/now/station/s%31/history", "clara"),
                 ask("GET", target, "clara", headers={"Sec-Fetch-Site": "cross-site"})],
                              [405, 405, 404, 404, 404, 404, 403])
-            # A client says nothing of its role.
+            # A client does not name its role.
             self.assertEqual(json.loads(front.ask(
                 "GET", target, name="sara",
                 headers={"Office-Role": "clerk", "Office-Allowed": "1"}).body), seen)

@@ -15,7 +15,7 @@ from tests.support.running import PATIENCE
 from tests.support.safeguards import Safeguards, site
 from tests.support.site import DEPLOY
 
-README = (DEPLOY / "README.md").read_text(encoding="utf-8")
+STEPS = (DEPLOY / "BY_HAND.md").read_text(encoding="utf-8")
 # The users of the steps, under numbers that no machine needs to know.
 USERS = {
     "root": 0,
@@ -42,7 +42,7 @@ KillMode=mixed
 
 def rules():
     """The rules of step 7, as they are to be typed."""
-    step = README.split("**7. Nobody else on this computer.**")[1].split("\n## ")[0]
+    step = STEPS.split("**7. Nobody else on this computer.**")[1].split("\n## ")[0]
     return re.findall("^    nft '?(add .*?)'?$", step, re.M)
 
 
@@ -176,7 +176,7 @@ class Service(Safeguards):
         self.assertIn(
             "    install -m 644 deploy/nginx-office.conf "
             "/etc/systemd/system/nginx.service.d/office.conf\n",
-            README,
+            STEPS,
         )
 
     @needs("nginx", "openssl")

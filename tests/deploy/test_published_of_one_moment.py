@@ -1,4 +1,4 @@
-"""What is published of a certificate is of one moment: returns, reports and the feed."""
+"""All that is published of a certificate is of one moment: returns, reports and the feed."""
 
 import copy
 from pathlib import Path

@@ -118,7 +118,7 @@ class Recorder(SiteCase):
         # Each byte that was sent counts, whatever it was.
         recorder.STAFF_BYTES, asked = 10 << 20, []
         recorder.sys = type("Sys", (), {"stdout": open("copy", "wb")})
-        desk = type("Desk", (), {"lock": threading.Lock(),
+        desk = type("Desk", (), {"lock": threading.Lock(), "files": recorder.Files(),
                                  "ask": lambda _, *message: asked.append(message)
                                  or recorder.Answer(200, b"{}")})()
         one = recorder.Recorder(recorder.Record("commands.log", 0), desk, 1, recorder.Limit())

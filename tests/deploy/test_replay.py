@@ -122,9 +122,9 @@ class Replay(SiteCase):
         self.assertEqual(rows("again.db"), rows("office.db"))
 
     def test_a_record_of_troubles(self):
-        """What may have been done is named and not sent. A body that is no UTF-8 is sent as it is;
-        so is what comes after it, and after a command that has no answer. They are sent in the
-        order of their answers."""
+        """A command that may have been done is named and not sent. A body that is no UTF-8 is sent
+        as it is; so is what comes after it, and after a command that has no answer. They are sent
+        in the order of their answers."""
         latin = "p\u00e9".encode("latin-1")
         record = chained(
             a_command(latin), {"to": 1, "status": 504, "answer": ""}, a_command("full"),
@@ -289,8 +289,8 @@ class Replay(SiteCase):
         self.assertTrue(all(c.isprintable() or c == "\n" for c in said), said)
 
     def test_a_desk_that_answers_no_http(self):
-        """What is sent to it is named, and the rest is sent; one that takes two seconds is waited
-        for."""
+        """A command that is sent to it is named, and the rest is sent; one that takes two seconds
+        is waited for."""
         answers = iter([b"x\r\n\r\n", b"HTTP/1.1 200 OK\r\nContent-Length: x\r\n\r\n",
                         answer_of("{}")])
         entries = [entry for n in (1, 3, 5)

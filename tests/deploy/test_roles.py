@@ -14,8 +14,8 @@ GETS = ("/progress", "/country", "/station/s1", "/con/c1",
         *(f"/con/c1/{name}"
           for name in (
               "tally", "seats", "quotients", "awards", "quota", "short", "holders", "past",
-              "stations", "returns")))
-# What slips say, for who may see it.
+              "provisional", "stations", "returns")))
+# The texts of slips, for who may see them.
 OF_SLIPS = ("/station/s1", "/con/c1/stations", "/con/c1/returns")
 OF_CLERKS = ("/station/s1/query", "/station/s1/correct", "/station/s1/close", "/con/c1/import",
              "/con/c1/import/semicolon")

@@ -1,4 +1,4 @@
-"""The units of systemd, and what the README says to do on a machine."""
+"""The units of systemd, and what BY_HAND.md says to do on a machine."""
 
 import contextlib
 import grp
@@ -141,9 +141,9 @@ class Services(SiteCase):
                                  "0.2" if unit == "office-backup" else "0.1")
 
     def test_the_services_and_their_places(self):
-        """Their users and folders are those that README.md makes, and what they start it
+        """Their users and folders are those that BY_HAND.md makes, and what they start it
         installs."""
-        page = (DEPLOY / "README.md").read_text(encoding="utf-8")
+        page = (DEPLOY / "BY_HAND.md").read_text(encoding="utf-8")
         installed = {f"{line.split()[-1]}{Path(word).name}"
                      for line in re.findall("^    install -m .*/$", page, re.M)
                      for word in line.split()[3:-1]}
@@ -181,12 +181,12 @@ class Services(SiteCase):
                       (DEPLOY / "nginx.conf").read_text(encoding="utf-8"))
 
     def test_the_names_that_the_proxy_comes_with(self):
-        """README.md gives each a password, and each has a role that may do something."""
+        """BY_HAND.md gives each a password, and each has a role that may do something."""
         names = re.findall(r"^(\S+) (\w+);$",
                            (DEPLOY / "nginx/staff.conf").read_text(encoding="utf-8"), re.M)
         self.assertEqual([name for name, _ in names],
                          re.findall(r"^    /usr/local/lib/office/password staff (\S+)$",
-                                    (DEPLOY / "README.md").read_text(encoding="utf-8"), re.M))
+                                    (DEPLOY / "BY_HAND.md").read_text(encoding="utf-8"), re.M))
         self.assertEqual([role for _, role in names], ["clerk", "clerk", "second", "board"])
 
     @needs("nginx", "openssl")
@@ -230,13 +230,13 @@ class Services(SiteCase):
                         ("c1 agrees", 0))
 
     def test_another_machine_in_the_place_of_a_lost_one(self):
-        """README.md's steps for it, over an office that step 3 has made: nothing is written into
+        """BY_HAND.md's steps for it, over an office that step 3 has made: nothing is written into
         while it runs, what the copy lacks is sent once the office listens, and the names and
         passwords are those that step 5 has kept."""
-        page = (DEPLOY / "README.md").read_text(encoding="utf-8")
+        page = (DEPLOY / "BY_HAND.md").read_text(encoding="utf-8")
         [keep] = re.findall("^    (.* tar -C / -c.*)$", page, re.M)
         steps = re.findall("^    (.*)$",
-                           page.split("\n**When the machine is lost**")[1].split("\n## ")[0], re.M)
+                           page.split("\n## When the machine is lost\n")[1].split("\n## ")[0], re.M)
         kept = {"etc/office/setup.toml": "a setup", "etc/nginx/office/staff.htpasswd": "a password",
                 "etc/nginx/nginx.conf": "a proxy"}
         for folder in (
@@ -297,9 +297,9 @@ class Services(SiteCase):
     @needs("rsync")
     def test_where_copies_are_sent(self):
         """To the machine and the folder that backup.env names, with a key and to a host that
-        README.md has made; without it nowhere. A longer record there is not replaced, and one that
+        BY_HAND.md has made; without it nowhere. A longer record there is not replaced, and one that
         differs is."""
-        lines, page = lines_of("office-backup.service"), (DEPLOY / "README.md").read_text(
+        lines, page = lines_of("office-backup.service"), (DEPLOY / "BY_HAND.md").read_text(
             encoding="utf-8")
         for folder in ("log", "lib/backup", "elsewhere", "bin"):
             Path(folder).mkdir(parents=True)

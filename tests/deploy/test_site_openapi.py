@@ -17,9 +17,10 @@ from tests.support.site import DEPLOY, SiteCase
 ROUTES = json.loads((DEPLOY / "openapi.json").read_text(encoding="utf-8"))
 PROGRAM = json.loads((ROOT / "docs/openapi.json").read_text(encoding="utf-8"))
 STAFF = {"clerk": "clara", "second": "sara", "board": "berta", "station": "s1"}
-# Other suites ask too often, fill the disk of the record and end the desk.
-NOT_TRIED = {"429", "503", "504"}
-# What a station sees before the hour.
+# Other suites ask too often, fill the disk of the record, end the desk and have the board need two
+# names.
+NOT_TRIED = {"202", "429", "503", "504"}
+# The targets that a station sees before the hour.
 OF_A_STATION = ("/setup.json", "/clerk.html", "/station/s1", "/now/station/s1")
 
 
@@ -169,7 +170,9 @@ class SiteOpenapi(SiteCase):
             of_status = answers.get(str(one.status), answers.get("default"))
             self.assertTrue(of_status, f"{method} {target}: {one.status}")
             for header in of_status.get("headers", {}):
+                # No name of this site is bound to constituencies.
                 self.assertTrue(
-                    header in one.head or header == "Allow" and (file or target == "/clerk.html"),
+                    header in one.head or header == "X-Office-Bound-To"
+                    or header == "Allow" and (file or target == "/clerk.html"),
                     f"{target}: {one.status} without {header}")
         return {one.status for one in found}

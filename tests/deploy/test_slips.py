@@ -349,9 +349,9 @@ class Slips(SiteCase):
 
     @needs("chromium", "nginx", "openssl")
     def test_a_lost_connection(self):
-        """What was typed stays until it is recorded: a clerk and a station send it again; where the
-        answer alone was lost, what is recorded is shown, and the page does not ask whether to leave
-        it unsent."""
+        """A slip that was typed stays until it is recorded: a clerk and a station send it again;
+        where the answer alone was lost, what is recorded is shown, and the page does not ask
+        whether to leave it unsent."""
         with office_with_pages(with_stations(4)) as (desk, front):
             front.name("stations", "s1")
             typed = ("return [...document.querySelectorAll('#lodge "
@@ -403,7 +403,7 @@ class Slips(SiteCase):
 
     @needs("chromium", "nginx", "openssl")
     def test_two_windows_of_a_clerk(self):
-        """What the other window did meanwhile is said, and what is typed in this one stays; no
+        """An act of the other window meanwhile is said, and what is typed in this one stays; no
         command acts on what it does not show."""
         with claras_page(BOTH) as (desk, front, it):
             choose_station(it, "s1")

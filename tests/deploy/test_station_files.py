@@ -40,6 +40,7 @@ def rounds_of(answers, setup):
             return failures, [target for target in asked
                               if target.endswith(("/stations", "/returns"))]
 
+        a_round.seen = seen
         yield a_round
 
 
@@ -220,3 +221,26 @@ class StationFiles(SiteCase):
                     self.assertEqual((a_round(1e-9), os.path.exists(f"pages/stations-c{n}-1.html")),
                                      (([], [f"/con/c{n}/stations"]), True))
             self.assertEqual(sorted(a_round()[1]), [f"/con/c{n}/stations" for n in (1, 2, 3)])
+
+    def test_a_table_that_takes_long_is_asked_for_seldom(self):
+        """One that takes 1.6 s takes the half seconds of three rounds, and a part of the next."""
+        class Slow(rounds.Office):
+            def get(self, target):
+                found = super().get(target)
+                self.took += 1.6 if target == TABLE else 0
+                return found
+
+        office = model.Office(tomllib.loads(with_stations(1)))
+        done(office, "/station/s1/lodge", a_slip(1, 0))
+        with with_instead("Office", Slow), with_instead("AGAIN", -1), rounds_of(
+                lambda target: office.ask("GET", target), with_stations(1)) as a_round:
+            asked = [len(a_round(rounds.seconds_of_round(a_round.seen))[1]) for _ in range(7)]
+        self.assertEqual(asked, [1, 0, 0, 1, 0, 0, 1])
+
+    def test_a_late_answer_does_not_stop_the_stations_for_long(self):
+        seen = rounds.Seen()
+        self.assertEqual(rounds.seconds_of_round(seen), 0.5)
+        for left, seconds in ((0.4, 0.5), (0.0, 0.5), (-0.2, 0.3), (-2.0, -1.5), (-60.0, -4.5)):
+            with self.subTest(left=left):
+                seen.left = left
+                self.assertAlmostEqual(rounds.seconds_of_round(seen), seconds)

@@ -3,8 +3,8 @@
 
     python3 tests/deploy/test_status.py
 
-Small servers take the place of the desk and the recorder; the copies are those of `examples/`. It
-needs Python and openssl. Without nginx the test of `/health` is skipped.
+Small servers take the place of the desk, the reader and the recorder; the copies are those of
+`examples/`. It needs Python and openssl. Without nginx the test of `/health` is skipped.
 """
 
 import contextlib
@@ -108,6 +108,7 @@ class Status(unittest.TestCase):
     def setUp(self):
         self.folder = Path(self.enterContext(tempfile.TemporaryDirectory()))
         self.desk = self.enterContext(answering(OnPort, ("127.0.0.1", 0), 200))
+        self.reader = self.enterContext(answering(OnSocket, str(self.folder / "reader.sock"), 200))
         self.recorder = self.enterContext(answering(OnSocket, str(self.folder / "1.sock"), 403))
         self.record, self.head = self.folder / "commands.log", self.folder / "head"
         self.seen = self.folder / "state/seen.json"
@@ -161,6 +162,7 @@ megabytes = {values['megabytes']}
 [[office]]
 name = "first"
 desk = "{values['desk']}"
+reader = "{self.folder}/reader.sock"
 recorder = "{self.folder}/1.sock"
 backups = "{self.folder}/backups"
 seconds = 1800
@@ -174,7 +176,7 @@ seconds = 1800
         return done.returncode, done.stdout, done.stderr
 
     def parts(self, status):
-        """What is said of each part; the status is looked at."""
+        """The lines on each part; the status is looked at."""
         found, text, fault = self.status("--json")
         self.assertEqual((found, fault), (status, ""), text)
         said = json.loads(text)
@@ -191,14 +193,14 @@ seconds = 1800
 
     def test_all_is_well(self):
         parts = self.parts(0)
-        self.assertEqual(list(parts), ["desk", "recorder", "backup", "record", "pages", "room",
-                                       "certificate"])
+        self.assertEqual(list(parts), ["desk", "reader", "recorder", "backup", "record", "pages",
+                                       "room", "certificate"])
         self.assertEqual((parts["desk"]["of"], parts["room"]["of"]), ("first", str(self.folder)))
         self.assertEqual((parts["record"]["record_lines"], parts["backup"]["agrees"]), (3, 1))
         self.assertTrue(29 < parts["certificate"]["certificate_days"] <= 30)
         status, text, _ = self.status()
         self.assertEqual((status, text.splitlines()[-1]), (0, "all is well"))
-        self.assertEqual(text.count(" well  "), 7)
+        self.assertEqual(text.count(" well  "), 8)
         self.assertEqual(self.desk.asked[0][0], "/progress")
         # The recorder refuses this itself: nobody is asked, and nothing recorded.
         [target, fields] = self.recorder.asked[0]
@@ -210,7 +212,7 @@ seconds = 1800
         self.assertEqual(status, 1)
         self.assertRegex(text, r"(?m)^ +pages +WRONG  they are 5 hours old$")
         self.assertRegex(text, r"(?m)^first +desk +well   it answered in \d+ ms$")
-        self.assertEqual(text.splitlines()[-1], "1 of 7 are wrong")
+        self.assertEqual(text.splitlines()[-1], "1 of 8 are wrong")
 
     def test_a_desk_that_does_not_answer(self):
         with socket.create_server(("127.0.0.1", 0)) as taken:
@@ -221,6 +223,55 @@ seconds = 1800
     def test_a_desk_that_is_shut(self):
         self.desk.status = 503
         self.assert_wrong("desk", "it answers with status 503")
+
+    def test_a_reader_that_does_not_answer(self):
+        (self.folder / "reader.sock").unlink()
+        self.assert_wrong("reader", "it does not answer")
+        # One that takes connections and says nothing is not waited for.
+        with socket.socket(socket.AF_UNIX) as silent:
+            silent.bind(str(self.folder / "reader.sock"))
+            silent.listen()
+            began = time.monotonic()
+            self.assert_wrong("reader", "it does not answer: timed out")
+            self.assertLess(time.monotonic() - began, 60)
+
+    def test_a_reader_that_does_not_reach_the_desk(self):
+        for status in (403, 429, 502, 504):
+            with self.subTest(status=status):
+                self.reader.status = status
+                self.assert_wrong("reader", f"it answers with status {status}")
+
+    def test_what_the_reader_is_asked(self):
+        """As the proxy asks for a report, and no longer than a look takes."""
+        self.parts(0)
+        [(path, fields)] = self.reader.asked
+        self.assertEqual([path, fields["Office-Allowed"], fields["Office-Wait"]],
+                         ["/progress", "1", "no"])
+
+    def test_the_reader_itself(self):
+        """The program, before a desk that answers, and before none."""
+        with socket.create_server(("127.0.0.1", 0)) as taken:
+            nobody = taken.getsockname()[1]
+        for port, wrong in ((self.desk.server_port, ""), (nobody, "it answers with status 502")):
+            with self.subTest(port=port), contextlib.ExitStack() as ended:
+                folder = self.folder / f"reader-{port}"
+                words = (sys.executable, DEPLOY / "reader.py", folder, "--desk",
+                         f"127.0.0.1:{port}")
+                program = subprocess.Popen(words)
+                ended.callback(program.wait)
+                ended.callback(program.kill)
+                end = time.monotonic() + 60
+                while not (folder / "1.sock").exists():
+                    self.assertLess(time.monotonic(), end)
+                    time.sleep(0.05)
+                text = (self.folder / "status.toml").read_text(encoding="utf-8")
+                text = text.replace(f"{self.folder}/reader.sock", f"{folder}/1.sock")
+                (self.folder / "status.toml").write_text(text, encoding="utf-8")
+                if wrong:
+                    self.assert_wrong("reader", wrong)
+                else:
+                    self.parts(0)
+                self.configure()
 
     def test_a_recorder_that_does_not_answer(self):
         (self.folder / "1.sock").unlink()
@@ -408,7 +459,8 @@ seconds = 1800
         said = tomllib.loads(text)
         [office] = said["office"]
         for place in (said["record"]["file"], said["record"]["head"], said["pages"]["folder"],
-                      office["desk"], office["recorder"], office["backups"]):
+                      office["desk"], office["reader"], office["recorder"],
+                      office["backups"]):
             with self.subTest(place=place):
                 self.assertIn(place, services)
         # As it comes, it is taken.

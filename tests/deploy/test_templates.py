@@ -13,6 +13,8 @@ from pathlib import Path
 from tests.support.pages import PAGE_BYTES, REOPENED, TWIN, Page
 from tests.support.rounds import DEPLOY, OfPages, copy_of_deploy
 
+# The programs that fill templates in.
+OF_TEMPLATES = [*DEPLOY.glob("press*.py"), *DEPLOY.glob("papers_*.py"), DEPLOY / "papers"]
 LOGO = '<svg xmlns="http://www.w3.org/2000/svg" viewBox="0 0 9 9"><circle r="4"/></svg>'
 
 
@@ -115,7 +117,7 @@ class Faults(OfPages):
 
 
 class Escaping(OfPages):
-    """What is no template is text."""
+    """All that is no template is text."""
 
     def test_markup_in_the_texts_of_a_language(self):
         with copy_of_deploy() as folder:
@@ -148,7 +150,7 @@ class Escaping(OfPages):
     def test_no_html_in_python(self):
         """It is in the templates alone, but for patterns of what is read, and the element round a
         name."""
-        for file in sorted(DEPLOY.glob("press*.py")):
+        for file in sorted(OF_TEMPLATES):
             tree = ast.parse(file.read_text(encoding="utf-8"))
             texts = [node.value for node in ast.walk(tree)
                      if isinstance(node, ast.Constant) and isinstance(node.value, str)]
@@ -160,7 +162,7 @@ class Escaping(OfPages):
 
     def test_each_template_is_of_use(self):
         """Each is a page that Python makes, or is part of another."""
-        python = "".join(file.read_text(encoding="utf-8") for file in DEPLOY.glob("press*.py"))
+        python = "".join(file.read_text(encoding="utf-8") for file in OF_TEMPLATES)
         html = "".join(file.read_text(encoding="utf-8") for file in DEPLOY.glob("templates/*"))
         for file in sorted(Path(DEPLOY, "templates").iterdir()):
             with self.subTest(template=file.name):

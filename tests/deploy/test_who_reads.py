@@ -173,7 +173,7 @@ class Slips(SiteCase):
 
 class Reader(Safeguards):
     def test_get_alone(self):
-        """Whatever else is sent, the desk hears nothing of it; and of a GET the target alone."""
+        """Whatever else is sent, nothing reaches the desk; and of a GET the target alone does."""
         port = free_port()
         with recording_desk(b"a table") as (desk, messages), started(
             "reader.py", "reader", "--desk", f"127.0.0.1:{desk}", "--read", f"127.0.0.1:{port}"
@@ -193,7 +193,7 @@ class Reader(Safeguards):
                     ([b"get /progress http/1.1", b"host: office", b"connection: close"], b""),
                 )
                 messages.clear()
-            # What a socket says in the middle of a head is no second request.
+            # A text that a socket sends in the middle of a head is no second request.
             with socket.create_connection(("127.0.0.1", port), timeout=PATIENCE) as it:
                 it.sendall(
                     b"GET /progress HTTP/1.1\r\nContent-Length: 50\r\n\r\n"

@@ -3,15 +3,35 @@ fail."""
 
 import os
 import re
+from argparse import Namespace
 from datetime import datetime, timedelta
 from pathlib import Path
+from unittest import mock
 
 from tests.support.office import LISTS, PROFILE, constituency, party_list, station, with_stations
 from tests.support.safeguards import Safeguards, hash_of_file, run
-from tests.support.scripts import module
+from tests.support.scripts import loaded, module
 from tests.support.site import DEPLOY
 
 odd_names = module("odd_names")
+
+
+class DeskLanguage(Safeguards):
+    def test_the_clerks_page_has_the_language_of_the_site_or_else_of_the_user(self):
+        desk = loaded("desk")
+        rows = (('language = "es"\n', "C", "es"), ('title = "x"\n', "es_ES.UTF-8", "en"),
+                ('language = "en"\n', "es_ES.UTF-8", "en"), (None, "es_ES.UTF-8", "es"),
+                (None, "C", "en"), ("language = \n", "es_ES.UTF-8", "es"))
+        for site, asked, language in rows:
+            folder = Path("site")
+            folder.mkdir(exist_ok=True)
+            (folder / "site.toml").unlink(missing_ok=True)
+            if site:
+                (folder / "site.toml").write_text(site, encoding="utf-8")
+            with (self.subTest(site=site, asked=asked),
+                  mock.patch.dict(os.environ, {"LC_ALL": asked})):
+                page = desk.clerks_page(Namespace(site=folder))
+                self.assertIn(f'<html lang="{language}"', page)
 
 
 class Embargo(Safeguards):

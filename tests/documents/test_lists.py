@@ -158,8 +158,8 @@ class Lists(DocumentCase):
         )
 
     def test_what_is_believed_names_nothing_else(self):
-        """What a file that is believed imports of this repository is believed too, or is a type of
-        the code (`declared`).
+        """The definitions that a believed file imports of this repository are believed too, or are
+        types of the code (`declared`).
         """
         wrong, count = [], 0
         for path in sorted(believed()):

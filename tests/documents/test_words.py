@@ -22,12 +22,17 @@ PYTHON = (
     "bench/*.py",
     "deploy/*.py",
     "deploy/backup",
+    "deploy/build-clerk",
     "deploy/desk",
     "deploy/embargo",
     "deploy/entries",
+    "deploy/make-deb",
+    "deploy/office-site",
+    "deploy/papers",
     "deploy/password",
     "deploy/replay",
     "deploy/setup-from-tables",
+    "deploy/setup-json",
     "deploy/split",
     "deploy/status",
     "examples/*.py",
@@ -40,6 +45,7 @@ HASHED = (
     "deploy/*.conf",
     "deploy/nginx/*.conf",
     "deploy/*.service",
+    "deploy/package/*",
     "deploy/*.timer",
     "bench/*.awk",
     "bench/crate_seconds.txt",
@@ -53,9 +59,9 @@ SLASHED = ("bench/*.rattle", "bench/*.rs")
 MARKED = ("deploy/*.css", "deploy/www/*.html")
 
 
-# What is not written, and what is written for it. The words are looked for in the documents, in the
-# help texts, in comments and docstrings, and in the names of tests and of edits; not in other
-# names, and not in examples.
+# The words that are not written, and those that are written for them. They are looked for in the
+# documents, in the help texts, in comments and docstrings, and in the names of tests and of edits;
+# not in other names, and not in examples.
 WORDS = {
     r"\bwant of memory\b|\bmemory ran out\b": "out of memory",
     r"\bstands?\b(?! (?:out|for|alone|apart))": "is, exists, is recorded",
@@ -72,6 +78,8 @@ WORDS = {
     r"\blet go\b": "freed, dropped",
     r"\bown profile\b": "this project's own rule",
     r"\banew\b": "again",
+    r"\bso many\b": "this many, or a number",
+    r"\bnothing of it\b": "none of it",
     r"\bbehind\b(?! (?:(?:a|the) (?:reverse )?proxy|one address|nginx))": "after",
 }
 
@@ -85,8 +93,8 @@ def prose(text):
 
 
 def words_of_code(path):
-    """What a file of code or of definitions says in words, each with its line: its comments, and of
-    a help all of it.
+    """The words of a file of code or of definitions, each with its line: its comments, and of a
+    help all of it.
     """
     for number, line in enumerate(text_of(path).split("\n"), 1):
         comment = re.search(r"//[/!]?\s(.*)|--\s(.*)", line)
@@ -95,20 +103,33 @@ def words_of_code(path):
             yield number, re.sub(r"`[^`]*`", "`", text)
 
 
+def docstrings_of(path):
+    """The docstrings of a file of Python, each with its line."""
+    for node in ast.walk(ast.parse(text_of(path))):
+        if isinstance(node, (ast.Module, ast.ClassDef, ast.FunctionDef)):
+            if said := ast.get_docstring(node):
+                yield node.body[0].lineno, said
+
+
+def documentation_of(path):
+    """The `///` lines of a file of code, each with its number."""
+    for number, line in enumerate(text_of(path).split("\n"), 1):
+        if found := re.match(r"\s*///\s*(.*)", line):
+            yield number, found[1]
+
+
 def words_of_python(path):
-    """What a file of Python says in words, each with its line: its comments, its docstrings and the
+    """The words of a file of Python, each with its line: its comments, its docstrings and the
     names of its tests.
     """
     with path.open("rb") as file:
         for token in tokenize.tokenize(file.readline):
             if token.type == tokenize.COMMENT:
                 yield token.start[0], re.sub(r"`[^`]*`", "`", token.string)
+    for number, said in docstrings_of(path):
+        # (a name in back quotes may be broken over lines)
+        yield number, re.sub(r"`[^`]*`", "`", said)
     for node in ast.walk(ast.parse(text_of(path))):
-        if isinstance(node, (ast.Module, ast.ClassDef, ast.FunctionDef)) and ast.get_docstring(
-            node
-        ):
-            # (a name in back quotes may be broken over lines)
-            yield node.body[0].lineno, re.sub(r"`[^`]*`", "`", ast.get_docstring(node))
         if isinstance(node, ast.FunctionDef) and node.name.startswith("test_"):
             yield node.lineno, node.name.replace("_", " ")
 
@@ -190,6 +211,19 @@ class Words(DocumentCase):
             )
             wrong += unwanted(path, said)
         self.finds_nothing(len(paths) + len(others), wrong)
+
+    def test_a_comment_stands_alone(self):
+        """No `///` line and no docstring begins with "What" or "The same"."""
+        sources, scripts = found_in("crates/*/src/**/*.rt"), found_in(*PYTHON)
+        said = [(path, documentation_of(path)) for path in sources]
+        said += [(path, docstrings_of(path)) for path in scripts]
+        wrong = [
+            f"{shown(path)}:{number}: {text[:40]!r} (write: a subject)"
+            for path, lines in said
+            for number, text in lines
+            if re.match(r"(?:What|The same)\b", text)
+        ]
+        self.finds_nothing(min(len(sources), len(scripts)), wrong)
 
     def test_the_words_of_edits(self):
         paths = found_in("tests/wrong_bodies/*/*.edit", "crates/*/must-fail/*.edit")

@@ -8,7 +8,7 @@ from tests.support.launcher import NOBODY, PROVED, WAITS, LauncherCase, append, 
 from tests.support.running import PATIENCE
 
 
-# What it says of a function whose contract is not proved.
+# The report on a function whose contract is not proved.
 OPEN = """
 cat <<'END'
 == tally_frac

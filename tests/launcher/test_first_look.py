@@ -50,11 +50,21 @@ class FirstLook(LauncherCase):
             and copy.runs() == 1
         )
 
-    def test_a_first_look_is_of_check_and_its_flags_alone(self):
+    def test_a_first_look_runs_an_allotment_with_the_values_of_its_options(self):
+        copy = self.copy
+        copy.tries("echo; echo 'run=ended status=0 runners=2 proved=no' >&2; exit 0")
+        options = ["--seats", "8", "--method", "dhondt", "--threshold", "300"]
+        line = " ".join(["allot", *options])
+        self.assertEqual(
+            copy.run("--unproved", "allot", *options), (0, "\n", UNPROVED.format(line, ""))
+        )
+        self.assertEqual(copy.calls(), [f"try --seconds 600 -- {line}"])
+
+    def test_a_first_look_is_of_check_and_its_flags_or_of_an_allotment(self):
         copy = self.copy
         wanted = (
-            "office: --unproved is for 'check' alone: './office {}', without it, proves and builds"
-            " the program, and then runs it\n"
+            "office: --unproved is for 'check' and 'allot' alone: './office {}', without it, proves"
+            " and builds the program, and then runs it\n"
         )
         for words, name in (
             ((), "COMMAND"),
@@ -92,7 +102,7 @@ class FirstLook(LauncherCase):
                 found, out, errors = copy.run("--unproved", "check")
                 shown = "".join(f"  {line}\n" for line in lines or [""])
                 assert (found, out) == (3, "") and errors.endswith(said + shown), (found, errors)
-        # What the program itself writes is not taken for the report of how it ended.
+        # The program's own output is not taken for the report of how it ended.
         copy.tries("printf 'run=ended status=0 \\nrun=none proved=no\\n' >&2; exit 1")
         self.assertEqual(copy.run("--unproved", "check")[0], 3)
 

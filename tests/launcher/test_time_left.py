@@ -104,14 +104,14 @@ class TimeLeft(LauncherCase):
         says("about 25 min", record={it: record[it] for it in record if it != "high"}, workers=2)
         says("about 39 min", record={"reading": 180, "low": 600, "building": 960}, workers=2)
         says("", record={})
-        # What is kept takes no time, whether that was known or not.
+        # A crate that is kept takes no time, whether that was known or not.
         says("about 22 min", queue=queue.replace("reading new", "reading kept"), workers=2)
         says(
             "about 15 min",
             queue=queue.replace("beside new", "beside kept").replace("low new", "low kept"),
         )
         says("about 12 min", ended={**read, "low": "180 kept", "beside": "180 kept"}, now=180)
-        # What is proved again has a ratio of its own, which is unknown before one has ended.
+        # A crate proved again has a ratio of its own, which is unknown before one has ended.
         says("at most 45 min", queue=again)
         says("about 23 min", ended={**read, "low": "240 again"}, queue=again, now=240)
 
@@ -181,7 +181,7 @@ class TimeLeft(LauncherCase):
             and "about 3" in lines[2]
             and lines[3] == f"office: 5 {taken}"
         ), lines
-        # What is above a crate that changed is proved again, over what is left of it.
+        # The crates above one that changed are proved again, over what is left of it.
         append(copy.root / "crates/tally_frac/src/share.rt")
         copy.plan("exit 1")
         lines = copy.run("check")[2].splitlines()

@@ -77,7 +77,7 @@ s,p,0,0,1,"2/ = 0, 0, 0, 0, 1, 1 0, 0, 0, 0, 0
 """
 
 
-# What a Lodge is answered.
+# The answers to a Lodge.
 ANSWERS = """
 s,p,0,0,1000000,0/ = 1, 0, 0, 0, 0, -, 0, 0, 1000000, 0
 s,p,0,0,1000001,0/ = 0, 0, 0, 1, 0, 1 4, 0, 0, 0, 0
@@ -192,7 +192,7 @@ def refused(text, word, *flags):
 
 
 def answered_before_its_end(text):
-    """What a check answers of a text that goes on: nothing follows, and its pipe stays open."""
+    """The answer of a check to a text that goes on: nothing follows, and its pipe stays open."""
     pipes = {"stdin": subprocess.PIPE, "stdout": subprocess.PIPE, "stderr": subprocess.PIPE}
     with subprocess.Popen([PROGRAM, "check"], bufsize=0, **pipes) as ran:
         try:
@@ -344,7 +344,7 @@ class Check(ProgramCase):
 
     def test_lines_within_quotes_where_the_input_is_cut(self):
         # Records with line ends in quotes, and one that is longer than what is read at once, after
-        # so many empty lines.
+        # this many empty lines.
         for empty in range(20):
             text = (
                 HEADER + "\n" * empty + '"xxxxxxxx\n\nxxxxxx"\r' * 18000 + "x" * 800000 + "\n" + ROW
@@ -352,7 +352,7 @@ class Check(ProgramCase):
             counted(text, "1, 0, 0, 0, 18001, 1 0, 0, 0, 1, 2")
 
     def test_rows_after_a_long_record(self):
-        # What comes after a record longer than what is read at once is held in parts; a part may
+        # The text after a record longer than what is read at once is held in parts; a part may
         # end anywhere in a row.
         count = 19000
         rows = "".join(
@@ -412,7 +412,7 @@ class Check(ProgramCase):
 
     def test_a_small_stack(self):
         def limited():
-            resource.setrlimit(resource.RLIMIT_STACK, (96 * 1024, 96 * 1024))
+            resource.setrlimit(resource.RLIMIT_STACK, (128 * 1024, 128 * 1024))
 
         for text, status in ((EXAMPLE, 0), ('"' + "x" * 2000000, 1), ('"' + "x\n" * 1000000, 1)):
             with self.subTest(text=text, status=status):

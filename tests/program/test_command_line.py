@@ -44,6 +44,8 @@ WRONG = {
         "serve --db a --port 8080",
         "serve --db a --count 1",
         "serve --port 8080 --count 1",
+        "allot --seats 8",
+        "allot --method hare",
     ),
     "error: invalid value ": (
         "show --db a --report nonesuch --con c",
@@ -111,6 +113,7 @@ class CommandLine(ProgramCase):
             "help check",
             "help serve",
             "check --help",
+            "allot --help",
             "new --help",
             "import --help",
             "show --help",
@@ -306,6 +309,7 @@ class CommandLine(ProgramCase):
             "quota",
             "holders",
             "past",
+            "provisional",
             "short",
             "stations",
             "returns",
@@ -317,6 +321,8 @@ class CommandLine(ProgramCase):
     def test_help_of_each_command_names_its_arguments(self):
         for command, names in (
             ("check", ("--semicolon", "--rows")),
+            ("allot", ("--seats", "--method", "--threshold", "--base", "--blank", "--lot")),
+            ("allot", ("--alternating", "--awards", "--semicolon")),
             ("new", ("--db", "--setup")),
             ("import", ("--db", "--con", "--csv", "--semicolon", "--rows")),
             ("show", ("--db", "--report", "--con", "progress")),

@@ -12,12 +12,12 @@ from tests.support.program import ProgramCase, lines_of
 from tests.support.tables import COLUMNS, answered, each_answered, ends, made
 
 
-# What a text is changed to: the codes of two constituencies and a station, no text, a note that is
-# no code, a text that is neither, and a number, which is stored as a text.
+# The values to which a text is changed: the codes of two constituencies and a station, no text, a
+# note that is no code, a text that is neither, and a number, which is stored as a text.
 TEXTS = ("'c1'", "'c2'", "'t1'", "''", "'x y'", "'\n'", "0")
 
 
-# What a number is changed to: its neighbours, 0, the largest number, and a text.
+# The values to which a number is changed: its neighbours, 0, the largest number, and a text.
 NUMBERS = {
     "+ 1": lambda n: n + 1,
     "- 1": lambda n: n - 1,

@@ -25,7 +25,7 @@ from tests.support.running import PATIENCE
 
 
 def limited(most, *words):
-    """What a command comes to where no file may grow beyond so many bytes."""
+    """The outcome of a command where no file may grow beyond this many bytes."""
     words = [
         "bash",
         "-c",

@@ -125,6 +125,7 @@ GIVEN = {
     "report": given("certified"),
     "quota report": given("hare"),
     "past report": given("reopened"),
+    "provisional report": given("closed"),
     "stations report": given("one of three missing"),
     "returns returns": given("closed"),
     "country country": given("two constituencies"),

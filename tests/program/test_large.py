@@ -79,7 +79,7 @@ def requests_on_sixty_lists(plain, draw):
 
 
 def published_and_read_back(plain, setup):
-    """What is published of each constituency, imported into a fresh office, is the same returns;
+    """The text published of each constituency, imported into a fresh office, is the same returns;
     and counted from these texts alone, with the lots, the seats are those that are certified.
     """
     new(setup, db="fresh.db", constituencies=len(plain.cons))
@@ -214,7 +214,7 @@ def five_thousand_stations():
     )
 
 
-# What is looked at between the requests on a constituency of 5,000 stations.
+# The requests made between those on a constituency of 5,000 stations.
 LOOKS = (get("/progress"), get("/con/c1"), get("/con/c1/tally"), get("/station/s4999"))
 
 

@@ -228,7 +228,7 @@ def everybody_goes(con):
 
 
 def equal_votes(con, lists, spare):
-    """So many lists have the same votes at each station, and the others a few."""
+    """This many lists have the same votes at each station, and the others a few."""
     return [[8000 if n < lists else spare for n in range(60)]] * len(con.electors)
 
 
@@ -266,7 +266,7 @@ def looks_at_no_certificate(db, con, edited):
     """
     new(db="small.db")
     looks = {"": 200} | {
-        f"/{report}": 200 if report in ("tally", "stations", "returns") else 409
+        f"/{report}": 200 if report in ("tally", "provisional", "stations", "returns") else 409
         for report in CON_REPORTS
         if report != "past"
     }

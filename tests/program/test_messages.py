@@ -373,7 +373,7 @@ class Messages(ProgramCase):
                     self.assertEqual(desk.send(head).split(b" ")[1], status)
 
     def test_values_that_are_long(self):
-        """What is wrong with a long value is said, as of a short one: of texts, of votes, of the
+        """The fault of a long value is reported, as of a short one: of texts, of votes, of the
         lists of a lot.
         """
         new()

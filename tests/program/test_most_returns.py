@@ -31,7 +31,7 @@ from tests.support.office import constituency, profile
 from tests.support.program import ProgramCase, database, new, only, same
 
 
-# What is asked of a constituency that is not closed, or of a station of it, and its status.
+# The requests to a constituency that is not closed, or of a station of it, and its status.
 ASKED = {
     "the view": (lambda con: get(f"/con/{con.code}"), 200),
     "the tally": (lambda con: get(f"/con/{con.code}/tally"), 200),
@@ -51,7 +51,7 @@ ASKED = {
 
 
 def moved_around(desk, con):
-    """What a Query, a Correct and a Confirm of a return each take, one after the other, several
+    """The cost of a Query, a Correct and a Confirm of a return each, one after the other, several
     times.
     """
     station, took = min(con.electors), {}
@@ -75,7 +75,7 @@ def forgotten(desk, con):
 
 
 def looks_at_no_station(db, plain):
-    """What is asked of the country takes no more of the processor than the same of a constituency
+    """A request for the country takes no more of the processor than the same of a constituency
     of four stations: the returns of a constituency are counted as the office opens, and once more
     after an import with a fault. Each of 5,000 would be some microseconds. The progress of all
     takes no more than a view of each.
@@ -180,8 +180,8 @@ def crowded():
 
 
 def counts_of(n):
-    """What each return of a constituency has: of the first four all votes are for one list, of the
-    next four half of them for each of two.
+    """The votes of each return of a constituency: of the first four all votes are for one list, of
+    the next four half of them for each of two.
     """
     votes = (
         [n % 9]

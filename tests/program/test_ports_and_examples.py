@@ -15,7 +15,7 @@ from tests.support.office import SETUP
 from tests.support.program import STARTED, ProgramCase, Ran, end_all, new, office, write
 from tests.support.running import PATIENCE, free_port
 
-COMMANDS = ("check", "new", "import", "show", "serve")
+COMMANDS = ("check", "allot", "new", "import", "show", "serve")
 
 
 def is_free(port):
@@ -25,10 +25,11 @@ def is_free(port):
 
 
 def ports():
-    """Free ports of each part of the range: near powers of two, near the ends, and at random."""
+    """Free ports of each part of the range: near powers of two, near the ends, and at random. Those
+    below 1024 are free for who may listen there."""
     draw = random.Random()
-    parts = [range(1024, 1100), range(16380, 16390), range(32760, 32768), range(32768, 32800)]
-    parts += [range(40000, 40100), range(49150, 49250), range(65500, 65536)]
+    parts = [range(1, 20), range(1024, 1100), range(16380, 16390), range(32760, 32768)]
+    parts += [range(32768, 32800), range(40000, 40100), range(49150, 49250), range(65500, 65536)]
     parts += [draw.sample(range(1024, 65536), 50) for _ in range(3)]
     return [next(filter(is_free, part), None) for part in parts] + [65535]
 
@@ -68,6 +69,7 @@ class HelpTexts(ProgramCase):
         """Each of its lines is a command line; what it needs is what the lines before leave."""
         shutil.copy(ROOT / "examples/setup.toml", ".")
         shutil.copy(ROOT / "examples/returns.csv", ".")
+        shutil.copy(ROOT / "examples/votes.csv", ".")
         lines = re.findall(r"^ +(office .*)$", help_of(), re.M)
         lines = [line for line in lines if "COMMAND" not in line]
         self.assertEqual(sorted({line.split()[1] for line in lines}), sorted(COMMANDS))
@@ -109,7 +111,7 @@ class HelpTexts(ProgramCase):
 
     def test_the_examples_of_all_commands(self):
         """An office is made, takes a return, and closes it; each text is printed as it is shown."""
-        for command in ("check", "new", "import", "serve", "show"):
+        for command in ("check", "allot", "new", "import", "serve", "show"):
             with self.subTest(command=command):
                 files, line, rest = self.example(command)
                 for name, text in files.items():

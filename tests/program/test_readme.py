@@ -157,7 +157,9 @@ class Readme(ProgramCase):
                 line = line.replace("./office --unproved ", "./office ")
                 # A word in capitals stands for any command, and FILE for a database.
                 for command in (
-                    ("check", "new", "import", "show", "serve") if " COMMAND" in line else ("",)
+                    ("check", "allot", "new", "import", "show", "serve")
+                    if " COMMAND" in line
+                    else ("",)
                 ):
                     with self.subTest(line=line, command=command):
                         words = line.replace("COMMAND", command)

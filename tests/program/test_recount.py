@@ -49,7 +49,7 @@ class Recount(ProgramCase):
         spoiled("c1 differs: totals, seats\n")
 
     def test_a_recount_compares_the_numbers_of_lists(self):
-        """The same numbers in the same order, but of the second list and a third."""
+        """Equal numbers in the same order, but of the second list and a third."""
         twin_town()
         put("past", ("c1", 1, 1, 3), ("c1", 1, 2, 0))
         recount()

@@ -68,7 +68,7 @@ def is_by_remainders(votes, seats, all_seats):
 
 
 def parts(total, count):
-    """All ways to give so many seats to so many lists."""
+    """All ways to give this many seats to this many lists."""
     if count == 1:
         yield (total,)
         return
@@ -217,13 +217,15 @@ class OfReturns(Case):
                 self.assertEqual(self.given(setup, c1=rows), Ran(0, said, ""))
 
     def test_no_list_that_takes_part(self):
-        """Each of two lists is below sixty per cent."""
-        rows = ("AB", "c1-1,p,0,0,10,10", "c1-2,q,0,0,0,0")
-        for method in METHODS:
-            with self.subTest(method=method):
-                setup = profile("d0", method, 6000) + town()
-                said = "c1 A 0 B 0 (2 of 2 stations; no list takes part)\n"
-                self.assertEqual(self.given(setup, c1=rows), Ran(0, said, ""))
+        """Each of two lists is below sixty per cent; or nobody has voted for a list."""
+        said = "c1 A 0 B 0 (2 of 2 stations; no list takes part)\n"
+        for first, threshold in (("c1-1,p,0,0,10,10", 6000), ("c1-1,p,0,0,0,0", 0),
+                                 ("c1-1,p,0,0,0,0", 6000), ("c1-1,p,5,3,0,0", 0)):
+            rows = ("AB", first, "c1-2,q,0,0,0,0")
+            for method, base in itertools.product(METHODS, ("valid", "lists")):
+                with self.subTest(first=first, threshold=threshold, method=method, base=base):
+                    setup = profile("d0", method, threshold, base) + town()
+                    self.assertEqual(self.given(setup, c1=rows), Ran(0, said, ""))
 
     def test_files_that_cannot_be_counted(self):
         """They end with status 2, and with one line."""

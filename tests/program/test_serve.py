@@ -18,6 +18,10 @@ from tests.support.twin_town import (
     HOLDERS,
     PAST,
     PROGRESS,
+    PROVISIONAL_CERTIFIED,
+    PROVISIONAL_NONE,
+    PROVISIONAL_OPEN,
+    PROVISIONAL_TIED,
     QUOTIENTS,
     SCRIPT,
     SEATS,
@@ -25,14 +29,26 @@ from tests.support.twin_town import (
     TALLY,
 )
 
+# The provisional seats after steps of the script: lodged and not closed, closed, with its lot, and
+# certified.
+PROVISIONAL_AFTER = {
+    1: PROVISIONAL_NONE,
+    3: PROVISIONAL_TIED,
+    7: PROVISIONAL_OPEN,
+    10: PROVISIONAL_CERTIFIED,
+}
+
 
 class Serve(ProgramCase):
     def test_an_election_over_http(self):
         new()
-        with serving("office.db", len(SCRIPT) + 13) as desk:
+        with serving("office.db", len(SCRIPT) + 18) as desk:
             desk.get("/progress", PROGRESS)
+            desk.get("/con/c1/provisional", PROVISIONAL_NONE)
             for number, step in enumerate(SCRIPT, 1):
                 take(desk, step)
+                if number in PROVISIONAL_AFTER:
+                    desk.get("/con/c1/provisional", PROVISIONAL_AFTER[number])
                 if number == 3:
                     desk.get("/con/c1/tally", TALLY)
                 if number == 10:
@@ -157,7 +173,7 @@ class Serve(ProgramCase):
             )
 
     def test_a_server_that_is_asked_to_end(self):
-        """What it answered is recorded, and the same port can be had again at once."""
+        """A command that it answered is recorded, and the same port can be had again at once."""
         for number in (signal.SIGINT, signal.SIGTERM):
             with self.subTest(number=number):
                 new(db="office.db")
@@ -189,7 +205,7 @@ class Serve(ProgramCase):
             self.assertTrue(text.splitlines()[3].endswith("Αλφα"), text)
 
     def test_a_server_that_is_killed(self):
-        """What was acknowledged is there at the next opening, and what was refused is not."""
+        """An acknowledged command is there at the next opening; one that was refused is not."""
         stations = "".join(
             f'\n[[constituency.station]]\ncode = "t{n}"\nelectors = 300\n' for n in range(2000)
         )

@@ -110,7 +110,7 @@ electors = 300 => electors = 300 / x_board = "y" => read
 """
 
 
-# What is in quotes as the code of a constituency: of up to 16 characters, and beside those that a
+# The texts in quotes as the code of a constituency: of up to 16 characters, and beside those that a
 # code may have their neighbours.
 CODES = r"""
 A => read
@@ -211,7 +211,7 @@ constituency = [{code = "c", name = "C", seats = 1, profile = "p", list = [{code
 
 
 def answer(text):
-    """What `office new` comes to: `read N` with the number of constituencies, or the word of the
+    """The outcome of `office new`: `read N` with the number of constituencies, or the word of the
     refusal and where the fault is. Only an office that was made leaves a file, and that is taken
     away.
     """
@@ -239,7 +239,7 @@ def cases_of(table):
 
 
 def entries(header, count, rest):
-    """So many entries of an array, each with a code of its own and the same rest."""
+    """This many entries of an array, each with a code of its own and the same rest."""
     return "".join(f'{header}\ncode = "x{number}"\n{rest}' for number in range(count))
 
 

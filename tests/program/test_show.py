@@ -27,6 +27,10 @@ from tests.support.twin_town import (
     HOLDERS,
     PAST,
     PROGRESS,
+    PROVISIONAL_CERTIFIED,
+    PROVISIONAL_NONE,
+    PROVISIONAL_OPEN,
+    PROVISIONAL_TIED,
     QUOTIENTS,
     SEATS,
     SHORT,
@@ -159,6 +163,27 @@ class Show(ProgramCase):
         recount()
         put("gone", ("c1", 2, 1, "resigned"))
         shows("holders", HOLDERS)
+
+    def test_the_provisional_seats_at_each_step_of_a_count(self):
+        new()
+        shows("provisional", PROVISIONAL_NONE)
+        put("returns", ("s1", "c1", 1, "p1", 1, ""))
+        put("counts", *(("s1", item, n) for item, n in ((0, 0), (1, 100), (2, 100), (61, 0))))
+        shows("provisional", PROVISIONAL_NONE)
+        with database() as it:
+            it.execute("DELETE FROM returns")
+            it.execute("DELETE FROM counts")
+        close_return("s1", "c1", [100, 100])
+        shows("provisional", PROVISIONAL_TIED)
+        put("lots", ("c1", 1, 2), ("c1", 2, 1))
+        shows("provisional", PROVISIONAL_OPEN)
+        with database() as it:
+            it.execute("DELETE FROM lots")
+        certify("c1", 3, [1, 2], [2, 1])
+        before = rows()
+        shows("provisional", PROVISIONAL_CERTIFIED)
+        self.assertEqual(rows(), before)
+        only("office.db")
 
     def test_a_certificate_that_was_reopened(self):
         new()

@@ -3,9 +3,10 @@
 import contextlib
 import shutil
 import sqlite3
+from pathlib import Path
 
 from tests.support.office import RETURNS, SETUP, THREE_STATIONS
-from tests.support.program import ProgramCase, imports, new, rows, show
+from tests.support.program import ProgramCase, imports, lines_of, new, rows, same, show
 from tests.support.tables import COLUMNS, FORMER, answered, each_answered, ends, made
 
 
@@ -104,6 +105,40 @@ opened: UPDATE setup SET text = replace(text, 'electors = 300', 'electors = 300'
 bad_setup: UPDATE setup SET text = replace(text, 'electors = 300', 'electors = 300' || char(10) ||
     'agents = 1001')
 bad_tables: DROP TABLE past; UPDATE setup SET version = 1; UPDATE seats SET n = 3 - n
+"""
+
+
+# A note of another program that a former setup has below a line, under the name of a key or beside
+# it, and what an opening says of it.
+NOTES = """\
+profile = "d0" / size = "normal" => opened
+profile = "d0" / size = "large" => opened
+profile = "d0" / size = "huge" => bad_setup
+profile = "d0" / size = "Large" => bad_setup
+profile = "d0" / size = 8200 => bad_setup
+profile = "d0" / size = ["large"] => bad_setup
+profile = "d0" / agents = "two of each list" => opened
+profile = "d0" / x_size = "huge" => opened
+electors = 300 / agents = 0 => opened
+electors = 300 / agents = 1000 => opened
+electors = 300 / agents = 1001 => bad_setup
+electors = 300 / agents = -1 => bad_setup
+electors = 300 / agents = 2.0 => bad_setup
+electors = 300 / agents = ["Ana", "Abel"] => bad_setup
+electors = 300 / agents = "none" => bad_setup
+electors = 300 / size = 300 => opened
+electors = 300 / x_agents = ["Ana", "Abel"] => opened
+code = "s1" / size = "small" => opened
+code = "d0" / agents = "none" => opened
+"""
+
+
+# The return of the station, which has 300 electors, has 200 votes for A, 100 for B and a number of
+# spoiled ones. The greatest quotients are 200 and 100 of A and 100 of B, so no lot is needed.
+OF_MORE = """\
+UPDATE counts SET n = 200 WHERE item = 1; UPDATE counts SET n = {0} WHERE item = 61;
+UPDATE totals SET n = 200 WHERE item = 1; UPDATE totals SET n = {0} WHERE item = 61;
+DELETE FROM lots; UPDATE seats SET n = 3 - n;
 """
 
 
@@ -243,6 +278,33 @@ def tables(db):
     )
 
 
+def noted(at, note):
+    """The statement that adds a line to the setup, below another."""
+    return f"UPDATE setup SET text = replace(text, '{at}', '{at}' || char(10) || '{note}');"
+
+
+def taken_over(statements):
+    """The answer of the program to the office of version 1 after these statements: `opened` or a
+    word.
+
+    Where it opens, the tables have what they had, and are of version 2. Else each byte of the
+    database is as it was.
+    """
+    shutil.copy("good.db", "office.db")
+    with contextlib.closing(sqlite3.connect("office.db")) as it:
+        it.executescript(statements)
+        wanted = rows()
+        it.executescript(FORMER)
+    before = Path("office.db").read_bytes()
+    ran = show("progress", con=None)
+    if ran.status == 0:
+        same((ran.err, rows()), ("", wanted), statements)
+        return "opened"
+    same(Path("office.db").read_bytes(), before, statements)
+    same((ran.status, ran.out, ran.err[:9]), (1, "", "refused: "), statements)
+    return ran.err[9:-1]
+
+
 class Tables(ProgramCase):
     def test_several_changes_at_once(self):
         made(SETUP, ONE_TOWN)
@@ -260,6 +322,41 @@ class Tables(ProgramCase):
             it.executescript(FORMER)
         self.assertEqual(show("progress", con=None).status, 0)
         self.assertEqual(rows(), rows("good.db"))
+
+    def test_notes_of_former_setups_have_the_meaning_of_their_names(self):
+        """In a database of version 1, and in one of today's: a note with a value that a key takes
+        is that key, and one with another value is no setup. Elsewhere, and under names that begin
+        with `x_`, it is a note as before.
+        """
+        made(SETUP, ONE_TOWN)
+        self.assertEqual(taken_over(""), "opened")
+        for line in lines_of(NOTES):
+            edit, word = line.split(" => ")
+            at, note = edit.split(" / ")
+            with self.subTest(at=at, note=note):
+                text = noted(at, note)
+                self.assertEqual((taken_over(text), answered(text)), (word, word))
+        ends()
+
+    def test_returns_of_a_former_setup_are_judged_by_electors_and_agents(self):
+        """A return has 300 votes for lists and one spoiled one, or two: of 300 electors it is none
+        without agents.
+        """
+        made(SETUP, ONE_TOWN)
+        for spoiled, note, word in (
+            (0, "", "opened"),
+            (1, "", "bad_tables"),
+            (1, "agents = 0", "bad_tables"),
+            (1, "agents = 1", "opened"),
+            (2, "agents = 1", "bad_tables"),
+            (2, "agents = 2", "opened"),
+            (2, "x_agents = 2", "bad_tables"),
+            (2, "agents = 2.0", "bad_setup"),
+        ):
+            with self.subTest(spoiled=spoiled, note=note):
+                text = OF_MORE.format(spoiled) + (noted("electors = 300", note) if note else "")
+                self.assertEqual((taken_over(text), answered(text)), (word, word))
+        ends()
 
     def test_no_text_that_is_not_utf_8_is_taken(self):
         made(SETUP, REOPENED)

@@ -166,7 +166,7 @@ class Files(ProgramCase):
                 self.assertEqual(lines[10:], [f"row 2 0 {row}"] if row else [])
 
     def test_a_file_of_any_name(self):
-        """Its name says nothing of its form."""
+        """Its name does not say its form."""
         new(THREE_STATIONS, "new.db")
         for name in ("returns.tsv", "returns.csv;", "returns", "x.txt", "x.csv.gz", "ñ é.CSV"):
             with self.subTest(name=name):

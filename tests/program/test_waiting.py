@@ -35,7 +35,7 @@ def given_up(desk, message, connected):
 
 
 def waits_for(db, message):
-    """What one client sees that keeps the office waiting, while the next one is there already and
+    """The view of one client that keeps the office waiting, while the next one is there already and
     then gets its answer, as a third does.
     """
     with serving(db, 3, failed=1) as desk, ThreadPoolExecutor(1) as other:
@@ -50,8 +50,8 @@ def waits_for(db, message):
 
 
 def read_late(db):
-    """What a client reads that takes nothing of it for fifteen seconds, while the next one is there
-    already and waits for its answer.
+    """The answer as a client reads it that takes no byte for fifteen seconds, while the next one is
+    there already and waits for its answer.
     """
     with serving(db, 2) as desk, ThreadPoolExecutor(1) as other, socket.socket() as it:
         it.setsockopt(socket.SOL_SOCKET, socket.SO_RCVBUF, 4096)
@@ -74,7 +74,7 @@ def read_late(db):
 
 
 def never_read(db):
-    """How many seconds a client that takes nothing of its answer keeps the next one waiting."""
+    """How many seconds a client that takes no byte of its answer keeps the next one waiting."""
     with serving(db, 2, failed=1) as desk, socket.socket() as it:
         it.setsockopt(socket.SOL_SOCKET, socket.SO_RCVBUF, 4096)
         it.settimeout(PATIENCE)
@@ -105,8 +105,8 @@ def stays(db):
 
 
 def pauses(db):
-    """What a client is answered whose message comes in three parts, with eight seconds between
-    them, and one that sends a body that is too long, with a pause in its middle, before it reads.
+    """The answer to a client whose message comes in three parts, with eight seconds between them,
+    and to one that sends a body that is too long, with a pause in its middle, before it reads.
     """
     with serving(db, 3) as desk:
         with socket.create_connection(("127.0.0.1", desk.port), timeout=PATIENCE) as it:

@@ -1,1 +1,1 @@
-"""What suites share: nothing here is a test."""
+"""The modules that suites share: nothing here is a test."""

@@ -26,7 +26,7 @@ def answered_as(plain, db, requests, anew=()):
 
 
 def shown_as(plain, db, cons, reports):
-    """What is shown of a database is what the plain office shows."""
+    """All that is shown of a database is what the plain office shows."""
     for con, report in itertools.product(cons, reports):
         status, text = plain.ask(
             "GET", f"/{report}" if report in OFFICE_REPORTS else f"/con/{con}/{report}"
@@ -56,6 +56,7 @@ CON_REPORTS = (
     "short",
     "holders",
     "past",
+    "provisional",
     "stations",
     "returns",
 )

@@ -5,8 +5,8 @@ from tests.support.program import database, new, put
 
 
 def certificates(count):
-    """The report of so many certificates of an office of sixty lists, each of an edition after the
-    one before it was opened again.
+    """The report of this many certificates of an office of sixty lists, each of an edition after
+    the one before it was opened again.
     """
     lists = "".join(f"{f'L{n}':16}{3 if n == 1 else 0:5} {'n' * 80}\n" for n in range(1, 61))
     return "PAST c1 Twin Town\n" + "".join(

@@ -1,4 +1,4 @@
-"""What requests cost a server: processor time, and what it reads of its database."""
+"""The costs of requests to a server: processor time, and what it reads of its database."""
 
 import statistics
 import time
@@ -24,7 +24,7 @@ def has_taken(desk):
 
 
 def spent(desk, *request, times=TIMES, status=200):
-    """The nanoseconds of the processor that an answer takes, the median of so many of this status:
+    """The nanoseconds of the processor that an answer takes, the median of `times` of this status:
     other work on the machine adds to some.
     """
     took = []

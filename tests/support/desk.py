@@ -77,7 +77,7 @@ def reset(connection):
 
 @contextlib.contextmanager
 def serving(db, count, failed=0):
-    """A desk for so many connections, of which so many fail; with None, as many as it says."""
+    """A desk for `count` connections, of which `failed` fail; with None, as many as it says."""
     desk = Desk(db, count)
     yield desk
     ran = desk.end()

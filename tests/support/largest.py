@@ -173,7 +173,7 @@ def reports_of(con):
     return [get(f"/con/{con.code}/{report}") for report in CON_REPORTS]
 
 
-# What a command is sent to: with `anew`, a server is begun for each.
+# The paths to which a command is sent: with `anew`, a server is begun for each.
 COMMANDS = (
     "/lodge",
     "/query",

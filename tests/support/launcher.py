@@ -56,8 +56,8 @@ echo "the program's own output"
 """
 
 
-# What `rt all check` says of a crate that it proves, of one that was proved already, and of the
-# library without code that uses them.
+# The output of `rt all check` on a crate that it proves, on one that was proved already, and on
+# the library without code that uses them.
 PROVED = """
 echo "only=0 proved=0"
 echo "== tally_frac"
@@ -70,7 +70,7 @@ printf '== summary\\ntally_frac: ok\\n'
 """
 
 
-# What it says where all sources are read in some seconds and a crate is then proved in none.
+# Its output where all sources are read in some seconds and a crate is then proved in none.
 TIMED = """
 sleep {}
 echo "only=0 proved=0"
@@ -80,7 +80,7 @@ printf '== summary\\ntally_frac: ok\\n'
 """
 
 
-# What `rt try` prints of a program that refuses a text. For the program's own output there is its
+# The output of `rt try` on a program that refuses a text. For the program's own output there is its
 # folder, its arguments and its input.
 TRIED = """
 printf '%s\\n' "$PWD" "$@"
@@ -188,8 +188,8 @@ class Copy:
         return calls.read_text().splitlines() if calls.exists() else []
 
     def files(self):
-        """What the copy of the repository has: each file and folder below it, with its size and the
-        time of its last change.
+        """The contents of the copy of the repository: each file and folder below it, with its size
+        and the time of its last change.
         """
         return {
             str(path): (path.stat().st_size, path.stat().st_ctime_ns)

@@ -10,6 +10,8 @@ import math
 import re
 from functools import cached_property
 
+from tests.support.model_reports import REPORTS, Unreported, country, progress, shown
+
 # The divisors of the rules, and what the votes are multiplied by: the modified rule divides by 1.4,
 # 3, 5 and so on, in fifths.
 DIVISORS = {
@@ -63,10 +65,6 @@ class Refused(Exception):
         self.number, self.more = number, more
 
 
-class Unreported(Exception):
-    """A report cannot be given, in a word."""
-
-
 def need(holds, number, **more):
     if not holds:
         raise Refused(number, **more)
@@ -91,7 +89,7 @@ def tied(ranked, seats):
 
 
 class Poll:
-    """The allotment of so many seats among votes for lists, which are numbered from 0.
+    """The allotment of this many seats among votes for lists, which are numbered from 0.
 
     A lot is the numbers of its lists in its order.
     """
@@ -128,7 +126,7 @@ class Poll:
 
     @cached_property
     def scale(self):
-        """What each divisor divides, so that a quotient times this is a whole number."""
+        """The number that each divisor divides, so that a quotient times this is a whole number."""
         return math.lcm(*map(self.divisor, range(1, self.seats + 1)))
 
     def quotient(self, votes, k):
@@ -175,7 +173,19 @@ class Poll:
 
     def allotted(self):
         ranked, left = self.ranked()
-        won = [rank[3] for rank in ranked[:left]]
+        return self.seats_of(ranked[:left])
+
+    def least(self):
+        """The seats of each list whatever lot is drawn: the ranks that win, without those among
+        which one is needed.
+        """
+        ranked, left = self.ranked()
+        equal, win = tied(ranked, left)
+        open_ranks = equal if 0 < win < len(equal) else []
+        return self.seats_of([rank for rank in ranked[:left] if rank not in open_ranks])
+
+    def seats_of(self, ranks):
+        won = [rank[3] for rank in ranks]
         whole = [
             self.quota(n)[0] if self.method == "hare" and n in self.eligible else 0
             for n in range(len(self.votes))
@@ -184,7 +194,7 @@ class Poll:
 
     def short(self, n, held):
         """The least number of votes more with which a list is sure of one more seat: its next pair
-        is then above all but so many of others.
+        is then above all but that many of others.
         """
         if held == self.seats:
             return None
@@ -282,7 +292,7 @@ def counted(answers):
 
 
 class Office:
-    """What an office is and answers, by its setup as `tomllib` reads it."""
+    """An office and its answers, by its setup as `tomllib` reads it."""
 
     def __init__(self, setup):
         profiles = {profile["code"]: profile for profile in setup["profile"]}
@@ -382,7 +392,7 @@ class Office:
         return {"ok": "moved", "rev": rev + 1}
 
     def answers(self, con, text):
-        """What rows come to that are lodged one by one: a word, and of those that are named the
+        """The outcome of rows that are lodged one by one: a word, and of those that are named the
         number and the words. No field of them is in quotes.
         """
         header, *rows = text.splitlines()
@@ -421,7 +431,7 @@ class Office:
     # Constituencies.
 
     def check_open(self, con, edition):
-        """What a lot and a certificate need alike."""
+        """The conditions of a lot and of a certificate alike."""
         need(con.certified is None, 9)
         need(con.edition == edition, 11, now=con.edition)
         need(edition < LAST, 12)
@@ -472,216 +482,3 @@ class Office:
             "ok": "vacated",
             "next": next((it for it in con.holders(n) if it not in before), None),
         }
-
-
-# ---- what is shown
-
-
-def shown(con):
-    votes, blank, spoiled = con.closed()
-    return {
-        "con": con.code,
-        "edition": con.edition,
-        "certified": con.certified is not None,
-        "note": con.note,
-        "closed": con.statuses()[3],
-        "stations": len(con.electors),
-        "votes": votes,
-        "blank": blank,
-        "spoiled": spoiled,
-        "lot": [con.lists[n] for n in con.lot],
-        "seats": con.certified or [],
-        **({"entry": "double"} if con.twice else {}),
-        "gone": [
-            {"list": con.lists[n], "place": place, "note": con.gone[n, place]}
-            for n, place in sorted(con.gone)
-        ],
-    }
-
-
-def progress(con):
-    numbers = len(con.electors), len(con.electors) - len(con.returns), *con.statuses(), con.edition
-    return (
-        f"{con.code:16}"
-        + "".join(f"{n:7}" for n in numbers)
-        + f" {'open' if con.certified is None else 'certified'}\n"
-    )
-
-
-def titled(report, con, lines):
-    return "".join(
-        f"{line}\n" for line in [f"{report.upper()} {con.code} {con.setup['name']}", *lines]
-    )
-
-
-def tally(con):
-    votes, blank, spoiled = con.closed()
-    poll = con.poll()
-    shares = [v * 10000 // poll.base if poll.base else 0 for v in votes]
-    return titled(
-        "tally",
-        con,
-        [
-            f"stations {len(con.electors)} closed {con.statuses()[3]}",
-            f"valid {sum(votes) + blank} blank {blank} spoiled {spoiled}",
-            *(
-                f"{code:16}{votes[n]:12}{f'{shares[n] // 100}.{shares[n] % 100:02}':>8}"
-                f" {'in' if n in poll.eligible else 'out':4}{con.names[n]}"
-                for n, code in enumerate(con.lists)
-            ),
-        ],
-    )
-
-
-def of_certified(of_hare=None):
-    """A report of certified constituencies alone, and of those by quotas or by divisors alone."""
-
-    def decorated(lines):
-        def report(con):
-            if con.certified is None:
-                raise Unreported("not_certified")
-            if of_hare not in (None, con.profile["method"] == "hare"):
-                raise Unreported("other_method")
-            return titled(lines.__name__, con, lines(con))
-
-        return report
-
-    return decorated
-
-
-@of_certified()
-def seats(con):
-    rows = [f"{code:16}{con.certified[n]:5} {con.names[n]}" for n, code in enumerate(con.lists)]
-    return [f"edition {con.edition}", *rows, f"{'total':16}{sum(con.certified):5}"]
-
-
-@of_certified(of_hare=False)
-def quotients(con):
-    poll = con.poll()
-    columns = range(1, max(con.certified) + 2)
-    return [
-        f"{con.lists[n]:16}"
-        + "".join(
-            f"{'*' if k <= con.certified[n] else ' '}{poll.in_units(n) // poll.divisor(k):11}"
-            for k in columns
-        )
-        for n in poll.eligible
-    ]
-
-
-@of_certified(of_hare=False)
-def awards(con):
-    poll = con.poll()
-    return [
-        f"{number:4} {con.lists[n]:16}{k:4}{poll.in_units(n):14}{poll.divisor(k):6}"
-        f"{poll.in_units(n) // poll.divisor(k):12}"
-        for number, (n, k) in enumerate(poll.awards(), 1)
-    ]
-
-
-@of_certified(of_hare=True)
-def quota(con):
-    poll = con.poll()
-    rows = [
-        f"{con.lists[n]:16}{poll.votes[n]:12}"
-        f"{poll.quota(n)[0]:5}{poll.quota(n)[1]:16}{con.certified[n]:5}"
-        for n in poll.eligible
-    ]
-    return [f"votes {poll.total} seats {con.seats}", *rows]
-
-
-@of_certified(of_hare=False)
-def short(con):
-    poll = con.poll()
-    numbers = {n: poll.short(n, con.certified[n]) for n in poll.eligible}
-    return [
-        f"{con.lists[n]:16}{con.certified[n]:5}{'-' if more is None else more:>12}"
-        for n, more in numbers.items()
-    ]
-
-
-@of_certified()
-def holders(con):
-    rows = []
-    for n, code in enumerate(con.lists):
-        held = con.holders(n)
-        rows += [f"{code:16}{place:5} {con.candidates[n][place - 1]}" for place in held]
-        rows += [f"{code:16}    - empty"] * (con.certified[n] - len(held))
-    return rows
-
-
-def past(con):
-    rows = []
-    for edition, won in sorted(con.past.items()):
-        rows += [
-            f"edition {edition}",
-            *(f"{code:16}{won[n]:5} {con.names[n]}" for n, code in enumerate(con.lists)),
-        ]
-    return titled("past", con, rows)
-
-
-def stations(con):
-    def entry(code, it):
-        votes = (
-            f"{it['status']:9}{it['rev']:5} {it['slip']:16}"
-            f"{sum(it['votes']):8}{it['blank']:8}{it['spoiled']:8}"
-            if it
-            else "-"
-        )
-        return f"{code:16}{con.electors[code]:8} {votes}"
-
-    missing = len(con.electors) - len(con.returns)
-    head = f"stations {len(con.electors)} missing {missing} closed {con.statuses()[3]}"
-    return titled(
-        "stations", con, [head, *(entry(code, con.returns.get(code)) for code in con.electors)]
-    )
-
-
-def returns(con):
-    rows = [["station", "slip", "blank", "spoiled", *con.lists]]
-    for code in con.electors:
-        if it := con.returns.get(code):
-            rows.append([code, it["slip"], it["blank"], it["spoiled"], *it["votes"]])
-    return "".join(",".join(map(str, row)) + "\n" for row in rows)
-
-
-def country(cons):
-    won, polled, names = {}, {}, {}
-    for con in cons:
-        for code, name, seats, votes in zip(
-            con.lists, con.names, con.certified or [0] * len(con.lists), con.closed()[0]
-        ):
-            won[code], polled[code] = won.get(code, 0) + seats, polled.get(code, 0) + votes
-            names.setdefault(code, name)
-    total = sum(con.seats for con in cons)
-    return "".join(
-        f"{line}\n"
-        for line in [
-            "COUNTRY",
-            (
-                f"constituencies {len(cons)} certified"
-                f" {sum(con.certified is not None for con in cons)}"
-            ),
-            (
-                f"stations {sum(len(con.electors) for con in cons)} closed"
-                f" {sum(con.statuses()[3] for con in cons)}"
-            ),
-            *(f"{code:16}{won[code]:7}{polled[code]:14} {name}" for code, name in names.items()),
-            f"{'total':16}{sum(won.values()):7}{sum(polled.values()):14}",
-            f"seats {total} majority {total // 2 + 1}",
-        ]
-    )
-
-
-REPORTS = {
-    "stations": stations,
-    "returns": returns,
-    "tally": tally,
-    "seats": seats,
-    "quotients": quotients,
-    "awards": awards,
-    "quota": quota,
-    "short": short,
-    "holders": holders,
-    "past": past,
-}

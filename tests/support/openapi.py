@@ -23,7 +23,7 @@ PHRASES = {
 
 
 def at(reference):
-    """What a reference such as `#/components/schemas/Code` names."""
+    """The part that a reference such as `#/components/schemas/Code` names."""
     found = DOCUMENT
     for part in reference.removeprefix("#/").split("/"):
         found = found[part]

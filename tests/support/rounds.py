@@ -1,4 +1,4 @@
-"""What the tests of the pages are made with: rounds of press.py over offices that do not exist."""
+"""The tools of the tests of the pages: rounds of press.py over offices that do not exist."""
 
 import contextlib
 import shutil
@@ -24,7 +24,7 @@ class OfPages(Case):
         Path("setup.toml").write_text(with_stations(1), encoding="utf-8")
 
     def publish(self, answers, site=None, status=0, program=DEPLOY / "press.py", folder="pages"):
-        """What a round of press.py wrote on its error stream."""
+        """The lines that a round of press.py wrote on its error stream."""
         words = ["--site", "site"] if self.site_of(site) else []
         with answering_desk(answers) as (port, _):
             done = subprocess.run(

@@ -31,7 +31,7 @@ class Safeguards(Case):
 
 
 def run(name, *words, data=b"", status=0):
-    """What a script of deploy/ prints and says, with this status."""
+    """The output and the errors of a script of deploy/, with this status."""
     done = subprocess.run([DEPLOY / name, *words], input=data, capture_output=True,
                           timeout=PATIENCE)
     said = done.stdout.decode(), done.stderr.decode()

@@ -46,7 +46,7 @@ def ran(*words, status=0):
 
 
 def printed(*words):
-    """What it prints, without what it says on standard error."""
+    """The output of a program, without its standard error."""
     return subprocess.run(words, capture_output=True, text=True, timeout=PATIENCE,
                           check=True).stdout
 

@@ -80,7 +80,7 @@ def made(setup, script, db="good.db", constituencies=1):
 
 
 def stored(db):
-    """What is to be answered to GET of each constituency, of its past and of each station, by the
+    """The expected answers to GET of each constituency, of its past and of each station, by the
     rows of a database.
     """
     answers = {}
@@ -166,14 +166,14 @@ def named(items):
 
 
 def shown(db):
-    """What is answered to the same."""
+    """The desk's answers to these requests."""
     paths = list(stored(db))
     with serving(db, len(paths)) as desk:
         return {path: desk.ask("GET", path)[::2] for path in paths}
 
 
 def answered(statements, good="good.db"):
-    """What the program answers to a copy of an office after these statements: `opened` or a word;
+    """The answer of the program to a copy of an office after these statements: `opened` or a word;
     None where a table refuses them.
 
     Where it opens, it shows what the rows say. Whatever it answers, it leaves each byte of the

@@ -67,6 +67,47 @@ B                   2 Beta
 """
 
 
+# The provisional seats: without a closed return, with equal votes, with the lot, and certified.
+PROVISIONAL_NONE = """\
+PROVISIONAL c1 Twin Town
+stations 1 closed 0
+no_eligible
+A                   0 Alpha
+B                   0 Beta
+total               0
+"""
+
+
+PROVISIONAL_TIED = """\
+PROVISIONAL c1 Twin Town
+stations 1 closed 1
+lot 1 A B
+A                   1 Alpha
+B                   1 Beta
+total               2
+"""
+
+
+PROVISIONAL_OPEN = """\
+PROVISIONAL c1 Twin Town
+stations 1 closed 1
+open
+A                   1 Alpha
+B                   2 Beta
+total               3
+"""
+
+
+PROVISIONAL_CERTIFIED = """\
+PROVISIONAL c1 Twin Town
+stations 1 closed 1
+certified
+A                   1 Alpha
+B                   2 Beta
+total               3
+"""
+
+
 PROGRESS = "c1                    1      1      0      0      0      0      1 open\n"
 
 

@@ -71,10 +71,10 @@ module _ (terms : Terms) (r : AreRaces terms) (a : List ℕ) (f : IsFair (vote_r
 -- ---- the group of a tie
 
 -- the marks of the eligible lists with the votes of one
-abbrev class_of : Poll → ℕ → List Bool
+abbrev pub class_of : Poll → ℕ → List Bool
 class_of poll l = map (λ x. get_or poll.eligible x false && eqb (votes_of poll x) (votes_of poll l)) (range_with_len 0 (length poll.votes))
 
-class-is : (poll : Poll) (l : ℕ) → IsSound poll → IsClassOf poll l (class_of poll l)
+pub class-is : (poll : Poll) (l : ℕ) → IsSound poll → IsClassOf poll l (class_of poll l)
 class-is poll l sound x = (there, back)
   where
     mark : ℕ → Bool
@@ -104,7 +104,7 @@ class-is poll l sound x = (there, back)
 
 -- ---- what the votes come to
 
--- The votes decide, or a lot is needed, among a group and for so many seats.
+-- The votes decide, or a lot is needed, among a group and for this many seats.
 pub decided-or_need : (rule : Rule) (poll : Poll) (seats : ℕ) → IsRule rule → IsSound poll → 1 ≤ seats → HasEligible poll
     → IsDecidedByVotes rule poll seats ⊎ ((group : List Bool) × (in_question : ℕ) × IsNeed rule poll seats group in_question)
 decided-or_need rule poll seats d sound some has = go (some_tie terms r w.0 fair)

@@ -7,6 +7,8 @@ pub mod Reordered
 pub mod KeyLemmas
 pub mod DecidedOrNeeded
 pub mod ProfileLaws
+pub mod NextLemmas
 pub mod ShortLemmas
+pub mod LeastLemmas
 pub mod DivisorRuleLemmas
 pub mod OrderLemmas

@@ -80,11 +80,11 @@ pub fewest_same : {d d' u u' e e' : ℕ} (y : ℕ) → d ≡ d' → u ≡ u' →
 fewest_same y pd pu pe f = record { above = above_same refl pd pu pe f.above; one_less = λ h. f.one_less (above_same refl (sym pd) (sym pu) (sym pe) h) }
 
 -- The unit of a rule cancels
-scaled_up : (unit : ℕ) → 1 ≤ unit → (v d u e : ℕ) → VotesRankAbove v d u e → IsHigher (record { num = v * unit; den = d }) v (record { num = u * unit; den = e }) u
+pub scaled_up : (unit : ℕ) → 1 ≤ unit → (v d u e : ℕ) → VotesRankAbove v d u e → IsHigher (record { num = v * unit; den = d }) v (record { num = u * unit; den = e }) u
 scaled_up unit p v d u e (inl h) = inl ((scaled-greater u d v e unit p).1 h)
 scaled_up unit p v d u e (inr t) = inr ((scaled-level v e u d unit p).1 t.0, t.1)
 
-scaled_down : (unit : ℕ) → 1 ≤ unit → (v d u e : ℕ) → IsHigher (record { num = v * unit; den = d }) v (record { num = u * unit; den = e }) u → VotesRankAbove v d u e
+pub scaled_down : (unit : ℕ) → 1 ≤ unit → (v d u e : ℕ) → IsHigher (record { num = v * unit; den = d }) v (record { num = u * unit; den = e }) u → VotesRankAbove v d u e
 scaled_down unit p v d u e (inl h) = inl ((scaled-greater u d v e unit p).0 h)
 scaled_down unit p v d u e (inr t) = inr ((scaled-level v e u d unit p).0 t.0, t.1)
 
@@ -194,7 +194,7 @@ module _ (nth : ℕ → ℕ) (unit : ℕ) (some_unit : 1 ≤ unit) (lot_rule : L
             not_above_itself _ _ (smaller_divisor _ _ _ _ _ (no_larger (get_or a c 0) (get_or a c 0 + 1) wins (omega arith)) h')
         by_list (inr nc) h = w.last_not_below_next c z.m (holder a w.shares c wins) ez (λ e. nc (sym e)) wins (up h)
 
-  -- With so many votes more every allotment gives the list more.
+  -- With this many votes more every allotment gives the list more.
   pub enough : (x : ℕ) → VotesRankAbove (votes_of poll m + x) (nth (get_or a m 0 + 1)) (votes_of poll c) (nth (get_or a c 0)) → IsSureOfMore (divisors nth unit lot_rule) poll seats (get_or a m 0) m x
   enough x above b given = by_cases (cases_lt (get_or a m 0) (get_or b m 0))
     where

@@ -8,7 +8,7 @@ pub struct QuotaRow {
     pub list: u32,
     /// Its whole quotas.
     pub whole: u32,
-    /// What they leave of its votes, times the seats.
+    /// The rest of its votes after them, times the seats.
     pub rem: u64,
     /// Whether it has one more seat.
     pub extra: bool,

@@ -25,9 +25,9 @@ use tally_frac::{Divisors, votes_rank_above};
 use tally_setup::{LotRule, Profile};
 
 /// How many more votes each list needs for one more seat than it has now, in order of place, for a
-/// profile by a divisor rule: with so many, whatever lot is drawn, it has more, and with one fewer
-/// it may not. The other votes and the lists that are eligible are taken as they are. `None` where
-/// a list is not eligible or has all seats. It refuses as `allot` does.
+/// profile by a divisor rule: with this many, whatever lot is drawn, it has more, and with one
+/// fewer it may not. The other votes and the lists that are eligible are taken as they are. `None`
+/// where a list is not eligible or has all seats. It refuses as `allot` does.
 pub fn votes_short(
     alloc: Global,
     profile: &Profile,

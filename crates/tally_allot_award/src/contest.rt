@@ -14,7 +14,7 @@ ghost use Rattle.tally_allot_award.specs.internal.Terms.{vote_race};
 
 /// The lists that contest the seats of a poll, under a rule and a lot. Lists are numbered from 0.
 /// The pair of a list and a number of a seat, from 1, is one of the contest where that list may
-/// still hold so many seats and more than it holds in any case.
+/// still hold this many seats and more than it holds in any case.
 pub trait Contest {
     ghost terms: { Self → Terms };
 
@@ -172,7 +172,7 @@ fn lower_last<C: Contest>(
     }
 }
 
-/// Gives so many seats more, each to the list whose next pair ranks highest.
+/// Gives this many seats more, each to the list whose next pair ranks highest.
 pub(crate) fn award<C: Contest>(contest: &C, seats: &mut [u32], number: u32)
     requires sound { AreSound (C.terms contest.now) }
     requires fair { AreFairSoFar (C.terms contest.now) seats.old }

@@ -72,7 +72,7 @@ impl<'a> HareContest<'a> {
         self.quotas[list].floor
     }
 
-    /// What the whole quotas leave of an eligible list's votes, times the seats.
+    /// The rest of an eligible list's votes after the whole quotas, times the seats.
     pub fn remainder(&self, list: usize) -> u64
         requires list { list < length self.now.poll.votes.now }
         requires eligible { IsEligible (kept_poll self.now.poll) list }

@@ -76,7 +76,7 @@ fn is_order_of_equals<C: Contest>(contest: &C, lot: &[u32]) -> bool
     is_order_of(&group, lot)
 }
 
-/// The eligible lists with so many votes.
+/// The eligible lists with this many votes.
 fn lists_with<C: Contest>(contest: &C, votes: u64) -> ListSet
     requires sound { AreSound (C.terms contest.now) }
     ensures { HaveVotes (C.terms contest.now).poll votes result }
@@ -90,7 +90,7 @@ fn lists_with<C: Contest>(contest: &C, votes: u64) -> ListSet
     lists
 }
 
-/// How many lists of a group hold so many seats.
+/// How many lists of a group hold this many seats.
 fn count_holding(group: &ListSet, seats: &[u32], held: u32) -> u32
     requires { length seats.now ≤ most_lists }
     ensures { result ≡ sum_before (holds_at group.now seats.now held) (length seats.now) }

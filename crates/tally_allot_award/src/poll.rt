@@ -13,7 +13,7 @@ use tally_setup::{Profile, base_of, is_eligible};
 pub struct Poll<'a> {
     /// The votes of each list, up to 60 lists and 5,000,000,000 votes together.
     pub votes: &'a [u64],
-    /// What a list needs, in ten-thousandths of the base.
+    /// The share that a list needs, in ten-thousandths of the base.
     pub threshold: u32,
     /// The votes that the threshold is taken of, up to 5,000,000,000.
     pub base: u64,

@@ -10,14 +10,14 @@ ghost use Rattle.tally_allot_award.specs.declared.quota.Quota.{Quota as row_type
 use crate::poll::Poll;
 use tally_frac::MOST_LISTS;
 
-/// What a list holds by its quotas. All are 0 for a list that is not eligible.
+/// A list's part by its quotas. All are 0 for a list that is not eligible.
 #[derive(Clone, Copy)]
 pub(crate) struct Quota {
     /// The seats that it holds in any case: its whole quotas.
     pub(crate) floor: u32,
     /// The most seats that it may hold.
     pub(crate) cap: u32,
-    /// What the whole quotas leave of its votes, times the seats.
+    /// The rest of its votes after the whole quotas, times the seats.
     pub(crate) remainder: u64,
 }
 
@@ -39,7 +39,7 @@ pub(crate) fn quotas_of(poll: &Poll, seats: u32) -> [Quota; MOST_LISTS]
     quotas
 }
 
-/// The quota of a list, where the eligible lists have so many votes together: at most
+/// The quota of a list, where the eligible lists have this many votes together: at most
 /// 5,000,000,000 * 500 is divided.
 fn quota_from_total(poll: &Poll, seats: u32, total: u64, list: usize) -> Quota
     requires seats { seats ≤ most_seats }

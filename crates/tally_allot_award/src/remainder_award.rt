@@ -42,7 +42,7 @@ pub fn award_remainders(alloc: Global, contest: &HareContest) -> Result<Vec<u32>
     Ok(seats)
 }
 
-/// Gives so many seats more, each to the list of the greatest claim that is left.
+/// Gives this many seats more, each to the list of the greatest claim that is left.
 fn give_to_greatest(
     contest: &HareContest,
     mut claims: BinaryHeap<SeatClaim>,

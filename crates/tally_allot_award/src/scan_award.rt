@@ -21,7 +21,7 @@ pub fn contested_seats<C: Contest>(alloc: Global, contest: &C) -> Result<Vec<u32
     Ok(seats)
 }
 
-/// What each list holds in any case.
+/// The seats that each list holds in any case.
 pub(crate) fn certain_seats<C: Contest>(alloc: Global, contest: &C) -> Result<Vec<u32>, AllocError>
     requires sound { AreSound (C.terms contest.now) }
     requires eligible { HasEligible (C.terms contest.now).poll }

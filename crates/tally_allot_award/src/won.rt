@@ -14,7 +14,7 @@ pub struct WonSeat {
     pub seat: u32,
 }
 
-/// No seats for each of so many lists.
+/// No seats for each of this many lists.
 pub(crate) fn no_seats(alloc: Global, count: usize) -> Result<Vec<u32>, AllocError>
     ensures { IfOk result (λ seats. seats.items ≡ none_held count) }
 {

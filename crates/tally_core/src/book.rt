@@ -17,7 +17,7 @@ use tally_keeper::{ImportCount, ImportFault, Keeper, Ledger, NamedRow, RowSource
 use tally_returns::{Ask, Refusal, Reply, StationRow};
 use tally_setup::{Code, Setup};
 
-/// Keeps the office's state in memory. Nothing of it outlasts the program.
+/// Keeps the office's state in memory. It is gone when the program ends.
 #[derive(Drop)]
 pub struct Book {
     ledger: Ledger,

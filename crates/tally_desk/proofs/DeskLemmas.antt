@@ -32,7 +32,7 @@ use Rattle.tally_import.specs.ReturnRows.{text_coming}
 use Rattle.tally_returns.specs.declared.station_row.StationRow.{StationRow}
 use Rattle.tally_desk.specs.Reports.{IsReportText, IsReportTextBy}
 use Rattle.tally_report_overview.specs.Views.{HasPastIf, is_past}
-use Rattle.tally_report_overview.proofs.ViewLemmas.{same-quotients}
+use Rattle.tally_report_overview.proofs.ViewLemmas.{same-provisional, same-quotients}
 use Rattle.tally_desk_message.specs.declared.message.Message.{Message}
 use Rattle.tally_desk_routes.specs.Routes.{con_of_target, station_of_target}
 use Rattle.tally_desk_routes.specs.Bodies.{IsBody, IsCommand}
@@ -45,11 +45,13 @@ use Rattle.tally_desk.specs.Requests.{Commands, Named, AtCon, AtNamed, AtStation
 -- ---- what is shown
 
 -- The text that is answered is that of the whole view: the two compute to the same, but for
--- quotients, which go by the rule, and for the report that shows the certificates.
+-- quotients, which go by the rule, for provisional seats, which go by their
+-- status, and for the report that shows the certificates.
 pub text-whole : (which : Report) (con : Constituency) (view : View) (past : List PastSeats) (text : List ℕ) → HasPastIf (is_past which) past (Ok view) → IsReportText con view which text → IsReportText con (record view { past = past }) which text
 text-whole report.Quotients con view past text has is =
     subst (λ (q : List ℕ). IsReportTextBy (divisors_fault con view) (λ t. t ≡ q) text) (same-quotients (rule_in con) con view past) is
 text-whole report.Past con view past text has is = subst (λ (p : List PastSeats). IsReportText con (record view { past = p }) report.Past text) has is
+text-whole report.Provisional con view past text has is = (is.0, same-provisional con view past is.0 is.1, is.2)
 text-whole other con view past text has is = is
 
 -- nothing changed where stations were shown

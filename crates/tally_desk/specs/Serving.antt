@@ -63,9 +63,9 @@ Serves Answers old (c ∷ cs) [] answered new = ⊥
 abbrev pub connections_taken_up : Connections → List Connection
 connections_taken_up all = all.ended ++ option_to_list all.current
 
--- So many connections of a door, where they are known, were served one after the other: as many of
--- those to come were taken up, the others are still to come, and of those so many were answered
--- over a content, which is then `new`, where the keeper is trusted.
+-- This many connections of a door, where they are known, were served one after the other: as many
+-- of those to come were taken up, the others are still to come, and of those this many were
+-- answered over a content, which is then `new`, where the keeper is trusted.
 abbrev pub IsServing : {C : Type 0}
     → Answering C → Type 0 → ℕ → ℕ → Option Connections → Option Connections → C → C → Type 0
 IsServing Answers IsTrusted count answered known known_new old new =

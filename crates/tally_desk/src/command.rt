@@ -78,7 +78,7 @@ pub(crate) fn order_on_con<K: Keeper>(
     }
 }
 
-/// What is answered where an import was not done.
+/// The answer where an import was not done.
 pub(crate) fn import_word(fault: ImportFault) -> Word
     ensures { result ≡ import_word fault }
 {

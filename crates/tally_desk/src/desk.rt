@@ -69,7 +69,7 @@ impl<K: Keeper> Responder<K> for Desk {
     }
 }
 
-/// Serves so many connections of a door, one after the other: each message is answered from the
+/// Serves this many connections of a door, one after the other: each message is answered from the
 /// keeper. A connection counts as failed where the door had none, where a read of its message
 /// failed, and where its answer was not written whole.
 pub fn serve<K: Keeper, D: Door>(alloc: Global, keeper: &mut K, door: &mut D, count: u32) -> Served

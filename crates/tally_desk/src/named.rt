@@ -9,7 +9,7 @@ ghost use Rattle.tally_desk.specs.internal.Named.{lists_of};
 use tally_desk_routes::{con_of_target, station_of_target};
 use tally_setup::{Code, ListEntry, Setup};
 
-/// What a command is on, by its code.
+/// The station or constituency of a command, by its code.
 #[derive(Clone, Copy)]
 pub(crate) enum Subject {
     Station(Code),

@@ -10,7 +10,7 @@ use tally_desk_message::{Message, MessageFault};
 
 /// Answers messages from a keeper.
 pub trait Responder<K> {
-    /// What a keeper has, as far as answers depend on it.
+    /// The content of a keeper, as far as answers depend on it.
     ghost Content: { Type 0 };
 
     ghost content: { K → Content };
@@ -19,7 +19,7 @@ pub trait Responder<K> {
     /// call.
     ghost IsTrusted: { K → Type 0 };
 
-    /// What is answered to a message or a fault over a content, and the content then.
+    /// The answer to a message or a fault over a content, and the content then.
     ghost Answers: { Content → Result Message MessageFault → List ℕ → Content → Type 0 };
 
     /// The answer where there was no memory for one.

@@ -71,7 +71,7 @@ fn serve_next<K, R: Responder<K>, D: Door>(
     }
 }
 
-/// Serves so many connections of a door, one after the other: from each it reads a message, and
+/// Serves this many connections of a door, one after the other: from each it reads a message, and
 /// writes its answer. A connection counts as failed where the door had none, where a read of its
 /// message failed, and where its answer was not written whole.
 pub fn serve<K, R: Responder<K>, D: Door>(

@@ -52,7 +52,7 @@ allow_line status.Unavailable = []
 abbrev pub close_line : List ℕ
 close_line = codes "Connection: close\r\n"
 
--- the fields of an answer whose body has so many bytes, and the empty line after them
+-- the fields of an answer whose body has this many bytes, and the empty line after them
 abbrev pub fields_text : AnswerStatus → BodyType → ℕ → List ℕ
 fields_text s t n = type_line t ++ length_line n ++ allow_line s ++ close_line ++ codes "\r\n"
 

@@ -26,7 +26,7 @@ pub enum AnswerStatus {
     Unavailable,
 }
 
-/// What a body is.
+/// The type of a body.
 #[derive(Clone, Copy)]
 pub enum BodyType {
     Json,

@@ -10,7 +10,7 @@ use crate::status::{AnswerStatus, BodyType};
 /// The room that an answer needs that is a word alone.
 pub const WORD_ROOM: usize = 320;
 
-/// What is answered in place of a reply, a refusal or what is shown.
+/// The answers in place of a reply, a refusal or a report.
 #[derive(Clone, Copy)]
 pub enum Word {
     /// The bytes begin with no head.

@@ -17,7 +17,7 @@ shorter_front a b r l same short =
 pub none_yet : (text : List ℕ) → HasNoRequest text → HasNoHead text
 none_yet text none h rest begins = none h rest begins.reads
 
--- so many bytes have no head: what follows makes no head of that many bytes
+-- this many bytes have no head: what follows makes no head of that many bytes
 pub none_in : (text buf left : List ℕ) → text ≡ buf ++ left → HasNoRequest buf → head_limit ≤ length buf → HasNoHead text
 none_in text buf left is none full h rest begins =
     let same : print_request h ++ rest ≡ buf ++ left = sym begins.reads.1 ∙ is in

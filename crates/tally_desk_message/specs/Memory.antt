@@ -14,8 +14,8 @@ abbrev pub fails_within : Option ℕ → List ℕ → Bool
 fails_within None input = false
 fails_within (Some count) input = nat_le count (length input)
 
--- A connection that gives this input, whose reads fail once so many bytes were given, and whose
--- writes take so many bytes in all.
+-- A connection that gives this input, whose reads fail once this many bytes were given, and whose
+-- writes take this many bytes in all.
 abbrev pub new_connection : List ℕ → Option ℕ → ℕ → Connection
 new_connection input read_fails room = record {
   input = input_until read_fails input;

@@ -100,7 +100,7 @@ body_length head = announced_length head.method (map name_and_value head.fields)
 
 -- ---- messages and faults
 
--- the text begins with a head that announces a body of so many bytes
+-- the text begins with a head that announces a body of this many bytes
 pub record Announces (text : List ℕ) (count : ℕ) (head : RequestHead) (rest : List ℕ) : Type 0 where
   pub begins : BeginsWithHead text head rest
   pub length : body_length head ≡ Ok count
@@ -176,7 +176,7 @@ OnlyReadsInput c d =
 abbrev pub FailsAs : {X : Type 0} → Result X MessageFault → Connection → Connection → Type 0
 FailsAs answer c d = d.read_failed ≡ (has_failed_read answer || c.read_failed)
 
--- at most so many bytes of a connection's input were taken
+-- at most this many bytes of a connection's input were taken
 abbrev pub TakesAtMost : ℕ → Connection → Connection → Type 0
 TakesAtMost most c d = length c.input ≤ most + length d.input
 

@@ -13,7 +13,7 @@ pub enum DoorFault {
 
 /// Connections one after the other, of which at most one is current.
 pub trait Door {
-    /// What is known of its connections, or nothing.
+    /// Its connections, as far as they are known.
     ghost known: { Self → Option Connections };
 
     /// Whether one is current.

@@ -38,8 +38,8 @@ fn head_in(bytes: &[u8], headers: &mut [HeaderSpan]) -> Result<Option<RequestSpa
     }
 }
 
-/// The same where the first `before` bytes came earlier: `lines` are theirs, and they begin with no
-/// head.
+/// As `head_in`, where the first `before` bytes came earlier: `lines` are theirs, and they begin
+/// with no head.
 fn head_since(
     bytes: &[u8],
     before: usize,

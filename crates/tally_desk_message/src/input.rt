@@ -8,7 +8,7 @@ ghost use Rattle.tally_desk_message.specs.declared.input.Input.TheVariants.{Byte
 
 use crate::door::Door;
 
-/// What a read of a connection came to.
+/// The outcome of a read of a connection.
 #[derive(Clone, Copy)]
 pub(crate) enum Input {
     Bytes,

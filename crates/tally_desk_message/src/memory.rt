@@ -68,7 +68,7 @@ impl MemoryConn {
         })
     }
 
-    /// What was written to it.
+    /// The bytes that were written to it.
     pub fn written(&self) -> &[u8]
         ensures { result.now ≡ self.now.written }
     {

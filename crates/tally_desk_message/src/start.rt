@@ -58,7 +58,7 @@ fn body_in(alloc: Global, rest: &[u8], length: usize) -> Result<Vec<u8>, Message
     Ok(body)
 }
 
-/// What a whole head and the bytes after it say.
+/// The content of a whole head and the bytes after it.
 pub(crate) fn start_in(
     alloc: Global,
     bytes: &[u8],

@@ -195,7 +195,7 @@ fn discard(stream: &mut TcpStream) -> io::Result<()> {
     Ok(())
 }
 
-/// Reads what comes within so many milliseconds: none where nothing does, 0 bytes at the end.
+/// Reads what comes within this many milliseconds: none where nothing does, 0 bytes at the end.
 fn read_within(stream: &mut TcpStream, wait: u64, buf: &mut [u8]) -> io::Result<Option<usize>> {
     stream.set_read_timeout(Some(Duration::from_millis(wait)))?;
     match stream.read(buf) {

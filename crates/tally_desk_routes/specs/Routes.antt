@@ -43,6 +43,7 @@ con_routes =
     ∷ (codes "/con/{c}/short", route.Report report.Short)
     ∷ (codes "/con/{c}/holders", route.Report report.Holders)
     ∷ (codes "/con/{c}/past", route.Report report.Past)
+    ∷ (codes "/con/{c}/provisional", route.Report report.Provisional)
     ∷ (codes "/con/{c}/returns", route.Returns)
     ∷ (codes "/con/{c}/stations", route.Stations)
     ∷ []

@@ -34,7 +34,7 @@ pub enum ConCommand {
     Vacate,
 }
 
-/// What a target names.
+/// The thing that a target names.
 #[derive(Clone, Copy)]
 pub enum Route {
     /// How far each constituency has come.
@@ -89,7 +89,7 @@ const STATION_ROUTES: [(&str, Route); 8] = [
 ];
 
 // What is shown of a constituency.
-const CON_ROUTES: [(&str, Route); 11] = [
+const CON_ROUTES: [(&str, Route); 12] = [
     ("/con/{c}", Route::Con),
     ("/con/{c}/tally", Route::Report(Report::Tally)),
     ("/con/{c}/seats", Route::Report(Report::Seats)),
@@ -99,6 +99,7 @@ const CON_ROUTES: [(&str, Route); 11] = [
     ("/con/{c}/short", Route::Report(Report::Short)),
     ("/con/{c}/holders", Route::Report(Report::Holders)),
     ("/con/{c}/past", Route::Report(Report::Past)),
+    ("/con/{c}/provisional", Route::Report(Report::Provisional)),
     ("/con/{c}/returns", Route::Returns),
     ("/con/{c}/stations", Route::Stations),
 ];

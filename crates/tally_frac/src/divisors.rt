@@ -23,7 +23,7 @@ pub trait Divisors {
         requires last { k ≤ last_divisor }
         ensures { result ≡ divisor self.now k };
 
-    /// What each `nth(k)` is to be divided by, 1 to 5.
+    /// The number that each `nth(k)` is to be divided by, 1 to 5.
     fn unit(&self) -> u64
         ensures { result ≡ unit_of self.now };
 

@@ -19,7 +19,7 @@ pub fn fractions_are_ordered()
     ensures not_level { (x y : Fraction) → IsGreater x y → ¬ (IsLevel x y) }
 {}
 
-/// What is greater than a greater fraction is greater.
+/// A fraction that is greater than a greater one is greater.
 pub fn greater_fractions_chain()
     ensures { (x y z : Fraction) → 1 ≤ x.den → IsTransitiveAt IsGreater x y z }
 {}
@@ -59,7 +59,7 @@ pub fn weak_rank_is_ordered()
     ensures not_tied { (p q : Pair) → RanksAboveByVotes p q → ¬ (TiesByVotes p q) }
 {}
 
-/// What ranks by votes above a pair that ranks above a third ranks above the third, and pairs that
+/// A pair that ranks by votes above one that ranks above a third ranks above the third. Pairs that
 /// tie rank alike.
 pub fn weak_ranks_chain()
     ensures above { Chain RanksAboveByVotes RanksAboveByVotes RanksAboveByVotes }
@@ -88,7 +88,7 @@ pub fn strict_rank_is_ordered()
     ensures not_tied { (p q : Pair) → RanksAbove p q → ¬ (TiesByVotesAndPlace p q) }
 {}
 
-/// What ranks above a pair that ranks above a third ranks above the third.
+/// A pair that ranks above one that ranks above a third ranks above the third.
 pub fn strict_ranks_chain()
     ensures { Chain RanksAbove RanksAbove RanksAbove }
 {}

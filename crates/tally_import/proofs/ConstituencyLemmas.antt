@@ -1,19 +1,18 @@
 -- The header and the stations of a constituency.
 use Rattle.std.proofs.Common.{◌≡◌, ◌<◌, ◌+◌, ◌∷◌, ◌∙◌, ℕ, zero, suc, List, [], Bool, true, false, cond, Option, Some, None, length, map, drop, get_or, refl, sym, ap, arith, add-one, option_map, is_some}
 use Rattle.std.specs.Prelude.{not, ◌&&◌, ◌||◌}
-use Rattle.std.specs.BTreeSet.{BTreeSet, Updates, contains}
+use Rattle.std.specs.HashSet.{Updates, contains}
 use Rattle.std.specs.Cmp.Lexicographic.{pointwise}
 use Rattle.std.specs.List.{list_any, find}
 use Rattle.std.specs.Str.{bytes_eq}
 use Rattle.std.proofs.Math.Seq.{drop-cons}
-use Rattle.std.proofs.lemmas.Map.Text.{is_eq-slice_cmp}
 use Rattle.std.proofs.lemmas.Slice.Eq.{bytes_eq-Decides}
-use Rattle.tally_setup.specs.Code.{code_cmp}
 use Rattle.tally_setup.specs.Constituency.{Constituency, ListEntry, list_codes, station_codes}
 use Rattle.tally_setup.specs.declared.constituency.Station.{Station}
 use Rattle.tally_returns.specs.Decide.{station_in, limits_of}
 use Rattle.tally_import.specs.Header.{same_text}
 use Rattle.tally_import.specs.ReturnRows.{station_limits_in}
+use Rattle.tally_import.specs.internal.StationSet.{Codes}
 use Rattle.tally_import.proofs.HeaderLemmas.{drop-at}
 
 -- ---- the header
@@ -75,12 +74,12 @@ same-either a b = go (bytes_eq a b) (bytes_eq b a) (bytes_eq-Decides a b) (bytes
     go false false e f = refl
 
 -- one more station in the set, and one less to come
-pub station-moved : (old new : BTreeSet (List ℕ)) (stations : List Station) (place : ℕ) (d : Station) (code : List ℕ) (q : List ℕ)
-    → place < length stations → code ≡ (get_or stations place d).code → Updates code_cmp old new code true
-    → (contains code_cmp new q || list_any (bytes_eq q) (station_codes (drop (place + 1) stations)))
-    ≡ (contains code_cmp old q || list_any (bytes_eq q) (station_codes (drop place stations)))
+pub station-moved : (old new : Codes) (stations : List Station) (place : ℕ) (d : Station) (code : List ℕ) (q : List ℕ)
+    → place < length stations → code ≡ (get_or stations place d).code → Updates bytes_eq old new code true
+    → (contains bytes_eq new q || list_any (bytes_eq q) (station_codes (drop (place + 1) stations)))
+    ≡ (contains bytes_eq old q || list_any (bytes_eq q) (station_codes (drop place stations)))
 station-moved old new stations place d code q within is updates =
-    ap (λ b. b || later) (updates.0 q ∙ ap (λ b. cond b true had) (is_eq-slice_cmp code q ∙ same-either code q ∙ ap (bytes_eq q) is))
+    ap (λ b. b || later) (updates.0 q ∙ ap (λ b. cond b true had) (same-either code q ∙ ap (bytes_eq q) is))
     ∙ go (bytes_eq q (get_or stations place d).code) had
     ∙ ap (λ l. had || list_any (bytes_eq q) (station_codes l)) (sym here)
   where
@@ -88,7 +87,7 @@ station-moved old new stations place d code q within is updates =
     later = list_any (bytes_eq q) (station_codes (drop (place + 1) stations))
 
     had : Bool
-    had = contains code_cmp old q
+    had = contains bytes_eq old q
 
     here : drop place stations ≡ get_or stations place d ∷ drop (place + 1) stations
     here = rw (add-one place) (drop-cons stations place d within)

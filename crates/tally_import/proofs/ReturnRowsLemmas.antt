@@ -2,10 +2,9 @@
 use Rattle.std.proofs.Common.{◌≡◌, ◌<◌, ◌≤◌, ◌+◌, ◌++◌, ◌∷◌, ◌∙◌, ℕ, Bool, zero, suc, List, [], true, false, Option, Some, None, length, take, drop, map, refl, sym, ap, subst, arith, add-one, length-append, append_assoc, inl, inr}
 use Rattle.std.specs.Prelude.{◌≢◌, if◌then◌else◌, nat_lt, option_map, is_some, IfSome, Result, Ok, Err}
 use Rattle.std.proofs.lemmas.Bool.{lt-ltb, le-ltb}
-use Rattle.std.specs.BTreeSet.{contains}
+use Rattle.std.specs.HashSet.{contains}
 use Rattle.std.specs.List.{list_any}
 use Rattle.std.specs.Str.{bytes_eq}
-use Rattle.tally_setup.specs.Code.{code_cmp}
 use Rattle.tally_setup.specs.Constituency.{Constituency, list_codes, station_codes}
 use Rattle.tally_returns.specs.Lodge.{Stations}
 use Rattle.tally_keeper.specs.Given.{with_given}
@@ -242,7 +241,7 @@ rows-too_many text old_left left con sep old new records fields at step same ful
 pub rows-row : (text old_left left : Option (List ℕ)) (con : Constituency) (sep : Sep) (old new : Rows) (fields : List (List ℕ)) (row : Row)
     → IsReadingRows text old_left con sep old → Step old_left left old.records fields new.records → sep_of new.records ≡ sep_of old.records → IsReadingOn new.records
     → new.lists ≡ old.lists → new.stations ≡ old.stations → new.came ≡ old.came + 1 → old.came < row_limit
-    → ((limits : Stations) → ((code : List ℕ) → contains code_cmp old.stations code ≡ is_some (limits code)) → row ≡ row_of limits old.lists fields)
+    → ((limits : Stations) → ((code : List ℕ) → contains bytes_eq old.stations code ≡ is_some (limits code)) → row ≡ row_of limits old.lists fields)
     → GivesRow text left con sep old (Ok (Some row)) new
 rows-row text old_left left con sep old new fields row at step same reading lists stations one room found =
     let come = at.come.2 in
@@ -254,7 +253,7 @@ rows-row text old_left left con sep old new fields row at step same reading list
         separator = same ∙ at.separator;
         lists = lists ∙ at.lists;
         few = at.few;
-        stations = subst (λ set. (code : List ℕ) → contains code_cmp set code ≡ is_some (station_limits_in con code)) (sym stations) at.stations;
+        stations = subst (λ set. (code : List ℕ) → contains bytes_eq set code ≡ is_some (station_limits_in con code)) (sym stations) at.stations;
         within = omega (arith, one, room);
         come = (
           header,
@@ -278,7 +277,7 @@ rows-row text old_left left con sep old new fields row at step same reading list
 pub rows-opened : (text old_left left : Option (List ℕ)) (con : Constituency) (sep : Sep) (old : Records) (rows : Rows) (header : List (List ℕ))
     → HasGiven text old_left [] old → Step old_left left old header rows.records → IsReadingOn rows.records → sep_of rows.records ≡ sep
     → is_header (list_codes con.lists) header ≡ true → rows.lists ≡ length con.lists → length con.lists ≤ 60
-    → ((code : List ℕ) → contains code_cmp rows.stations code ≡ list_any (bytes_eq code) (station_codes con.stations)) → rows.came ≡ 0
+    → ((code : List ℕ) → contains bytes_eq rows.stations code ≡ list_any (bytes_eq code) (station_codes con.stations)) → rows.came ≡ 0
     → IsReadingRows text left con sep rows
 rows-opened text old_left left con sep old rows header given step reading same is lists few stations none = record {
   reading = reading;

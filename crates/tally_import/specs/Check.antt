@@ -97,7 +97,7 @@ abbrev pub check_fault : Stop → CheckFault
 check_fault stopped.TooLong = TooLong
 check_fault stopped.Read = Read
 
--- the rows that records are, under a header of so many lists
+-- the rows that records are, under a header of this many lists
 abbrev pub rows_of_records : ℕ → List (List (List ℕ)) → List Row
 rows_of_records lists records = map (row_of (every_code lists) lists) records
 

@@ -2,10 +2,12 @@
 use Rattle.std.specs.Prelude.{◌≡◌, ◌≢◌, ◌≤◌, ◌⊎◌, if◌then◌else◌, nat_lt, ℕ, Bool, true, false, List}
 use Rattle.std.specs.Prelude.{[], ◌∷◌, map, length, take, drop, Option, Some, None, option_map}
 use Rattle.std.specs.Prelude.{is_some, IfSome, Result, Ok, Err, codes, ⊤}
-use Rattle.std.specs.BTreeSet.{BTreeSet, contains}
+use Rattle.std.specs.HashSet.{HashSet, contains}
 use Rattle.std.specs.Cmp.Lexicographic.{pointwise}
+use Rattle.std.specs.Str.{bytes_eq}
+use Rattle.std.specs.declared.hash.BuildHasherDefault.{BuildHasherDefault}
+use Rattle.std.specs.declared.hash.FoldHasher.{FoldHasher}
 use Rattle.tally_frac.specs.Limits.{most_lists}
-use Rattle.tally_setup.specs.Code.{code_cmp}
 use Rattle.tally_setup.specs.Constituency.{Constituency, list_codes}
 use Rattle.tally_returns.specs.Lodge.{Stations}
 use Rattle.tally_returns.specs.Decide.{station_in, limits_of}
@@ -79,12 +81,12 @@ text_coming con sep text = records_coming con (text_records sep text) (text_stop
 
 -- ---- how far the rows have come
 
--- what is left after so many rows
+-- what is left after this many rows
 abbrev pub coming_after : ℕ → Coming → Coming
 coming_after came coming = record { rows = drop came coming.rows; fault = coming.fault }
 
 -- A read of this text failed, and all that was complete before it was given first: of the bytes
--- that came, nothing comes after so many rows but the failed read.
+-- that came, nothing comes after this many rows but the failed read.
 abbrev pub AllRowsCame : Constituency → Sep → ℕ → List ℕ → Option (List ℕ) → Type 0
 AllRowsCame con sep came text left = (bytes : List ℕ) × Gave text left bytes (Some stopped.Read)
     × (coming_after came (bytes_coming con sep bytes (Some stopped.Read))
@@ -97,9 +99,9 @@ still_coming con sep (Reading rows) text = coming_after rows.came (text_coming c
 still_coming con sep (Ended fault) text = fault_alone fault
 
 -- the set has the stations of the constituency
-abbrev pub HasStations : Constituency → BTreeSet (List ℕ) → Type 0
+abbrev pub HasStations : Constituency → HashSet (List ℕ) (BuildHasherDefault FoldHasher) → Type 0
 HasStations con set =
-    (code : List ℕ) → contains code_cmp set code ≡ is_some (station_limits_in con code)
+    (code : List ℕ) → contains bytes_eq set code ≡ is_some (station_limits_in con code)
 
 -- The header and these records of this text were given.
 pub record HasCome (text left : Option (List ℕ)) (rows : Rows) (lists header : List (List ℕ))
@@ -187,7 +189,7 @@ EndsAgain ended result LeavesSo = (fault : Option ImportFault)
 
 -- ---- failed reads
 
--- Where a failed read is answered after so many rows, all that was complete before it came first.
+-- Where a failed read is answered after this many rows, all that was complete before it came first.
 abbrev pub FailsLast : {T : Type 0} → Option (List ℕ) → Constituency → Sep → ℕ
     → Result T ImportFault → Option (List ℕ) → Type 0
 FailsLast text con sep came result left =

@@ -32,7 +32,7 @@ abbrev pub unless_unread : Option ℕ → Row → Row
 unless_unread None row = row
 unless_unread (Some place) row = Bad (BadNumber (column.List place))
 
--- The row that a record is, where these are the stations and there are so many lists: station,
+-- The row that a record is, where these are the stations and there are this many lists: station,
 -- slip, blank, spoiled and one number for each list. If it cannot be read it is bad, by the first
 -- of the causes.
 abbrev pub row_of : Stations → ℕ → List (List ℕ) → Row

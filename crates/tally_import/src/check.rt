@@ -109,9 +109,9 @@ pub fn check_csv<R: Read, W: Write>(
     check_watched(alloc, reader, &mut reads, writer, &mut writes, sep, lines)
 }
 
-/// The same with a watch on each stream: a failed read is answered only where one of the reader's
-/// own reads failed, and a failed write only where the writer failed or took nothing. With `Ok`
-/// neither watch noted a failure: a read that fails is not made again.
+/// As `check_csv`, with a watch on each stream: a failed read is answered only where one of the
+/// reader's own reads failed, and a failed write only where the writer failed or took nothing. With
+/// `Ok` neither watch noted a failure: a read that fails is not made again.
 pub fn check_watched<R: Read, W: Write>(
     alloc: Global,
     reader: &mut R,
@@ -139,7 +139,7 @@ pub fn check_watched<R: Read, W: Write>(
     }
 }
 
-/// What is written of a reader's text, or the fault that comes first.
+/// The text to write for a reader's text, or the fault that comes first.
 fn checked_text<R: Read>(
     alloc: Global,
     reader: &mut R,
@@ -157,7 +157,7 @@ fn checked_text<R: Read>(
     text_of_records(alloc, reader, watch, &mut records, &mut fields, lines)
 }
 
-/// What is written of records, of which none was given. One after the other is read into `fields`.
+/// The text to write for records, of which none was given. Each in turn is read into `fields`.
 fn text_of_records<R: Read>(
     alloc: Global,
     reader: &mut R,
@@ -191,7 +191,7 @@ fn text_of_records<R: Read>(
     )
 }
 
-/// What is written of the records after a header of these lists.
+/// The text to write for the records after a header of these lists.
 fn text_under_header<R: Read>(
     alloc: Global,
     reader: &mut R,

@@ -42,7 +42,7 @@ impl Import {
     ghost use Rattle.tally_import.specs.internal.Progress.{lodged_of};
     ghost use Rattle.tally_import.specs.internal.Totals.{AreTotalsOfFew, TotalsRise};
 
-    /// An import that has taken no row, of so many lists.
+    /// An import that has taken no row, of this many lists.
     pub(crate) fn new(alloc: Global, lists: usize) -> Result<Import, AllocError>
         requires { lists ≤ most_lists }
         ensures { IfOk result (HasTaken (record { lists = lists; rows = [] })) }

@@ -19,8 +19,8 @@ pub fn write_text<W: Write>(writer: &mut W, text: &[u8]) -> Result<(), CheckFaul
     write_watched(writer, &mut Watch::new(), text)
 }
 
-/// The same with a watch on the writer, which has noted a failed call where there is a fault, and
-/// with `Ok` none.
+/// As `write_text`, with a watch on the writer. It has noted a failed call where there is a fault,
+/// and with `Ok` none.
 pub fn write_watched<W: Write>(
     writer: &mut W,
     watch: &mut Watch<W>,

@@ -2,12 +2,11 @@
 
 ghost use Rattle.std.specs.Prelude.{◌≡◌, ◌≤◌, Bool, true, false, Ok, Err, Option, Some, None};
 ghost use Rattle.std.specs.Prelude.{List, ℕ, is_some, option_map, IfOk, IfErr, IfSome, OnOk};
-ghost use Rattle.std.specs.BTreeSet.{contains};
+ghost use Rattle.std.specs.HashSet.{contains};
 ghost use Rattle.std.specs.List.{list_any};
 ghost use Rattle.std.specs.Str.{bytes_eq};
 ghost use Rattle.csv.specs.Records.{fields_of};
 ghost use Rattle.tally_frac.specs.Limits.{most_lists};
-ghost use Rattle.tally_setup.specs.Code.{code_cmp};
 ghost use Rattle.tally_setup.specs.Constituency.{Constituency, list_codes, station_codes};
 ghost use Rattle.tally_keeper.specs.Given.{with_given};
 ghost use Rattle.tally_keeper.specs.Source.{GivesNext, IsLodgeOrBad, at_end, ends_by, row_limit};
@@ -30,7 +29,7 @@ use crate::header::{FIXED_NAMES, has_fixed_names};
 use crate::row::row_of;
 use csv::ByteRecord;
 use std::alloc::{AllocError, Global};
-use std::collections::BTreeSet;
+use std::collections::HashSet;
 use std::io::Read;
 use std::marker::Model;
 use std::snapshot::Snapshot;
@@ -95,7 +94,7 @@ pub(crate) struct Rows {
     /// How many lists there are.
     lists: usize,
     /// The codes of the stations.
-    stations: BTreeSet<Code>,
+    stations: HashSet<Code>,
     /// How many rows came.
     came: u32,
     /// The record that was read last, whose room serves for the next one.
@@ -356,7 +355,7 @@ fn header_fault(end: End) -> ImportFault
     }
 }
 
-/// What comes after the last row of a text.
+/// The end of a text, after its last row.
 fn rows_end(end: End) -> Result<Option<Row>, ImportFault>
     ensures end { result ≡ at_end (option_map import_fault end.stop) }
     ensures read { (failed : Bool) → failed ≡ flag_after_stop end.stop false
@@ -387,12 +386,12 @@ fn is_header(lists: &[ListEntry], fields: &ByteRecord) -> bool
     true
 }
 
-/// The codes of stations, in which each is found in logarithmic time.
-fn station_codes(alloc: Global, stations: &[Station]) -> Result<BTreeSet<Code>, AllocError>
-    ensures { IfOk result (λ codes. (code : List ℕ) → contains code_cmp codes code
+/// The codes of stations, in which each is found by its hash.
+fn station_codes(alloc: Global, stations: &[Station]) -> Result<HashSet<Code>, AllocError>
+    ensures { IfOk result (λ codes. (code : List ℕ) → contains bytes_eq codes code
         ≡ list_any (bytes_eq code) (station_codes stations.now)) }
 {
-    let mut codes = BTreeSet::new(alloc);
+    let mut codes = HashSet::with_capacity(alloc, stations.len())?;
     for station in stations {
         codes.insert(station.code)?;
     }

@@ -13,7 +13,7 @@ ghost use Rattle.tally_import.specs.internal.StationSet.{is_station};
 use crate::header::FIXED_NAMES;
 use csv::ByteRecord;
 use std::alloc::{AllocError, Global};
-use std::collections::BTreeSet;
+use std::collections::HashSet;
 use tally_import_records::field;
 use tally_keeper::{BadRow, Column, Row};
 use tally_returns::{Ask, Counts};
@@ -22,11 +22,11 @@ use tally_setup::Code;
 /// The most digits that a number may have.
 const DIGITS: usize = 9;
 
-/// The row that a record is, under a header of so many lists. Without stations every code is one.
+/// The row that a record is, under a header of this many lists. Without stations every code is one.
 pub(crate) fn row_of(
     alloc: Global,
     lists: usize,
-    stations: Option<&BTreeSet<Code>>,
+    stations: Option<&HashSet<Code>>,
     fields: &ByteRecord,
 ) -> Result<Row, AllocError>
     requires { lists ≤ most_lists }
@@ -69,7 +69,7 @@ pub(crate) fn row_of(
 }
 
 /// Whether a code is one of these stations. Without stations every code is one.
-fn is_station(stations: Option<&BTreeSet<Code>>, code: &Code) -> bool
+fn is_station(stations: Option<&HashSet<Code>>, code: &Code) -> bool
     ensures { result ≡ is_station (option_copied stations.entry) code.now }
 {
     match stations {

@@ -14,8 +14,8 @@ use crate::totals::Totals;
 use std::alloc::{AllocError, Global};
 use tally_setup::Code;
 
-/// What is written of an import under a header of these lists, with lines of its rows or without,
-/// or the fault Memory.
+/// The text to write for an import under a header of these lists, with lines of its rows or
+/// without, or the fault Memory.
 pub(crate) fn import_text(
     alloc: Global,
     lists: &[Code],

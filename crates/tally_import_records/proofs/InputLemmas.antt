@@ -9,7 +9,7 @@ use Rattle.tally_import_records.specs.declared.end.End.{End}
 use Rattle.tally_import_records.specs.declared.held.HeldText.{HeldText}
 use Rattle.tally_import_records.specs.internal.Pieces.{Ends, FillsHeld, HoldsMore}
 
-past : (limit : ℕ) (text bytes rest : List ℕ) → text ≡ bytes ++ rest → limit < length bytes → (take limit bytes ≡ take limit text) × (limit < length text)
+pub past : (limit : ℕ) (text bytes rest : List ℕ) → text ≡ bytes ++ rest → limit < length bytes → (take limit bytes ≡ take limit text) × (limit < length text)
 past limit text bytes rest is more =
     (sym (ap (take limit) is ∙ take-append-le limit bytes rest (omega arith)), omega (arith, ap length is, length-append bytes rest))
 

@@ -8,4 +8,5 @@ pub mod ComingLemmas
 pub mod StoppedLemmas
 pub mod GivenLemmas
 pub mod WorkLemmas
+pub mod WholeLemmas
 pub mod ReadingLemmas

@@ -123,7 +123,7 @@ all-steps cfg s ys d a b more between is = go (next_record cfg s [] [] (ys ++ d 
         absurd (nil_cons a (b ∷ more) (sym (all-next cfg s (ys ++ d ∷ []) between ∙ ap (records_next (all cfg)) e) ∙ is))
     go (Some p) e = left p p.2 refl e
 
--- After so many records of a text these bytes come, whatever follows.
+-- After this many records of a text these bytes come, whatever follows.
 abbrev pub Passes : Config → State → List ℕ → ℕ → ℕ → List (List (List ℕ)) → Type 0
 Passes cfg s ys d k others = (s2 : State) × (zs : List ℕ) × (ends_at_end s2 ≡ false) × (ends_line ys ≡ true → ends_line zs ≡ true)
     × (all cfg s2 (zs ++ d ∷ []) ≡ others) × ((rest : List ℕ) → drop k (all cfg s (ys ++ rest)) ≡ all cfg s2 (zs ++ rest))

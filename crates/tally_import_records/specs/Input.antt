@@ -14,10 +14,16 @@ size_limit = 16777216
 
 -- These bytes came of a text, until it ended or was stopped: TooLong, where the text goes on past
 -- the limit, or Read, where a read failed and `left` is what it left.
+abbrev pub GaveWithin : ℕ → List ℕ → Option (List ℕ) → List ℕ → Option Stop → Type 0
+GaveWithin limit text left bytes None = (bytes ≡ text) × (length text ≤ limit)
+GaveWithin limit text left bytes (Some TooLong) =
+    (bytes ≡ take limit text) × (limit < length text)
+GaveWithin limit text left bytes (Some Read) =
+    Consumes (Some text) left bytes × (length bytes ≤ limit)
+
+-- the same of an input of any size that one may have
 abbrev pub Gave : List ℕ → Option (List ℕ) → List ℕ → Option Stop → Type 0
-Gave text left bytes None = (bytes ≡ text) × (length text ≤ size_limit)
-Gave text left bytes (Some TooLong) = (bytes ≡ take size_limit text) × (size_limit < length text)
-Gave text left bytes (Some Read) = Consumes (Some text) left bytes × (length bytes ≤ size_limit)
+Gave = GaveWithin size_limit
 
 -- all but the last
 abbrev pub without_last : {X : Type 0} → List X → List X

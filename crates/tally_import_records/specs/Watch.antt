@@ -20,6 +20,14 @@ flag_after_stop None before = before
 flag_after_stop (Some TooLong) before = before
 flag_after_stop (Some Read) before = true
 
+-- What a watch notes of an input that is read as a whole: that a read failed, where one stopped it,
+-- and what it noted before, where the input ended of itself. Of one that is too long nothing is
+-- said.
+abbrev pub NotesStop : Option Stop → Bool → Bool → Type 0
+NotesStop None before failed = failed ≡ before
+NotesStop (Some TooLong) before failed = ⊤
+NotesStop (Some Read) before failed = failed ≡ true
+
 -- the same of how an input ended, where it has
 abbrev pub flag_after_end : Option End → Bool → Bool
 flag_after_end None before = before

@@ -2,3 +2,4 @@
 pub mod Text
 pub mod Reading
 pub mod Pieces
+pub mod TextRecords

@@ -136,8 +136,8 @@ fn is_given(alloc: Global, front: &[u8], sep: Sep, given: usize) -> Result<bool,
     has_nothing_after(&mut reader.reader, &mut record, given)
 }
 
-/// Whether after so many records a reader gives only the one that a separator begins after the end
-/// of a line.
+/// Whether after this many records a reader gives only the one that a separator begins after the
+/// end of a line.
 fn has_nothing_after(
     reader: &mut Reader<Text>,
     row: &mut ByteRecord,

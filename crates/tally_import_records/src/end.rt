@@ -1,6 +1,6 @@
 //! How an input ended.
 
-/// What stopped an input before its end.
+/// The reason why an input stopped before its end.
 #[derive(Clone, Copy, Debug)]
 pub enum Stop {
     /// The input goes on past 16 MiB.
@@ -12,6 +12,6 @@ pub enum Stop {
 /// How an input ended: of itself, or by what stopped it.
 #[derive(Clone, Copy, Debug)]
 pub struct End {
-    /// What stopped it, unless it ended of itself.
+    /// The reason why it stopped, unless it ended by itself.
     pub stop: Option<Stop>,
 }

@@ -52,7 +52,7 @@ impl HeldText {
         }
     }
 
-    /// Reads until so many bytes are held or the input ends, of itself or stopped. An
+    /// Reads until this many bytes are held or the input ends, of itself or stopped. An
     /// input that goes on past 16 MiB is stopped there. Room for all that may come is made at
     /// once, so what is held is not moved as it grows.
     pub(crate) fn fill<R: Read>(
@@ -154,7 +154,7 @@ impl HeldText {
         }
     }
 
-    /// Puts a line feed in place of so many bytes at the beginning.
+    /// Puts a line feed in place of this many bytes at the beginning.
     pub(crate) fn drop_front(&mut self, alloc: Global, count: usize) -> Result<(), AllocError>
         requires some { 0 < count }
         requires within { count ≤ length self.old.bytes.items }

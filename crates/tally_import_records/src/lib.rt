@@ -11,11 +11,15 @@ mod reading;
 mod records;
 mod separator;
 mod text;
+mod text_records;
 mod watch;
+mod whole;
 mod work;
 
 pub use end::{End, Stop};
 pub use fields::field;
 pub use records::Records;
 pub use separator::Sep;
+pub use text_records::TextRecords;
 pub use watch::Watch;
+pub use whole::{WholeText, read_whole};

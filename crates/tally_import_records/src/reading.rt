@@ -63,7 +63,7 @@ pub(crate) fn next_record(
     Ok(found)
 }
 
-/// Passes over so many records, and answers whether there are so many.
+/// Skips this many records, and returns whether there were as many.
 pub(crate) fn pass_over(
     reader: &mut Reader<Text>,
     row: &mut ByteRecord,

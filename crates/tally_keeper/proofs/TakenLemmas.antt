@@ -31,7 +31,7 @@ GivesAt left r next = GivesNext left.coming r next.coming × (next.given ≡ wit
 abbrev pub AreTaken : Option Coming → List Row → Option Coming → Type 0
 AreTaken all rows left = IfSome all (λ known. (rest : List Row) × (left ≡ Some (record known { rows = rest })) × (known.rows ≡ rows ++ rest))
 
--- so many rows came; they were answered what was counted, and left these returns
+-- this many rows came; they were answered what was counted, and left these returns
 pub record SoFar (stations : Stations) (old now : Returns) (all left : SourceAt) (count : ImportCount) (many : ℕ) : Type 0 where
   pub rows : List Row
   pub many_are : length rows ≡ many

@@ -44,7 +44,7 @@ GivesNext old (Err fault) new =
     × (IsSudden fault
     ⊎ (IfSome old (λ coming. (coming.rows ≡ []) × (coming.fault ≡ Some fault)) × (new ≡ old)))
 
--- a source gives at most so many rows, and then its end or a fault of its own
+-- a source gives at most this many rows, and then its end or a fault of its own
 abbrev pub IsWithinRowLimit : Coming → Type 0
 IsWithinRowLimit coming = (length coming.rows ≤ row_limit) × (coming.fault ≢ Some Store)
 

@@ -19,7 +19,7 @@ pub enum Row {
 /// Why a row cannot be read: the first of these causes, in this order.
 #[derive(Clone, Copy, Debug, PartialEq, Eq)]
 pub enum BadRow {
-    /// It has so many fields, and its header another number of them.
+    /// It has this many fields, and its header another number of them.
     Fields(usize),
     /// Its station is not a code.
     BadStation,
@@ -157,7 +157,7 @@ impl ImportCount {
         self.add_row(row, answer);
     }
 
-    /// The same, for a caller who does not know the answers so far.
+    /// As `add`, for a caller who does not know the answers so far.
     pub fn add_row(&mut self, row: u32, answer: Option<Result<LodgeReply, Refusal>>)
         requires below { IsBelow self.old row }
         ensures { self.new ≡ count_with_row self.old row answer }

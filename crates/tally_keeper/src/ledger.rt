@@ -90,7 +90,7 @@ impl Ledger {
         self.returns.get(&station)
     }
 
-    /// What is seen of the constituency of a code.
+    /// The view of the constituency of a code.
     pub fn view(&self, con: Code) -> Option<&ConView>
         ensures { option_copied result
             ≡ option_map (view_in self.now) (constituency_with con self.now.setup) }

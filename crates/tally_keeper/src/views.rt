@@ -17,7 +17,7 @@ use std::collections::BTreeMap;
 use tally_returns::{ConView, Gone, Past, ProgressRow, Return};
 use tally_setup::{Code, Constituency, Setup};
 
-/// What is seen of each constituency as it opens.
+/// The view of each constituency as it opens.
 pub(crate) fn opening_views(
     alloc: Global,
     setup: &Setup,
@@ -55,7 +55,7 @@ fn opening_view(alloc: Global, con: &Constituency) -> Result<ConView, AllocError
     })
 }
 
-/// What is seen of the constituency of a code.
+/// The view of the constituency of a code.
 pub(crate) fn view_at(views: &BTreeMap<Code, ConView>, con: Code) -> Option<&ConView>
     ensures { option_copied result ≡ get (views_of views.now) con }
 {

@@ -16,7 +16,8 @@ use Rattle.tally_law.specs.Rules.{rule_of, poll_of}
 abbrev pub profile_of : Method → Profile
 profile_of method = record { method = method; threshold = 300; base = Valid; lot = Fixed }
 
--- Of so many seats and these votes, with no blank ones, these seats are the allotment by a method.
+-- Of this many seats and these votes, with no blank ones, these seats are the allotment by a
+-- method.
 abbrev pub Allots : Method → List ℕ → ℕ → List ℕ → Type 0
 Allots method votes seats a =
     IsAllotment (rule_of (profile_of method)) (poll_of (profile_of method) votes 0) [] seats a

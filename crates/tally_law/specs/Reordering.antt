@@ -2,7 +2,7 @@
 use Rattle.std.specs.Prelude.{ℕ, List, map, slice_index, IsPermutation}
 use Rattle.std.specs.List.{range_with_len}
 
--- The order has the number of each of so many lists once, from 0.
+-- The order has the number of each of this many lists once, from 0.
 abbrev pub IsReordering : ℕ → List ℕ → Type 0
 IsReordering count order = IsPermutation (range_with_len 0 count) order
 

@@ -24,7 +24,7 @@ first_stay seats (suc k) n gone enough =
     let e : n + suc k ≡ n + 1 + k = omega arith in
     ap (λ m. take seats (remaining_candidates m gone)) e ∙ first_stay seats k (n + 1) gone more.1 ∙ more.0
 
--- where so many stay as there are seats, they are the holders
+-- where this many stay as there are seats, they are the holders
 pub all_seats : (candidates seats n : ℕ) (gone : List ℕ) → n ≤ candidates → length (remaining_candidates n gone) ≡ seats → remaining_candidates n gone ≡ holders candidates seats gone
 all_seats candidates seats n gone le full =
     let e : n + (candidates - n) ≡ candidates = omega (arith, le) in

@@ -18,7 +18,7 @@ use tally_allot::{AllotFault, ListSet, allot};
 use tally_returns::{ConView, LAST_EDITION, Past, Refusal};
 use tally_setup::{Code, Constituency, good_note};
 
-/// What a reopening comes to.
+/// The outcome of a reopening.
 #[derive(Drop)]
 pub struct Reopening {
     /// The note that says why.

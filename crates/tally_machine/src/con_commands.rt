@@ -11,8 +11,8 @@ use std::alloc::Global;
 use tally_returns::{Ask, Change, ConView, Refusal};
 use tally_setup::Constituency;
 
-/// What a command on a constituency changes, or why it is refused: on this constituency, of which
-/// this is seen.
+/// The change that a command on a constituency makes, or its refusal: on this constituency, of
+/// which this is seen.
 pub fn decide_con(
     alloc: Global,
     con: &Constituency,

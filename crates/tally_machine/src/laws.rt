@@ -107,7 +107,7 @@ pub fn a_step_is_one()
     laws_of_allotments();
 }
 
-/// What is decided of a command on a return, by what a state says of its station, is a step: its
+/// The decision on a command on a return, by what a state says of its station, is a step: its
 /// refusal is that of the step, or its change leads to the state of the step and gives its answer.
 pub fn a_decision_on_a_return_is_a_step()
     ensures limits { decision.LimitsAreThoseOfTheSetup }
@@ -116,7 +116,7 @@ pub fn a_decision_on_a_return_is_a_step()
     ensures unknown { decision.UnknownStationsAreRefused }
 {}
 
-/// What is decided of a command on a constituency, by its view in a state, is a step. In a lawful
+/// The decision on a command on a constituency, by its view in a state, is a step. In a lawful
 /// state its change can be carried out: the edition stays within its limit, nobody goes twice, and
 /// a certificate that is put on record is of a later edition than those that are.
 pub fn a_decision_on_a_constituency_is_a_step()
@@ -133,7 +133,7 @@ pub fn records_stay()
     ensures run { records.RecordsStayInRuns }
 {}
 
-/// What is on record of a constituency and an edition is the seats of a certificate that a request
+/// The seats on record for a constituency and an edition are those of a certificate that a request
 /// reopened: the one allotment of the closed votes in a state in which the constituency was
 /// certified at that edition. After a run from any lawful state it was on record before, with the
 /// same seats, or a request of the run reopened it.

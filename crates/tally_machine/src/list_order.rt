@@ -61,7 +61,7 @@ pub(crate) fn list_places(
     Ok(Some(places))
 }
 
-/// Whether places name each list of the group once, and no other, where there are so many lists.
+/// Whether places name each list of the group once, and no other, where there are this many lists.
 pub(crate) fn names_group(lists: u32, group: &ListSet, places: &[u32]) -> bool
     requires { (l : ℕ) → lists ≤ l → slice_index_or group.now l false ≡ false }
     ensures { result ≡ names_group group.now places.now }

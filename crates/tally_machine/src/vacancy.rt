@@ -21,7 +21,7 @@ pub struct Vacancy {
     pub next: Option<u32>,
 }
 
-/// What follows where the candidate at this place of the list, from 1, is gone for good: who is
+/// The consequence where the candidate at this place of the list, from 1, is gone for good: who is
 /// gone and who moves in, or why this is refused.
 pub fn vacate(
     alloc: Global,

@@ -17,7 +17,7 @@ use Rattle.tally_returns.specs.State.{last_edition}
 use Rattle.tally_returns.specs.View.{View, FitsView, HasEachList}
 
 -- No list is eligible; or a lot among a group, given by a mark for each of 60 places, is needed for
--- so many seats, and none is recorded; or these are the seats of the lists.
+-- this many seats, and none is recorded; or these are the seats of the lists.
 pub data Outcome : Type 0 where
   nobody : Outcome
   lot_missing : List Bool → ℕ → Outcome

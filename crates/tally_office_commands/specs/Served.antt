@@ -6,20 +6,20 @@ use Rattle.std.specs.Fmt.{decimal}
 abbrev pub listening_at : ℕ → List ℕ
 listening_at port = codes "listening on 127.0.0.1:" ++ decimal port
 
--- for so many connections
+-- for this many connections
 abbrev pub for_connections : ℕ → List ℕ
 for_connections count = codes " for " ++ decimal count ++ codes " connections\n"
 
--- the line of a server that listens at this port for so many connections
+-- the line of a server that listens at this port for this many connections
 abbrev pub listening_line : ℕ → ℕ → List ℕ
 listening_line port count = listening_at port ++ for_connections count
 
--- the line of so many connections that were answered, and so many that failed
+-- the line of this many connections that were answered, and this many that failed
 abbrev pub served_line : ℕ → ℕ → List ℕ
 served_line answered failed =
     codes "answered " ++ decimal answered ++ codes " failed " ++ decimal failed ++ codes "\n"
 
--- Of so many connections each was answered or failed.
+-- Of this many connections each was answered or failed.
 abbrev pub IsServedText : ℕ → List ℕ → Type 0
 IsServedText count text =
     (answered : ℕ) × (failed : ℕ) × (answered + failed ≡ count)

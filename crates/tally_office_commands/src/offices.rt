@@ -15,7 +15,7 @@ pub trait Offices {
     /// An office that is open.
     type Office: Keeper + Drop;
 
-    /// What opening the office at a path, or a port, came to: it is open, or it is not, for a
+    /// The outcome of opening the office at a path, or a port: it is open, or it is not, for a
     /// trouble. All that is known of it comes of `open_office` and `listen`.
     ghost Opens: { Self → Resource → OpeningOutcome };
 

@@ -1,5 +1,5 @@
 -- Words that clap takes name one of the commands, with the arguments that it wants.
-use Rattle.std.proofs.Common.{◌≡◌, ◌∙◌, ◌⊎◌, ◌≤◌, ℕ, Bool, cond, true, false, not, ◌&&◌, refl, sym, ap, subst, List, [], ◌∷◌, fold, Option, Some, None, is_some, true≢false, codes, option_map, inl, inr, Box, Result, Ok, Err, IfErr, IfOk}
+use Rattle.std.proofs.Common.{◌≡◌, ◌∙◌, ◌⊎◌, ◌≤◌, ℕ, Bool, cond, true, false, not, ◌&&◌, ◌||◌, refl, sym, ap, subst, List, [], ◌∷◌, fold, Option, Some, None, is_some, true≢false, codes, option_map, inl, inr, Box, Result, Ok, Err, IfErr, IfOk}
 use Rattle.std.specs.Prelude.{find, option_and_then, unwrap_or}
 use Rattle.std.specs.List.{AllByRecursion as Each, list_any}
 use Rattle.std.specs.Option.{option_map_or}
@@ -26,6 +26,9 @@ use Rattle.clap.specs.declared.parser.matches.ArgMatches.TheViews.{out-SubComman
 use Rattle.clap.specs.declared.parser.matches.SubCommand.{SubCommand}
 use Rattle.std.specs.Box.{box_value}
 use Rattle.std.specs.Result.{IsErrAnd}
+use Rattle.tally_setup.specs.declared.profile.Base.{Base}
+use Rattle.tally_setup.specs.declared.profile.Method.{Method}
+use Rattle.tally_office_line.specs.Line.{AllotSeen, base_given, lacks_rule, lacks_word, method_given, wanted_by}
 use Rattle.tally_office_line.specs.Line.{IsRefusal, IsLineWithinLimits, LineSeen, NewSeen, ImportSeen, ShowSeen, ServeSeen, fault_from, LacksCon, is_out_of_memory, is_set, lacks_con, lacks_report, line_of, line_of_command, line_seen, number_in_range, number_given, office_app, report_of, sep_given, show_line, show_seen, usage_kinds}
 use Rattle.tally_office_line.specs.internal.Arguments.{IsCommandFault, has, has_arguments}
 use Rattle.tally_office_line.specs.declared.line.Line.{Line}
@@ -47,7 +50,7 @@ office_is_free = refl
 -- ---- the walk meets no command but these
 
 abbrev IsCommand : Text → Type 0
-IsCommand name = (name ≡ codes "check") ⊎ ((name ≡ codes "new") ⊎ ((name ≡ codes "import") ⊎ ((name ≡ codes "show") ⊎ (name ≡ codes "serve"))))
+IsCommand name = (name ≡ codes "check") ⊎ ((name ≡ codes "allot") ⊎ ((name ≡ codes "new") ⊎ ((name ≡ codes "import") ⊎ ((name ≡ codes "show") ⊎ (name ≡ codes "serve")))))
 
 abbrev office_names : Names
 office_names = names_of (built office_app)
@@ -65,7 +68,7 @@ names_are = (
       λ e. inr (inr (inl refl)),
       (
         λ e. inr (inr (inr (inl refl))),
-        (λ e. inr (inr (inr (inr refl))), (λ e. absurd (true≢false e), tt)),
+        (λ e. inr (inr (inr (inr (inl refl)))), (λ e. inr (inr (inr (inr (inr refl)))), (λ e. absurd (true≢false e), tt))),
       ),
     ),
   ),
@@ -199,6 +202,33 @@ both_true true true h k = refl
 both_true false b h k = h
 both_true true false h k = k
 
+allot_readable : Each (IsReadable (command_named (codes "allot")).rules) (command_named (codes "allot")).rules
+allot_readable = (
+  (refl, refl, inl refl),
+  (
+    (refl, refl, inl refl),
+    (
+      (refl, refl, inl refl),
+      (
+        (refl, refl, inl refl),
+        (
+          (refl, refl, inl refl),
+          (
+            (refl, refl, inl refl),
+            (
+              (refl, (codes "true", refl, refl), inr (codes "false", refl, refl)),
+              (
+                (refl, (codes "true", refl, refl), inr (codes "false", refl, refl)),
+                ((refl, (codes "true", refl, refl), inr (codes "false", refl, refl)), ((refl, tt, inl refl), tt)),
+              ),
+            ),
+          ),
+        ),
+      ),
+    ),
+  ),
+)
+
 new_readable : Each (IsReadable (command_named (codes "new")).rules) (command_named (codes "new")).rules
 new_readable = ((refl, refl, inl refl), ((refl, refl, inl refl), ((refl, tt, inl refl), tt)))
 
@@ -235,6 +265,13 @@ read_number : (low high : ℕ) (o : Option Text) → (v : Text) × (o ≡ Some v
     → is_some (option_and_then (number_in_range low high) o) ≡ true
 read_number low high o given =
     ap (λ (x : Option Text). is_some (option_and_then (number_in_range low high) x)) given.1 ∙ number_some low high given.0 (accepted _ _ given.2)
+
+allot_has : (rows : List Row) → LeafFits (command_named (codes "allot")) rows → has_arguments (codes "allot", rows) ≡ true
+allot_has rows leaf =
+    let c = (command_named (codes "allot")).rules in
+    let seats = value_given c rows (codes "seats") _ leaf.fits (leaf.given.0 refl) refl in
+    let method = value_given c rows (codes "method") _ leaf.fits (leaf.given.1.0 refl) refl in
+    both_true _ _ (read_number 1 500 _ seats) (ap is_some method.1)
 
 new_has : (rows : List Row) → LeafFits (command_named (codes "new")) rows → has_arguments (codes "new", rows) ≡ true
 new_has rows leaf =
@@ -279,6 +316,13 @@ serve_arguments name rows is e =
     let numbers = both_parts _ _ db.1 in
     (db.0, numbers.0, numbers.1)
 
+-- and of those of `allot`
+pub allot_arguments : (name : Text) (rows : List Row) → name ≡ codes "allot" → has_arguments (name, rows) ≡ true
+    → (is_some (number_given (codes "seats") 1 500 rows) ≡ true) × (has (codes "method") rows ≡ true)
+allot_arguments name rows is e =
+    let given : has_arguments (codes "allot", rows) ≡ true = subst (λ (n : Text). has_arguments (n, rows) ≡ true) is e in
+    both_parts _ _ given
+
 -- ---- the command that is entered
 
 abbrev pub NamesCommand : Option (Text × List Row) → Type 0
@@ -289,6 +333,9 @@ Entered words name = entered_fault (built office_app) (Some (name, words)) ≡ [
 
 entered_check : (words : List Text) → Entered words (codes "check")
 entered_check words e = (codes "check", _, refl, refl)
+
+entered_allot : (words : List Text) → Entered words (codes "allot")
+entered_allot words e = (codes "allot", _, refl, allot_has _ (leaf_fits (command_named (codes "allot")) words allot_readable refl e))
 
 entered_new : (words : List Text) → Entered words (codes "new")
 entered_new words e = (codes "new", _, refl, new_has _ (leaf_fits (command_named (codes "new")) words new_readable refl e))
@@ -304,10 +351,11 @@ entered_serve words e = (codes "serve", _, refl, serve_has _ (leaf_fits (command
 
 entered_named : (words : List Text) (name : Text) → IsCommand name → Entered words name
 entered_named words name (inl is) = subst (Entered words) (sym is) (entered_check words)
-entered_named words name (inr (inl is)) = subst (Entered words) (sym is) (entered_new words)
-entered_named words name (inr (inr (inl is))) = subst (Entered words) (sym is) (entered_import words)
-entered_named words name (inr (inr (inr (inl is)))) = subst (Entered words) (sym is) (entered_show words)
-entered_named words name (inr (inr (inr (inr is)))) = subst (Entered words) (sym is) (entered_serve words)
+entered_named words name (inr (inl is)) = subst (Entered words) (sym is) (entered_allot words)
+entered_named words name (inr (inr (inl is))) = subst (Entered words) (sym is) (entered_new words)
+entered_named words name (inr (inr (inr (inl is)))) = subst (Entered words) (sym is) (entered_import words)
+entered_named words name (inr (inr (inr (inr (inl is))))) = subst (Entered words) (sym is) (entered_show words)
+entered_named words name (inr (inr (inr (inr (inr is))))) = subst (Entered words) (sym is) (entered_serve words)
 
 entered_command : (stop : Option (Text × List Text)) → IsAtCommand stop → is_some (entered (built office_app) stop) ≡ true
     → entered_fault (built office_app) stop ≡ [] → NamesCommand (entered (built office_app) stop)
@@ -383,6 +431,13 @@ number_within low high (Some text) = go (is_unsigned_in low high text) refl
     go true is = let in' = accepts-Accepts false (vp.Unsigned low high) text is in (in'.2, in'.3)
     go false is = tt
 
+allot_within : (seats : Option ℕ) (method : Option Method) (base : Option Base) (rows : List Row)
+    → OnFound IsSeenWithin (option_and_then (λ s. option_and_then (λ m. option_and_then (λ b. Some (AllotSeen (wanted_by rows s m b))) base) method) seats)
+allot_within None method base rows = tt
+allot_within (Some s) None base rows = tt
+allot_within (Some s) (Some m) None rows = tt
+allot_within (Some s) (Some m) (Some b) rows = tt
+
 new_within : (db setup : Option Text) → OnFound IsSeenWithin (option_and_then (λ d. option_and_then (λ s. Some (NewSeen d s)) setup) db)
 new_within None setup = tt
 new_within (Some d) None = tt
@@ -422,12 +477,13 @@ one_of_two false x y h k = k
 command_within : (p : Text × List Row) → OnFound IsSeenWithin (line_of_command p)
 command_within p =
     one_of_two (bytes_eq p.0 (codes "check")) _ _ tt
+    (one_of_two (bytes_eq p.0 (codes "allot")) _ _ (allot_within (number_given (codes "seats") 1 500 p.1) (method_given p.1) (base_given p.1) p.1)
     (one_of_two (bytes_eq p.0 (codes "new")) _ _ (new_within (first_of (codes "db") p.1) (first_of (codes "setup") p.1))
     (one_of_two (bytes_eq p.0 (codes "import")) _ _ (import_within (first_of (codes "db") p.1) (first_of (codes "con") p.1) (first_of (codes "csv") p.1) p.1)
     (one_of_two (bytes_eq p.0 (codes "show")) _ _ (show_within (first_of (codes "db") p.1) (report_of p.1) (first_of (codes "con") p.1))
     (one_of_two (bytes_eq p.0 (codes "serve")) _ _
     (serve_within (first_of (codes "db") p.1) (number_given (codes "port") 1 65535 p.1) (number_given (codes "count") 1 1000000 p.1)
-    (number_within 1 65535 (first_of (codes "port") p.1)) (number_within 1 1000000 (first_of (codes "count") p.1))) tt))))
+    (number_within 1 65535 (first_of (codes "port") p.1)) (number_within 1 1000000 (first_of (codes "count") p.1))) tt)))))
 
 is_some_text : {T : Type 0} (f : T → Text) (o : Option T) → is_some (option_map f o) ≡ is_some o
 is_some_text f None = refl
@@ -435,6 +491,7 @@ is_some_text f (Some x) = refl
 
 seen_within : (l : Line) → IsSeenWithin (line_seen l) → IsLineWithinLimits l
 seen_within (line.Check sep rows) h = tt
+seen_within (line.Allot options) h = tt
 seen_within (line.New db setup) h = tt
 seen_within (line.Import db con csv sep rows) h = tt
 seen_within (line.Show db name con) h = λ needs. sym (is_some_text _ con) ∙ h needs
@@ -470,6 +527,27 @@ lacks_report_line name rows lacks =
     let parts = both_parts _ _ lacks in
     of_show name rows parts.0 (no_show (first_of (codes "db") rows) (report_of rows) (first_of (codes "con") rows) (is_not _ parts.1))
 
+no_allot : (rows : List Row) (seats : Option ℕ) (method : Option Method) (base : Option Base) → (is_some method && is_some base) ≡ false
+    → option_and_then (λ s. option_and_then (λ m. option_and_then (λ b. Some (AllotSeen (wanted_by rows s m b))) base) method) seats ≡ None
+no_allot rows None method base e = refl
+no_allot rows (Some s) None base e = refl
+no_allot rows (Some s) (Some m) None e = refl
+no_allot rows (Some s) (Some m) (Some b) e = absurd (true≢false e)
+
+lacks_rule_line : (name : Text) (rows : List Row) → lacks_rule (name, rows) ≡ true → line_of_command (name, rows) ≡ None
+lacks_rule_line name rows lacks =
+    let parts = both_parts _ _ lacks in
+    let same : name ≡ codes "allot" = (bytes_eq-Decides name (codes "allot")).0 parts.0 in
+    ap (λ (n : Text). line_of_command (n, rows)) same
+    ∙ no_allot rows (number_given (codes "seats") 1 500 rows) (method_given rows) (base_given rows) (is_not _ parts.1)
+
+pub lacks_word_line : (name : Text) (rows : List Row) → lacks_word (name, rows) ≡ true → line_of_command (name, rows) ≡ None
+lacks_word_line name rows lacks = go (lacks_report (name, rows)) refl lacks
+  where
+    go : (r : Bool) → lacks_report (name, rows) ≡ r → (r || lacks_rule (name, rows)) ≡ true → line_of_command (name, rows) ≡ None
+    go true is e = lacks_report_line name rows is
+    go false is e = lacks_rule_line name rows e
+
 pub lacks_con_line : (name : Text) (rows : List Row) → lacks_con (name, rows) ≡ true → line_of_command (name, rows) ≡ None
 lacks_con_line name rows lacks =
     let parts = both_parts _ _ lacks in
@@ -479,7 +557,7 @@ lacks_con_line name rows lacks =
 -- why a command has no line is why the words are refused
 pub command_refuses : (words : List Text) (name : Text) (rows : List Row) → IsAsked words name rows → (fault : LineFault) → IsCommandFault (name, rows) fault → IsRefusal words fault
 command_refuses words name rows asked (Usage e) h =
-    let none : line_of words ≡ None = line_is words name rows asked ∙ lacks_report_line name rows h.0 in
+    let none : line_of words ≡ None = line_is words name rows asked ∙ lacks_word_line name rows h.0 in
     let kinds : usage_kinds words ≡ InvalidValue ∷ [] = rw (asked.none, asked.asks, h.0) refl in
     (none, subst (IsAmong (kind_of e)) (sym kinds) (inl h.1))
 command_refuses words name rows asked NoCon h =
@@ -534,11 +612,17 @@ both_false : (a b : Bool) → b ≡ false → (a && b) ≡ false
 both_false true b e = e
 both_false false b e = refl
 
-no_usage : (o : Option (Text × List Row)) → option_map_or lacks_con o false ≡ true → option_map_or lacks_report o false ≡ false
+show_not_allot : (name : Text) → bytes_eq name (codes "show") ≡ true → bytes_eq name (codes "allot") ≡ false
+show_not_allot name is = ap (λ (n : Text). bytes_eq n (codes "allot")) ((bytes_eq-Decides name (codes "show")).0 is)
+
+no_usage : (o : Option (Text × List Row)) → option_map_or lacks_con o false ≡ true → option_map_or lacks_word o false ≡ false
 no_usage None e = absurd (true≢false (sym e))
 no_usage (Some p) e =
-    let wants = both_parts _ _ (both_parts _ _ e).1 in
-    both_false _ _ (needs_named (report_of p.1) wants.0)
+    let parts = both_parts _ _ e in
+    let wants = both_parts _ _ parts.1 in
+    let report : lacks_report p ≡ false = both_false _ _ (needs_named (report_of p.1) wants.0) in
+    let rule : lacks_rule p ≡ false = ap (λ b. b && not (is_some (method_given p.1) && is_some (base_given p.1))) (show_not_allot p.0 parts.0) in
+    ap (λ b. b || lacks_rule p) report ∙ rule
 
 -- such words have that fault, or the answer is out of memory
 pub lacks_con_alone : (words : List Text) (fault : LineFault) → LacksCon words → IsRefusal words fault → (fault ≡ NoCon) ⊎ (fault ≡ Memory)

@@ -1,8 +1,9 @@
 -- The command line of the program: what it offers, and what the words that it is given ask for, as
 -- clap reads them.
-use Rattle.std.specs.Prelude.{◌≡◌, ◌≤◌, ◌&&◌, ℕ, Bool, true, false, not, List, [], ◌∷◌, Option}
-use Rattle.std.specs.Prelude.{Some, None, is_some, Result, IfOk}
+use Rattle.std.specs.Prelude.{◌≡◌, ◌≤◌, ◌&&◌, ◌||◌, ℕ, Bool, true, false, not, List, [], ◌∷◌}
+use Rattle.std.specs.Prelude.{Option, Some, None, is_some, Result, IfOk}
 use Rattle.std.specs.Prelude.{codes, if◌then◌else◌, option_and_then, option_map, string_bytes}
+use Rattle.std.specs.Prelude.{unwrap_or}
 use Rattle.std.specs.Option.{option_map_or}
 use Rattle.std.specs.Str.{bytes_eq}
 use Rattle.std.specs.Str.Parse.{digits_value, without_leading_plus}
@@ -17,8 +18,16 @@ use Rattle.clap.specs.declared.error.ErrorKind.{ErrorKind}
 use Rattle.clap.specs.declared.error.ErrorKind.TheVariants.{InvalidValue, OutOfMemory}
 use Rattle.clap.specs.declared.builder.ArgAction.TheVariants.{SetTrue}
 use Rattle.clap.specs.declared.builder.ValueParser.TheVariants.{Unsigned}
+use Rattle.tally_frac.specs.Limits.{most_seats, most_votes, whole_base}
 use Rattle.tally_import_records.specs.declared.separator.Sep.{Sep}
 use Rattle.tally_import_records.specs.declared.separator.Sep.TheVariants.{Comma, Semicolon}
+use Rattle.tally_import_votes.specs.Wanted.{Wanted, wanted}
+use Rattle.tally_setup.specs.Method.{method_named}
+use Rattle.tally_setup.specs.declared.profile.Base.{Base}
+use Rattle.tally_setup.specs.declared.profile.Base.TheVariants.{Valid, Lists}
+use Rattle.tally_setup.specs.declared.profile.LotRule.{LotRule}
+use Rattle.tally_setup.specs.declared.profile.LotRule.TheVariants.{Fixed, Alternating}
+use Rattle.tally_setup.specs.declared.profile.Method.{Method}
 use Rattle.tally_office_line.specs.declared.line.Line.{Line}
 use Rattle.tally_office_line.specs.declared.line.Line.TheVariants as line
 use Rattle.tally_office_line.specs.declared.line.LineFault.{LineFault}
@@ -44,11 +53,28 @@ wanted_rule name = record (value_rule name) { required = true }
 abbrev pub number_rule : Text → ℕ → ℕ → Rule
 number_rule name low high = record (wanted_rule name) { parser = Some (Unsigned low high) }
 
+-- `--NAME N`, which may be left out, N a whole number up to this
+abbrev pub amount_rule : Text → ℕ → Rule
+amount_rule name high = record (value_rule name) { parser = Some (Unsigned 0 high) }
+
 -- `check [--semicolon] [--rows]`
 abbrev pub check_app : App
 check_app =
     with_rule (with_rule (new_app (codes "check")) (flag_rule (codes "semicolon")))
     (flag_rule (codes "rows"))
+
+-- `allot --seats N --method WORD [--threshold N] [--base WORD] [--blank N] [--lot CODES]`
+abbrev pub bare_allot_app : App
+bare_allot_app = with_rule (with_rule (with_rule (with_rule (with_rule (with_rule
+    (new_app (codes "allot"))
+    (number_rule (codes "seats") 1 most_seats)) (wanted_rule (codes "method")))
+    (amount_rule (codes "threshold") whole_base)) (value_rule (codes "base")))
+    (amount_rule (codes "blank") most_votes)) (value_rule (codes "lot"))
+
+-- the same with `[--alternating] [--awards] [--semicolon]`
+abbrev pub allot_app : App
+allot_app = with_rule (with_rule (with_rule bare_allot_app (flag_rule (codes "alternating")))
+    (flag_rule (codes "awards"))) (flag_rule (codes "semicolon"))
 
 -- `new --db FILE --setup FILE`
 abbrev pub new_office_app : App
@@ -99,7 +125,7 @@ bare_office_app = on_top (λ s. record s {
 }) (new_app (codes "office"))
 
 abbrev pub office_app : App
-office_app = with_commands (with_commands (with_subcommand bare_office_app check_app.top)
+office_app = with_commands (with_commands (with_commands bare_office_app check_app allot_app)
     new_office_app import_app) show_app serve_app
 
 -- ---- what the values of a command are
@@ -121,6 +147,26 @@ number_in_range low high text =
 abbrev pub number_given : Text → ℕ → ℕ → List Row → Option ℕ
 number_given id low high rows = option_and_then (number_in_range low high) (first_of id rows)
 
+-- the number of an argument that may be left out, and 0 where it is
+abbrev pub number_or_none : Text → ℕ → List Row → ℕ
+number_or_none id high rows = unwrap_or (number_given id 0 high rows) 0
+
+-- the method, the base, which is that of the valid votes where none is given, and the rule of lots
+abbrev pub method_given : List Row → Option Method
+method_given rows = option_and_then method_named (first_of (codes "method") rows)
+
+abbrev pub base_named : Text → Option Base
+base_named word =
+    if bytes_eq word (codes "valid") then Some Valid
+    else if bytes_eq word (codes "lists") then Some Lists
+    else None
+
+abbrev pub base_given : List Row → Option Base
+base_given rows = base_named (unwrap_or (first_of (codes "base") rows) (codes "valid"))
+
+abbrev pub lot_rule_given : List Row → LotRule
+lot_rule_given rows = if is_set (codes "alternating") rows then Alternating else Fixed
+
 -- what is to be shown
 abbrev pub report_of : List Row → Option Shown
 report_of rows = option_and_then shown_named (first_of (codes "report") rows)
@@ -130,6 +176,7 @@ report_of rows = option_and_then shown_named (first_of (codes "report") rows)
 -- A line as contracts see it: a text is its bytes, however a program keeps it.
 pub data LineSeen : Type 0 where
   CheckSeen : Sep → Bool → LineSeen
+  AllotSeen : Wanted → LineSeen
   NewSeen : Text → Text → LineSeen
   ImportSeen : Text → Text → Text → Sep → Bool → LineSeen
   ShowSeen : Text → Shown → Option Text → LineSeen
@@ -137,6 +184,7 @@ pub data LineSeen : Type 0 where
 
 abbrev pub line_seen : Line → LineSeen
 line_seen (line.Check sep rows) = CheckSeen sep rows
+line_seen (line.Allot options) = AllotSeen (wanted options)
 line_seen (line.New db setup) = NewSeen (string_bytes db) (string_bytes setup)
 line_seen (line.Import db con csv sep rows) =
     ImportSeen (string_bytes db) (string_bytes con) (string_bytes csv) sep rows
@@ -154,6 +202,29 @@ found >>= next = option_and_then next found
 
 abbrev pub check_line : List Row → Option LineSeen
 check_line rows = Some (CheckSeen (sep_given rows) (is_set (codes "rows") rows))
+
+-- what is asked of an allotment, by a method and a base
+abbrev pub wanted_by : List Row → ℕ → Method → Base → Wanted
+wanted_by rows seats method base = record {
+  seats = seats;
+  profile = record {
+    method = method;
+    threshold = number_or_none (codes "threshold") whole_base rows;
+    base = base;
+    lot = lot_rule_given rows;
+  };
+  blank = number_or_none (codes "blank") most_votes rows;
+  lot = first_of (codes "lot") rows;
+  awards = is_set (codes "awards") rows;
+  sep = sep_given rows;
+}
+
+abbrev pub allot_line : List Row → Option LineSeen
+allot_line rows = do
+  seats ← number_given (codes "seats") 1 most_seats rows
+  method ← method_given rows
+  base ← base_given rows
+  Some (AllotSeen (wanted_by rows seats method base))
 
 abbrev pub new_line : List Row → Option LineSeen
 new_line rows = do
@@ -190,6 +261,7 @@ serve_line rows = do
 abbrev pub line_of_command : Text × List Row → Option LineSeen
 line_of_command p =
     if bytes_eq p.0 (codes "check") then check_line p.1
+    else if bytes_eq p.0 (codes "allot") then allot_line p.1
     else if bytes_eq p.0 (codes "new") then new_line p.1
     else if bytes_eq p.0 (codes "import") then import_line p.1
     else if bytes_eq p.0 (codes "show") then show_line p.1
@@ -220,16 +292,25 @@ IsLineWithinLimits _ = Unit {0}
 abbrev pub lacks_report : Text × List Row → Bool
 lacks_report p = bytes_eq p.0 (codes "show") && not (is_some (report_of p.1))
 
+-- an `allot` by a method or a base that does not exist
+abbrev pub lacks_rule : Text × List Row → Bool
+lacks_rule p =
+    bytes_eq p.0 (codes "allot") && not (is_some (method_given p.1) && is_some (base_given p.1))
+
+-- one of these
+abbrev pub lacks_word : Text × List Row → Bool
+lacks_word p = lacks_report p || lacks_rule p
+
 -- a `show` of a report that needs a constituency, without one
 abbrev pub lacks_con : Text × List Row → Bool
 lacks_con p = bytes_eq p.0 (codes "show") && (option_map_or needs_con (report_of p.1) false
     && not (is_some (first_of (codes "con") p.1)))
 
 -- the kinds of error that the words may be answered with: those of clap, and where it finds no
--- fault, that of a text that names no report
+-- fault, that of a word that names no report, no method or no base
 abbrev pub usage_kinds : List Text → Kinds
 usage_kinds words = or_else (fault_of office_app words)
-    (if option_map_or lacks_report (subcommand_of office_app words) false
+    (if option_map_or lacks_word (subcommand_of office_app words) false
     then InvalidValue ∷ []
     else [])
 

@@ -11,6 +11,8 @@ A first session:
       makes an office of the setup and prints 'constituencies 1'
   office check < returns.csv
       adds up a file of returns, and stores nothing
+  office allot --seats 8 --method dhondt --threshold 300 < votes.csv
+      works out the seats that votes come to, and stores nothing
   office import --db office.db --con montehondo --csv returns.csv
       lodges the returns of the stations of montehondo
   office show --db office.db --report progress
@@ -97,6 +99,105 @@ Exit status:
        memory    the program is out of memory
        read      standard input cannot be read
        write     standard output takes no more; a part may be printed";
+
+pub const ALLOT: &str = "Work out the seats that votes come to";
+
+pub const ALLOT_LONG: &str = "\
+Work out the seats that votes come to.
+
+The votes of the lists come on standard input as CSV, and the rule of allotment
+on the command line. Nothing is stored: use it to try other votes, another rule
+or another number of seats, or to repeat a published allotment.
+
+What goes in:
+  The header is list,votes. Then there are 1 to 60 rows: the code of a list,
+  which no other row has, and its votes, 1 to 10 digits and at most 5000000000.
+  A code is 1 to 16 letters A-Z a-z, digits, dashes or underscores, and case
+  counts. Rows are numbered from 1, the header not counted; there are at most
+  1048576 bytes, and at most 5000000000 votes, the blank ones among them.
+
+What comes out:
+  ALLOT METHOD seats S
+  threshold T base WORD rule WORD   the threshold in ten-thousandths of the
+                                    base, the base, and the rule of lots
+  lot CODE CODE..                   the lot that was given, or 'lot -'
+  valid V blank B                   the votes of the lists and the blank ones
+                                    together, and the blank ones
+  For each list a line: its code, its votes, their share in the base in per
+  cent, 'in' or 'out' (whether it is eligible: it has votes and reaches the
+  threshold), its seats, and but under hare the fewest extra votes that would
+  guarantee it another seat, or a dash where it can gain none.
+  total                             the votes of the lists, and the seats
+  next CODE                         but under hare the list that would have the
+                                    seat after the last, or 'next -' where the
+                                    votes do not say which
+With --awards, after this the seats in the order in which they were given, each
+with its list, which seat of the list it is, and its quotient; under hare the
+quotas and remainders of the lists.";
+
+pub const ALLOT_EXAMPLE: &str = "\
+Example:
+  With this text in votes.csv
+
+    list,votes
+    A,168000
+    B,104000
+    C,72000
+    D,64000
+    E,40000
+    F,32000
+
+  'office allot --seats 8 --method dhondt --threshold 300 < votes.csv' prints
+
+    ALLOT dhondt seats 8
+    threshold 300 base valid rule fixed
+    lot -
+    valid 480000 blank 0
+    A                     168000   35.00 in      4       92000
+    B                     104000   21.66 in      2       22001
+    C                      72000   15.00 in      1       12001
+    D                      64000   13.33 in      1       20001
+    E                      40000    8.33 in      0        2001
+    F                      32000    6.66 in      0       10001
+    total                 480000                 8
+    next E
+
+Exit status:
+  0  the seats were allotted
+  1  'refused: WORD' on standard error, the first that goes wrong:
+       bad_header         there is no header, or it is not list,votes
+       bad_row R CAUSE    row R is bad: fields F (it has F fields), bad_list (no
+                          code), duplicate CODE, or bad_number
+       too_many_lists     there are more than 60 rows
+       too_long           there are more than 1048576 bytes
+       no_list            there is no row
+       too_many_votes     there are more than 5000000000 votes
+       no_eligible        no list is eligible
+       lot_missing S CODE CODE..   a lot among these lists has to decide on S
+                          seats: draw it, and give it with --lot
+       wrong_lot          no lot is needed, or this one does not name each of
+                          its lists once and no other
+  2  the command line is wrong, or asks for help
+  3  'failed: WORD' on standard error:
+       memory    the program is out of memory
+       read      standard input cannot be read
+       write     standard output takes no more; a part may be printed";
+
+pub const SEATS: &str = "The number of seats, 1 to 500";
+
+pub const METHOD: &str = "dhondt, sainte-lague, modified-sainte-lague or hare";
+
+pub const THRESHOLD: &str = "The threshold in ten-thousandths of the base, up to 10000 [0]";
+
+pub const BASE: &str = "valid (with the blank votes) or lists (without them) [valid]";
+
+pub const BLANK: &str = "The blank votes, up to 5000000000 [0]";
+
+pub const LOT: &str = "The lists in the order of the lot, as B,A; --lot=-x,y for a first dash";
+
+pub const ALTERNATING: &str = "The lot is turned round for every second seat of a list";
+
+pub const AWARDS: &str = "Add the seats in the order of their award, or the quotas";
 
 pub const ROWS: &str = "Name each row that was neither lodged nor same, and why";
 
@@ -293,6 +394,9 @@ What goes in:
               quota      the quotas and remainders of each list
               holders    who holds the seats
               past       the certificates that were reopened
+              provisional
+                         the seats if the votes that are closed now were all
+                         the votes: no result until it is certified
               short      the fewest extra votes that would guarantee each
                          eligible list another seat, whatever lot is drawn, if
                          the other votes and the eligible lists stayed the same
@@ -307,9 +411,10 @@ What goes in:
             ignore it
 
 What comes out:
-  The report. Tally, past, stations, returns, progress and country are given at
-  any time, the others once the constituency is certified: quotients, awards
-  and short only under a divisor rule, quota only under Hare's.";
+  The report. Tally, past, provisional, stations, returns, progress and country
+  are given at any time, the others once the constituency is certified:
+  quotients, awards and short only under a divisor rule, quota only under
+  Hare's.";
 
 pub const SHOW_EXAMPLE: &str = "\
 Example:
@@ -344,7 +449,7 @@ pub const REPORT: &str = "The report, such as tally; --help has the names";
 
 pub const REPORTS: &str = "\
   [possible values: tally, seats, quotients, awards, quota, holders, past,
-  short, stations, returns, progress, country]";
+  provisional, short, stations, returns, progress, country]";
 
 pub const SHOW_CON: &str = "The code of the constituency; progress and country need none";
 
@@ -375,7 +480,7 @@ What goes in:
 The routes, with S the code of a station, C that of a constituency:
   GET /progress, /country, /station/S, /con/C
   GET /con/C/tally, and so seats, quotients, awards, quota, holders, past,
-                            short, stations, returns
+                            provisional, short, stations, returns
   POST /station/S/lodge     {\"slip\":\"p1\",\"votes\":[50,40],\"blank\":2,\"spoiled\":1}
   POST /station/S/query     {\"rev\":1,\"note\":\"the sum is wrong\"}
   POST /station/S/correct   as lodge, and \"rev\":2

@@ -1,11 +1,13 @@
 //! The command line.
 
 ghost use Rattle.std.specs.Prelude.{◌≡◌, ◌≤◌, IfOk, IfErr, Some, true, false, codes, is_some, map};
-ghost use Rattle.std.specs.Prelude.{OnOk, option_map, string_bytes};
+ghost use Rattle.std.specs.Prelude.{OnOk, option_map, string_bytes, unwrap_or};
 ghost use Rattle.clap.specs.Words.{app_of, first_of, kind_of, new_app};
 ghost use Rattle.clap.specs.declared.error.ErrorKind.TheVariants.{InvalidValue};
 ghost use Rattle.tally_office_line.specs.Line.{GivesLine, IsRefusal, IsLineWithinLimits};
-ghost use Rattle.tally_office_line.specs.Line.{bare_office_app};
+ghost use Rattle.tally_office_line.specs.Line.{allot_app, allot_line, amount_rule, bare_office_app};
+ghost use Rattle.tally_office_line.specs.Line.{base_named, lot_rule_given, number_in_range};
+ghost use Rattle.tally_office_line.specs.Line.{number_or_none};
 ghost use Rattle.tally_office_line.specs.Line.{check_app, flag_rule, import_app, import_line};
 ghost use Rattle.tally_office_line.specs.Line.{is_set};
 ghost use Rattle.tally_office_line.specs.Line.{line_of, line_of_command, new_line, new_office_app};
@@ -13,9 +15,10 @@ ghost use Rattle.tally_office_line.specs.Line.{number_given, number_rule, office
 ghost use Rattle.tally_office_line.specs.Line.{serve_app, serve_line, show_app, show_line};
 ghost use Rattle.tally_office_line.specs.Line.{value_rule, wanted_rule};
 ghost use Rattle.tally_office_line.specs.internal.Arguments.{IsCommandFault, IsGivenText};
-ghost use Rattle.tally_office_line.specs.internal.Arguments.{IsShowFault};
+ghost use Rattle.tally_office_line.specs.internal.Arguments.{IsAllotFault, IsShowFault};
 ghost use Rattle.tally_office_line.specs.internal.Arguments.{IsTextIfGiven, given_rows, has};
 ghost use Rattle.tally_office_line.specs.internal.Arguments.{has_arguments, has_count, has_port};
+ghost use Rattle.tally_office_line.specs.internal.Arguments.{has_seats};
 ghost use Rattle.tally_office_line.specs.internal.Commands.{AddsMade, HasRule, Offers, OffersAll};
 
 use crate::help;
@@ -24,9 +27,13 @@ use clap::error::ErrorKind;
 use clap::{Arg, ArgAction, ArgMatches, Command};
 use std::alloc::{AllocError, Global};
 use tally_import_records::Sep;
+use tally_import_votes::AllotOptions;
 use tally_report_overview::Shown;
+use tally_setup::{Base, LotRule, Method, Profile};
 
 const CHECK: &str = "check";
+
+const ALLOT: &str = "allot";
 
 const NEW: &str = "new";
 
@@ -54,11 +61,37 @@ const PORT: &str = "port";
 
 const COUNT: &str = "count";
 
+const SEATS: &str = "seats";
+
+const METHOD: &str = "method";
+
+const THRESHOLD: &str = "threshold";
+
+const BASE: &str = "base";
+
+const BLANK: &str = "blank";
+
+const LOT: &str = "lot";
+
+const ALTERNATING: &str = "alternating";
+
+const AWARDS: &str = "awards";
+
 const MOST_PORT: u64 = 65535;
 
 const MOST_COUNT: u64 = 1_000_000;
 
-/// What a command line asks for. A text is as it was given.
+const MOST_SEATS: u64 = 500;
+
+const WHOLE_BASE: u64 = 10_000;
+
+const MOST_VOTES: u64 = 5_000_000_000;
+
+const METHODS: &str = "dhondt, sainte-lague, modified-sainte-lague, hare";
+
+const BASES: &str = "valid, lists";
+
+/// The request of a command line. A text is as it was given.
 #[derive(Drop)]
 pub enum Line {
     /// Check the returns on standard input, and with `rows` name each row that is not lodged.
@@ -66,6 +99,8 @@ pub enum Line {
         sep: Sep,
         rows: bool,
     },
+    /// Allot seats by the votes on standard input.
+    Allot(AllotOptions),
     /// Make an office of a setup, in the database of this name.
     New {
         db: String,
@@ -152,11 +187,64 @@ fn read_command(alloc: Global, name: &str, arguments: &ArgMatches<'_>) -> Result
             sep: read_sep(arguments),
             rows: is_given(arguments, ROWS),
         }),
+        ALLOT => read_allot(alloc, arguments),
         NEW => Ok(read_new(alloc, arguments)?),
         IMPORT => Ok(read_import(alloc, arguments)?),
         SHOW => read_show(alloc, arguments),
         SERVE => Ok(read_serve(alloc, arguments)?),
         _ => unreachable!(),
+    }
+}
+
+fn read_allot(alloc: Global, arguments: &ArgMatches<'_>) -> Result<Line, LineFault>
+    requires seats { has_seats (given_rows arguments.now) ≡ true }
+    requires method { has (codes "method") (given_rows arguments.now) ≡ true }
+    ensures line { GivesLine result (allot_line (given_rows arguments.now)) }
+    ensures fault { IfErr result (IsAllotFault (given_rows arguments.now)) }
+{
+    let Some(word) = text_of(arguments, METHOD) else {
+        unreachable!();
+    };
+    let Some(method) = Method::named(word) else {
+        return Err(LineFault::Usage(no_word(alloc, word, METHOD, METHODS)?));
+    };
+    let word = text_of(arguments, BASE).unwrap_or("valid");
+    let Some(base) = base_named(word) else {
+        return Err(LineFault::Usage(no_word(alloc, word, BASE, BASES)?));
+    };
+    let lot = read_if_given(alloc, arguments, LOT)?;
+    Ok(Line::Allot(AllotOptions {
+        seats: read_number(arguments, SEATS, MOST_SEATS) as u32,
+        profile: Profile {
+            method,
+            threshold: read_number_or_none(arguments, THRESHOLD, WHOLE_BASE) as u32,
+            base,
+            lot: read_lot_rule(arguments),
+        },
+        blank: read_number_or_none(arguments, BLANK, MOST_VOTES),
+        lot,
+        awards: is_given(arguments, AWARDS),
+        sep: read_sep(arguments),
+    }))
+}
+
+fn base_named(word: &str) -> Option<Base>
+    ensures { result ≡ base_named word.now }
+{
+    match word {
+        "valid" => Some(Base::Valid),
+        "lists" => Some(Base::Lists),
+        _ => None,
+    }
+}
+
+fn read_lot_rule(arguments: &ArgMatches<'_>) -> LotRule
+    ensures { result ≡ lot_rule_given (given_rows arguments.now) }
+{
+    if is_given(arguments, ALTERNATING) {
+        LotRule::Alternating
+    } else {
+        LotRule::Fixed
     }
 }
 
@@ -198,7 +286,7 @@ fn read_show(alloc: Global, arguments: &ArgMatches<'_>) -> Result<Line, LineFaul
     let Some(report) = Shown::named(name) else {
         return Err(LineFault::Usage(no_report(alloc, name)?));
     };
-    let con = read_con(alloc, arguments)?;
+    let con = read_if_given(alloc, arguments, CON)?;
     if report.needs_con() && con.is_none() {
         return Err(LineFault::NoCon);
     }
@@ -248,10 +336,42 @@ fn read_number(arguments: &ArgMatches<'_>, id: &str, most: u64) -> u64
     }
 }
 
-fn read_con(alloc: Global, arguments: &ArgMatches<'_>) -> Result<Option<String>, AllocError>
-    ensures { IfOk result (IsTextIfGiven (codes "con") (given_rows arguments.now)) }
+// The number of an argument that may be left out, from 0 to `most`, and 0 where there is none.
+fn read_number_or_none(arguments: &ArgMatches<'_>, id: &str, most: u64) -> u64
+    ensures number { result ≡ number_or_none id.now most (given_rows arguments.now) }
+    ensures bound { result ≤ most }
 {
-    match text_of(arguments, CON) {
+    match text_of(arguments, id) {
+        Some(text) => number_up_to(text, most),
+        None => 0,
+    }
+}
+
+// The number that a text writes, where it is at most this, and else 0.
+fn number_up_to(text: &str, most: u64) -> u64
+    ensures number { result ≡ unwrap_or (number_in_range 0 most text.now) 0 }
+    ensures bound { result ≤ most }
+{
+    match text.parse::<u64>() {
+        Ok(number) => {
+            if number > most {
+                return 0;
+            }
+            number
+        }
+        Err(_) => 0,
+    }
+}
+
+// The text of an argument, where it was given.
+fn read_if_given(
+    alloc: Global,
+    arguments: &ArgMatches<'_>,
+    id: &str,
+) -> Result<Option<String>, AllocError>
+    ensures { IfOk result (IsTextIfGiven id.now (given_rows arguments.now)) }
+{
+    match text_of(arguments, id) {
         Some(text) => Ok(Some(text.to_string(alloc)?)),
         None => Ok(None),
     }
@@ -292,6 +412,17 @@ fn no_report(alloc: Global, name: &str) -> Result<clap::Error, AllocError>
     show_error(alloc, message.as_str())
 }
 
+// The error of a word that is none of these, in the form of those of `clap`.
+fn no_word(alloc: Global, word: &str, id: &str, words: &str) -> Result<clap::Error, AllocError>
+    ensures { IfOk result (λ error. kind_of error ≡ InvalidValue) }
+{
+    let message = format!(in alloc;
+        "invalid value '{word}' for '--{id} <WORD>'\n  [possible values: {words}]"
+    )?;
+    let mut command = allot_command(alloc)?.bin_name("office allot")?;
+    command.error(ErrorKind::InvalidValue, message.as_str())
+}
+
 // An error of `show` with this message, and its usage line.
 fn show_error(alloc: Global, message: &str) -> Result<clap::Error, AllocError>
     ensures { IfOk result (λ error. kind_of error ≡ InvalidValue) }
@@ -305,6 +436,7 @@ fn office_command<'a>(alloc: Global) -> Result<Command<'a>, AllocError>
 {
     let mut commands = Vec::new(alloc);
     push_command(&mut commands, check_command(alloc))?;
+    push_command(&mut commands, allot_command(alloc))?;
     push_command(&mut commands, new_command(alloc))?;
     push_command(&mut commands, import_command(alloc))?;
     push_command(&mut commands, show_command(alloc))?;
@@ -365,6 +497,29 @@ fn check_command<'a>(alloc: Global) -> Result<Command<'a>, AllocError>
         vec![in alloc;
             flag_arg(alloc, SEMICOLON, help::SEMICOLON),
             flag_arg(alloc, ROWS, help::ROWS),
+        ]?,
+    )
+}
+
+fn allot_command<'a>(alloc: Global) -> Result<Command<'a>, AllocError>
+    ensures { IfOk result (Offers allot_app) }
+{
+    described_command(
+        alloc,
+        ALLOT,
+        help::ALLOT,
+        help::ALLOT_LONG,
+        help::ALLOT_EXAMPLE,
+        vec![in alloc;
+            number_arg(alloc, SEATS, MOST_SEATS, help::SEATS),
+            wanted_arg(alloc, METHOD, "WORD", help::METHOD),
+            amount_arg(alloc, THRESHOLD, WHOLE_BASE, help::THRESHOLD),
+            value_arg(alloc, BASE, "WORD", help::BASE),
+            amount_arg(alloc, BLANK, MOST_VOTES, help::BLANK),
+            value_arg(alloc, LOT, "CODES", help::LOT),
+            flag_arg(alloc, ALTERNATING, help::ALTERNATING),
+            flag_arg(alloc, AWARDS, help::AWARDS),
+            flag_arg(alloc, SEMICOLON, help::SEMICOLON),
         ]?,
     )
 }
@@ -470,4 +625,11 @@ fn number_arg<'a>(alloc: Global, name: &'a str, most: u64, text: &'a str) -> Arg
     ensures { HasRule (number_rule name.now 1 most) result }
 {
     wanted_arg(alloc, name, "N", text).value_parser(ValueParser::unsigned(1, most))
+}
+
+// An argument that is a number from 0 to `most`, which may be left out.
+fn amount_arg<'a>(alloc: Global, name: &'a str, most: u64, text: &'a str) -> Arg<'a>
+    ensures { HasRule (amount_rule name.now most) result }
+{
+    value_arg(alloc, name, "N", text).value_parser(ValueParser::unsigned(0, most))
 }

@@ -6,7 +6,7 @@ use Rattle.tally_office_commands.specs.Made.{IsMadeText}
 use Rattle.tally_office_commands.specs.Served.{IsServedText}
 use Rattle.tally_office_commands.specs.declared.trouble.Trouble.{Trouble}
 use Rattle.tally_office_commands.specs.declared.trouble.Trouble.TheVariants as trouble
-use Rattle.tally_office_line.specs.Line.{CheckSeen, ImportSeen, IsRefusal, LineSeen, NewSeen, ServeSeen, ShowSeen, line_of}
+use Rattle.tally_office_line.specs.Line.{AllotSeen, CheckSeen, ImportSeen, IsRefusal, LineSeen, NewSeen, ServeSeen, ShowSeen, line_of}
 use Rattle.tally_office_line.specs.declared.line.LineFault.{LineFault}
 use Rattle.tally_office_line.specs.declared.line.LineFault.TheVariants.{Usage, NoCon, Memory}
 use Rattle.tally_office_line.proofs.CommandLemmas.{lacks_con_alone}
@@ -24,6 +24,8 @@ pub without-memory : {R W E : Type 0} (Opens : Resource → OpeningOutcome) (lef
     (i : R) (o : W) (before after : E) → IsReported (reported before) (reported after) (codes "failed: memory\n")
     → PerformsLine Opens left held reported words line (record { input = i; output = o; errors = before }) (record { input = i; output = o; errors = after }) 3
 without-memory Opens left held reported words (Some (CheckSeen sep rows)) i o before after so =
+    inr (record { input = refl; output = refl }, record { report = so; gives = refl })
+without-memory Opens left held reported words (Some (AllotSeen w)) i o before after so =
     inr (record { input = refl; output = refl }, record { report = so; gives = refl })
 without-memory Opens left held reported words (Some (NewSeen db setup)) i o before after so = record {
   outcome = Err trouble.Memory;

@@ -89,7 +89,7 @@ pub record TakesCourse {E : Type 0} (Opens Listens : OpeningOutcome) (reported :
   pub named : IsCourse Opens Listens course
   pub says : SaysWhere reported port count old new course
 
--- The same as of a command, of a server of so many connections at a port, which says where it
+-- The same as of a command, of a server of this many connections at a port, which says where it
 -- listens before it reports how it ended.
 pub record EndsServer {R W E : Type 0} (Opens Listens : OpeningOutcome)
     (held : Bytes W) (reported : Bytes E)

@@ -3,14 +3,18 @@ use Rattle.std.specs.Prelude.{◌≡◌, ◌⊎◌, ℕ, Bool, List, Option, Som
 use Rattle.std.specs.Prelude.{codes}
 use Rattle.tally_import.specs.Check.{Checks, IsSilent}
 use Rattle.tally_import_records.specs.declared.separator.Sep.{Sep}
+use Rattle.tally_import_votes.specs.Allots.{Allots, IsSilent as IsSilentAllot}
+use Rattle.tally_import_votes.specs.Troubles.{allot_line, allot_status}
+use Rattle.tally_import_votes.specs.Wanted.{Wanted}
+use Rattle.tally_import_votes.specs.declared.fault.AllotTrouble.{AllotTrouble}
 use Rattle.tally_import.specs.declared.CheckFault.{CheckFault}
 use Rattle.tally_office_commands.specs.Imported.{IsCountText}
 use Rattle.tally_office_commands.specs.Made.{IsMadeText}
 use Rattle.tally_office_commands.specs.Reported.{IsReported}
 use Rattle.tally_office_commands.specs.Trouble.{check_trouble}
 use Rattle.tally_office_commands.specs.declared.trouble.Trouble.{Trouble}
-use Rattle.tally_office_line.specs.Line.{CheckSeen, ImportSeen, LacksCon, LineSeen, NewSeen}
-use Rattle.tally_office_line.specs.Line.{ServeSeen}
+use Rattle.tally_office_line.specs.Line.{AllotSeen, CheckSeen, ImportSeen, LacksCon, LineSeen}
+use Rattle.tally_office_line.specs.Line.{NewSeen, ServeSeen}
 use Rattle.tally_office_line.specs.Line.{ShowSeen, line_of}
 use Rattle.tally_office_commands.specs.Offices.{AtPath, AtPort, OpeningOutcome, Resource}
 use Rattle.tally_office_commands.specs.Troubles.{IsTroubleOfImport, IsTroubleOfNew, IsTroubleOfShow}
@@ -37,6 +41,29 @@ pub record EndsCheck {R W E : Type 0} (left : Bytes R) (held : Bytes W) (reporte
   pub silent : IsSilent (held old.output) (held new.output) outcome
   pub errors : IsOutcomeReported reported old.errors new.errors (check_outcome outcome)
   pub gives : status ≡ command_status (check_outcome outcome)
+
+-- ---- allotments
+
+-- Nothing is reported of an allotment that is done. Of one that has a trouble its line is, with its
+-- status, or that the program is out of memory: the line takes memory.
+abbrev pub IsAllotAnswered : {E : Type 0} → Bytes E → E → E → Result (Unit {0}) AllotTrouble → ℕ
+    → Type 0
+IsAllotAnswered reported old new (Ok done) status = (new ≡ old) × (status ≡ 0)
+IsAllotAnswered reported old new (Err trouble) status =
+    (IsReported (reported old) (reported new) (allot_line trouble)
+    × (status ≡ allot_status trouble))
+    ⊎ (IsReported (reported old) (reported new) (codes "failed: memory\n") × (status ≡ 3))
+
+-- One allotment takes the input from its bytes to the rest, and the output from what it held to
+-- what it holds. What is reported and answered is that of its outcome. Nothing is said of an input
+-- that is not known.
+pub record EndsAllot {R W E : Type 0} (left : Bytes R) (held : Bytes W) (reported : Bytes E)
+    (w : Wanted) (old new : Streams R W E) (status : ℕ) : Type 0 where
+  pub outcome : Result (Unit {0}) AllotTrouble
+  pub allots : IfSome (left old.input) (λ text.
+      Allots w text (left new.input) (held old.output) (held new.output) outcome)
+  pub silent : IsSilentAllot (held old.output) (held new.output) outcome
+  pub answered : IsAllotAnswered reported old.errors new.errors outcome status
 
 -- ---- command lines that are not carried out
 
@@ -75,12 +102,15 @@ not_text_line = codes "error: the arguments are not all UTF-8 text\n"
 -- ---- command lines
 
 -- What becomes of what the words ask for, where opening an office or a port came to what `Opens`
--- says. A check may be out of memory before it begins.
+-- says. A check or an allotment may be out of memory before it begins.
 abbrev pub PerformsLine : {R W E : Type 0} → (Resource → OpeningOutcome)
     → Bytes R → Bytes W → Bytes E → List (List ℕ) → Option LineSeen
     → Streams R W E → Streams R W E → ℕ → Type 0
 PerformsLine Opens left held reported words (Some (CheckSeen sep rows)) old new status =
     EndsCheck left held reported rows sep old new status
+    ⊎ (IsUntouched old new × IsOutOfMemory reported old new status)
+PerformsLine Opens left held reported words (Some (AllotSeen w)) old new status =
+    EndsAllot left held reported w old new status
     ⊎ (IsUntouched old new × IsOutOfMemory reported old new status)
 PerformsLine Opens left held reported words (Some (NewSeen db setup)) old new status =
     EndsCommand held reported IsMadeText IsTroubleOfNew old new status

@@ -4,12 +4,15 @@ ghost use Rattle.std.specs.Prelude.{◌≡◌, ◌≢◌, codes, map, string_byt
 ghost use Rattle.std.specs.IoError.{error_kind};
 ghost use Rattle.tally_office_commands.specs.Reported.{IsReported};
 ghost use Rattle.tally_office_program.specs.Commands.{IsOutcomeReported, command_status, streams};
-ghost use Rattle.tally_office_program.specs.Perform.{Performs, check_outcome, not_text_line};
+ghost use Rattle.tally_office_program.specs.Perform.{IsAllotAnswered, Performs, check_outcome};
+ghost use Rattle.tally_office_program.specs.Perform.{not_text_line};
 ghost use Rattle.tally_office_program.specs.internal.Fault.{fault_status};
 
 use crate::serve::serve_office;
+use std::alloc::Global;
 use std::io::{self, ErrorKind, Read, Write};
 use tally_import::{CheckFault, check_csv};
+use tally_import_votes::{AllotTrouble, allot_csv};
 use tally_office_commands::{FAILED, Offices, Trouble, import_at, make_at, show_at, tell};
 use tally_office_line::{Line, LineFault, read_line};
 
@@ -38,6 +41,10 @@ pub fn perform<O: Offices, R: Read, W: Write, E: Write>(
         Ok(Line::Check { sep, rows }) => {
             let outcome = check_csv(rt.alloc(), input, output, sep, rows);
             report_check(outcome, errors)
+        }
+        Ok(Line::Allot(options)) => {
+            let outcome = allot_csv(rt.alloc(), &options, input, output);
+            report_allot(rt.alloc(), outcome, errors)
         }
         Ok(Line::New { db, setup }) => {
             let outcome = make_at(rt, offices, &db, &setup, output);
@@ -84,6 +91,22 @@ fn report_check<E: Write>(outcome: Result<(), CheckFault>, errors: &mut E) -> u8
     match outcome {
         Ok(()) => DONE,
         Err(fault) => Trouble::from_check(fault).report(errors),
+    }
+}
+
+fn report_allot<E: Write>(alloc: Global, outcome: Result<(), AllotTrouble>, errors: &mut E) -> u8
+    ensures { IsAllotAnswered E.contents errors.old errors.new outcome result }
+{
+    let trouble = match outcome {
+        Ok(()) => return DONE,
+        Err(trouble) => trouble,
+    };
+    match trouble.line(alloc) {
+        Ok(line) => {
+            tell(&line, errors);
+            trouble.status()
+        }
+        Err(_) => Trouble::Memory.report(errors),
     }
 }
 

@@ -21,7 +21,7 @@ use tally_office_commands::{
     served_text, tell,
 };
 
-/// Serves so many connections on this machine's own address, one after the other.
+/// Serves this many connections on this machine's own address, one after the other.
 pub fn serve_office<O: Offices, W: Write, E: Write>(
     rt: &HostRuntime,
     offices: &O,
@@ -94,8 +94,8 @@ fn where_listening(rt: &HostRuntime, port: u16, count: u32) -> Result<String, Tr
     }
 }
 
-/// Serves so many connections of a door. How many were answered and how many failed is written into
-/// a line that is empty and has the room.
+/// Serves this many connections of a door. How many were answered and how many failed is written
+/// into a line that is empty and has the room.
 fn serve_through<K: Keeper, D: Door>(
     alloc: Global,
     keeper: &mut K,

@@ -1,8 +1,7 @@
 -- A text that grows by a line for each entry, or for each that is eligible.
-use Rattle.std.proofs.Common.{◌≡◌, ◌≤◌, ◌<◌, ◌∙◌, ℕ, ◌+◌, List, [], ◌∷◌, ◌++◌, Bool, true, false, Result, Ok, Err, OnOk, length, get_or, take, drop, sym, ap, subst, append_assoc}
+use Rattle.std.proofs.Common.{◌≡◌, ◌≤◌, ◌<◌, ◌∙◌, ℕ, ◌+◌, List, [], ◌∷◌, ◌++◌, Bool, true, false, length, get_or, take, drop, sym, ap, subst, append_assoc}
 use Rattle.std.specs.Prelude.{if◌then◌else◌}
 use Rattle.std.specs.List.{flat_map}
-use Rattle.std.specs.Result.{is_ok}
 use Rattle.std.proofs.lemmas.List.{append-nil, at_drop_more, at_drop_all, flat_map_more, take_more}
 use Rattle.tally_report.specs.Columns.{lines_from}
 
@@ -54,20 +53,3 @@ shown mark eligible line before after marked is more = more ∙ ap (λ m. before
 
 pub not_shown : (mark eligible : Bool) (line text : List ℕ) → mark ≡ eligible → mark ≡ false → text ≡ text ++ (if eligible then line else [])
 not_shown mark eligible line text marked is = sym (append-nil text) ∙ ap (λ m. text ++ (if m then line else [])) (sym is ∙ marked)
-
--- the columns of a line, one after the other
-pub eight : (old a b c d e f g h one two three four five six seven new : List ℕ)
-    → one ≡ old ++ a → two ≡ one ++ b → three ≡ two ++ c → four ≡ three ++ d → five ≡ four ++ e → six ≡ five ++ f → seven ≡ six ++ g → new ≡ seven ++ h
-    → new ≡ old ++ (a ++ b ++ c ++ d ++ e ++ f ++ g ++ h)
-eight old a b c d e f g h one two three four five six seven new p q r s t u v w =
-    w
-    ∙ ap (λ x. x ++ h) (v ∙ ap (λ x. x ++ g) (u ∙ ap (λ x. x ++ f) (t ∙ ap (λ x. x ++ e) (s ∙ ap (λ x. x ++ d) (r ∙ ap (λ x. x ++ c) (q ∙ ap (λ x. x ++ b) p))))))
-    ∙ joined
-  where
-    joined : old ++ a ++ b ++ c ++ d ++ e ++ f ++ g ++ h ≡ old ++ (a ++ b ++ c ++ d ++ e ++ f ++ g ++ h)
-    joined = simp append_assoc
-
-pub on_ok : {T E : Type 0} (result : Result T E) (old text new whole : List ℕ) → new ≡ (if is_ok result then old ++ text else old)
-    → (new ≡ old ++ text → new ≡ whole) → OnOk result (new ≡ whole)
-on_ok (Ok x) old text new whole is so = so is
-on_ok (Err e) old text new whole is so = tt

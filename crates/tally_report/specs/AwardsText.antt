@@ -17,17 +17,21 @@ use Rattle.tally_report.specs.Columns.{code_width, heading, left_cell, line_end,
 abbrev pub code_at_index : Constituency → ℕ → List ℕ
 code_at_index con place = slice_index_or (list_codes con.lists) place []
 
--- the line of the n-th award
-abbrev pub award_line : Constituency → ℕ → Award → List ℕ
-award_line con n award =
+-- the line of the n-th award, to the list of a code
+abbrev pub award_columns : List ℕ → ℕ → Award → List ℕ
+award_columns code n award =
     number 4 n
     ++ codes " "
-    ++ left_cell code_width (code_at_index con (award.list - 1))
+    ++ left_cell code_width code
     ++ number 4 award.k
     ++ number 14 award.num
     ++ number 6 award.den
     ++ number 12 (award.num / award.den)
     ++ line_end
+
+-- the same to a list of a constituency
+abbrev pub award_line : Constituency → ℕ → Award → List ℕ
+award_line con n award = award_columns (code_at_index con (award.list - 1)) n award
 
 -- awards in their order
 abbrev pub awards_text : Constituency → List Award → List ℕ

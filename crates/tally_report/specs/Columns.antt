@@ -1,5 +1,5 @@
 -- What the texts of the reports are made of. A text is lines, a line is columns with a line end
--- after them, and a column is a value at the left or at the right of so many places. Names come
+-- after them, and a column is a value at the left or at the right of this many places. Names come
 -- last on a line, in no column, and are never cut.
 use Rattle.std.specs.Prelude.{ℕ, ◌+◌, ◌-◌, ◌++◌, Bool, false, List, [], ◌∷◌, length, replicate}
 use Rattle.std.specs.Prelude.{slice_index_or, codes}
@@ -8,7 +8,7 @@ use Rattle.tally_setup.specs.Constituency.{Constituency, ListEntry}
 use Rattle.tally_setup.specs.Threshold.{eligible_lists}
 use Rattle.tally_returns.specs.View.{View}
 
--- so many spaces
+-- this many spaces
 abbrev pub spaces : ℕ → List ℕ
 spaces n = replicate n 32
 

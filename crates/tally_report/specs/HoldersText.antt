@@ -26,7 +26,7 @@ empty_line list =
     left_cell code_width list.code ++ right_cell 5 (codes "-") ++ codes " " ++ codes "empty"
     ++ line_end
 
--- the lines of a list of so many seats that these hold
+-- the lines of a list of this many seats that these hold
 abbrev pub seat_lines : ListEntry → ℕ → List ℕ → List ℕ
 seat_lines list seats held =
     flat_map (holder_line list) held ++ repeat (seats - length held) (empty_line list)

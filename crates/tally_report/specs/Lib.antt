@@ -1,13 +1,17 @@
+pub mod AllotmentText
 pub mod AwardsText
 pub mod Columns
 pub mod Fault
 pub mod HoldersText
 pub mod PastText
 pub mod ProgressText
+pub mod ProvisionalText
+pub mod Question
 pub mod QuotaText
 pub mod QuotientsText
 pub mod Reports
 pub mod SeatsText
 pub mod ShortText
+pub mod ProvisionalSeats
 pub mod TallyText
 pub mod internal

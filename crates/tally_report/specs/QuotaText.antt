@@ -15,10 +15,15 @@ use Rattle.tally_returns.specs.View.{View}
 use Rattle.tally_machine_law.specs.Outcome.{poll_in}
 use Rattle.tally_report.specs.Columns.{code_width, heading, left_cell, line_end, list_lines, number}
 
--- the line of the list at a place, which holds so many seats
-abbrev pub quota_columns : Poll → ℕ → ℕ → ListEntry → ℕ → List ℕ
-quota_columns poll seats place list held =
-    left_cell code_width list.code
+-- the votes of the eligible lists together, and the seats
+abbrev pub quota_front : Poll → ℕ → List ℕ
+quota_front poll seats =
+    codes "votes " ++ decimal (eligible_votes poll) ++ codes " seats " ++ decimal seats ++ line_end
+
+-- the line of the list at a place, which has this code and holds this many seats
+abbrev pub quota_columns : Poll → ℕ → ℕ → List ℕ → ℕ → List ℕ
+quota_columns poll seats place code held =
+    left_cell code_width code
     ++ number 12 (votes_of poll place)
     ++ number 5 (whole_quotas poll seats place)
     ++ number 16 (remainder poll seats place)
@@ -29,12 +34,11 @@ quota_columns poll seats place list held =
 abbrev pub quota_line : Poll → ℕ → View → ℕ → ListEntry → List ℕ
 quota_line poll seats view place list =
     if slice_index_or poll.eligible place false
-    then quota_columns poll seats place list (slice_index view.seats place)
+    then quota_columns poll seats place list.code (slice_index view.seats place)
     else []
 
 abbrev pub quota_text : Constituency → View → List ℕ
 quota_text con view =
     heading (codes "QUOTA") con
-    ++ codes "votes " ++ decimal (eligible_votes (poll_in con view)) ++ codes " seats "
-    ++ decimal con.seats ++ line_end
+    ++ quota_front (poll_in con view) con.seats
     ++ list_lines (quota_line (poll_in con view) con.seats view) con

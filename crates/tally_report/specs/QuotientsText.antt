@@ -19,7 +19,7 @@ abbrev pub greatest_of : List ℕ → ℕ
 greatest_of [] = 0
 greatest_of (n ∷ ns) = max n (greatest_of ns)
 
--- the quotient of a list of so many votes and seats for its k-th seat: its votes, in the unit of
+-- the quotient of a list of this many votes and seats for its k-th seat: its votes, in the unit of
 -- the divisors, over the k-th of them
 abbrev pub quotient_column : (ℕ → ℕ) → ℕ → ℕ → ℕ → ℕ → List ℕ
 quotient_column nth unit votes seats k =

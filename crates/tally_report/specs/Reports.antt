@@ -8,6 +8,7 @@ use Rattle.tally_report.specs.AwardsText.{IsAwardsText}
 use Rattle.tally_report.specs.Fault.{divisors_fault, quotas_fault, seats_fault}
 use Rattle.tally_report.specs.HoldersText.{holders_text}
 use Rattle.tally_report.specs.PastText.{past_text}
+use Rattle.tally_report.specs.ProvisionalText.{IsProvisionalText}
 use Rattle.tally_report.specs.QuotaText.{quota_text}
 use Rattle.tally_report.specs.QuotientsText.{quotients_text}
 use Rattle.tally_report.specs.SeatsText.{seats_text}
@@ -30,6 +31,7 @@ report_named name =
     else if bytes_eq name (codes "short") then Some report.Short
     else if bytes_eq name (codes "holders") then Some report.Holders
     else if bytes_eq name (codes "past") then Some report.Past
+    else if bytes_eq name (codes "provisional") then Some report.Provisional
     else None
 
 -- ---- texts
@@ -44,12 +46,14 @@ IsReport con view report.Quota text = text ≡ quota_text con view
 IsReport con view report.Short text = IsShortText con view text
 IsReport con view report.Holders text = text ≡ holders_text con view
 IsReport con view report.Past text = text ≡ past_text con view
+IsReport con view report.Provisional text = IsProvisionalText con view text
 
 -- whether the text of a report is exact only on a view that a lawful state has
 abbrev pub needs_lawful : Report → Bool
 needs_lawful report.Quotients = true
 needs_lawful report.Awards = true
 needs_lawful report.Short = true
+needs_lawful report.Provisional = true
 needs_lawful other = false
 
 -- What has to be known of a view that fits its constituency, for the text of a report to be exact:
@@ -68,3 +72,4 @@ report_fault con view report.Quota = quotas_fault con view
 report_fault con view report.Short = divisors_fault con view
 report_fault con view report.Holders = seats_fault view
 report_fault con view report.Past = None
+report_fault con view report.Provisional = None

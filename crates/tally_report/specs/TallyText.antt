@@ -36,16 +36,19 @@ abbrev pub in_or_out : Bool → List ℕ
 in_or_out true = codes "in"
 in_or_out false = codes "out"
 
--- the line of a list, from its votes, the base and whether it is eligible
-abbrev pub tally_columns : ListEntry → ℕ → ℕ → Bool → List ℕ
-tally_columns list votes base eligible =
-    left_cell code_width list.code
+-- the code of a list, its votes, their share in the base, and whether it is eligible
+abbrev pub vote_columns : List ℕ → ℕ → ℕ → Bool → List ℕ
+vote_columns code votes base eligible =
+    left_cell code_width code
     ++ number 12 votes
     ++ right_cell 8 (hundredths (share base votes))
     ++ codes " "
     ++ left_cell 4 (in_or_out eligible)
-    ++ list.name
-    ++ line_end
+
+-- the line of a list, from its votes, the base and whether it is eligible
+abbrev pub tally_columns : ListEntry → ℕ → ℕ → Bool → List ℕ
+tally_columns list votes base eligible =
+    vote_columns list.code votes base eligible ++ list.name ++ line_end
 
 abbrev pub tally_office_line : Constituency → View → ℕ → ListEntry → List ℕ
 tally_office_line con view place list =

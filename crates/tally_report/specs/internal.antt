@@ -1,3 +1,4 @@
 -- What only proofs speak of.
+pub mod Allotments
 pub mod Awards
 pub mod GoneByList

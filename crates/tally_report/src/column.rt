@@ -19,7 +19,7 @@ pub fn push_heading(text: &mut String, report: &str, con: &Constituency) -> Resu
     writeln!(text, "{report} {} {name}", con.code)
 }
 
-/// A value at the left of a column of so many places.
+/// A value at the left of a column of this many places.
 pub fn push_left(text: &mut String, value: &str, width: usize) -> Result<(), AllocError>
     ensures { OnOk result (string_bytes text.new ≡
         string_bytes text.old ++ left_cell width value.now) }
@@ -37,14 +37,14 @@ fn push_spaces(text: &mut String, count: usize) -> Result<(), AllocError>
     Ok(())
 }
 
-/// A number at the right of a column of so many places.
+/// A number at the right of a column of this many places.
 pub fn push_number(text: &mut String, n: u64, width: usize) -> Result<(), AllocError>
     ensures { OnOk result (string_bytes text.new ≡ string_bytes text.old ++ number width n) }
 {
     write!(text, "{n:>width$}")
 }
 
-/// Numbers, each at the right of a column of so many places.
+/// Numbers, each at the right of a column of this many places.
 pub(crate) fn push_numbers(
     text: &mut String,
     numbers: &[u64],

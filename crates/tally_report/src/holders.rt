@@ -74,7 +74,7 @@ fn push_list(
     push_seats(alloc, text, list, view.seats[place], gone)
 }
 
-/// The lines of a list of so many seats, of whose candidates those at these places are gone.
+/// The lines of a list of this many seats, of whose candidates those at these places are gone.
 fn push_seats(
     alloc: Global,
     text: &mut String,
@@ -103,7 +103,7 @@ fn gone_by_list(alloc: Global, view: &ConView, lists: usize) -> Result<Vec<Vec<u
     Ok(gone)
 }
 
-/// No place for each of so many lists.
+/// No place for each of this many lists.
 fn nobody(alloc: Global, lists: usize) -> Result<Vec<Vec<u32>>, AllocError>
     ensures { IfOk result (λ gone.
         map (λ places. places.items) gone.items ≡ replicate lists []) }

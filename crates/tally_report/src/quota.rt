@@ -6,7 +6,7 @@ ghost use Rattle.tally_law.specs.Poll.{IsEligible};
 ghost use Rattle.tally_returns.specs.View.{FitsView};
 ghost use Rattle.tally_report.specs.Fault.{IsRefused, quotas_fault};
 ghost use Rattle.tally_report.specs.Columns.{list_lines};
-ghost use Rattle.tally_report.specs.QuotaText.{quota_columns, quota_line, quota_text};
+ghost use Rattle.tally_report.specs.QuotaText.{quota_columns, quota_front, quota_line, quota_text};
 
 use crate::column::{CODE_WIDTH, push_heading, push_left, push_number};
 use crate::fault::ReportFault;
@@ -32,9 +32,17 @@ pub fn quota_text(alloc: Global, con: &Constituency, view: &ConView) -> Result<S
     let contest = HareContest::new(&poll, &[], con.seats);
     let mut text = String::new(alloc);
     push_heading(&mut text, "QUOTA", con)?;
-    writeln!(text, "votes {} seats {}", poll.eligible_votes(), con.seats)?;
+    push_front(&mut text, &poll, con.seats)?;
     push_lists(&mut text, con, view, &contest)?;
     Ok(text)
+}
+
+/// The votes of the eligible lists together, and the seats.
+pub(crate) fn push_front(text: &mut String, poll: &Poll, seats: u32) -> Result<(), AllocError>
+    ensures { OnOk result (string_bytes text.new
+        ≡ string_bytes text.old ++ quota_front (kept_poll poll.now) seats) }
+{
+    writeln!(text, "votes {} seats {seats}", poll.eligible_votes())
 }
 
 fn push_lists(
@@ -72,23 +80,24 @@ fn push_list(
     if !contest.poll.is_eligible(place) {
         return Ok(());
     }
-    push_columns(text, contest, place, list, view.seats[place])
+    push_columns(text, contest, place, list.code.as_str(), view.seats[place])
 }
 
-fn push_columns(
+/// The line of an eligible list, which has this code and holds this many seats.
+pub(crate) fn push_columns(
     text: &mut String,
     contest: &HareContest,
     place: usize,
-    list: &ListEntry,
+    code: &str,
     seats: u32,
 ) -> Result<(), AllocError>
     requires list { place < length contest.now.poll.votes.now }
     requires eligible { IsEligible (kept_poll contest.now.poll) place }
     ensures { OnOk result (string_bytes text.new
         ≡ string_bytes text.old
-        ++ quota_columns (kept_poll contest.now.poll) contest.now.seats place list.now seats) }
+        ++ quota_columns (kept_poll contest.now.poll) contest.now.seats place code.now seats) }
 {
-    push_left(text, list.code.as_str(), CODE_WIDTH)?;
+    push_left(text, code, CODE_WIDTH)?;
     push_number(text, contest.poll.votes_of(place), 12)?;
     push_number(text, u64::from(contest.whole_quotas(place)), 5)?;
     push_number(text, contest.remainder(place), 16)?;

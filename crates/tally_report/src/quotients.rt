@@ -107,7 +107,7 @@ fn push_lists<D: Divisors>(
     Ok(())
 }
 
-/// The quotients of a list of so many votes and seats, up to that of this seat.
+/// The quotients of a list of this many votes and seats, up to that of this seat.
 fn push_quotients<D: Divisors>(
     text: &mut String,
     divisors: &D,

@@ -6,8 +6,8 @@ ghost use Rattle.tally_report.specs.Fault.{IsRefused};
 ghost use Rattle.tally_report.specs.Reports.{IsEnoughFor, IsReport, report_fault, report_named};
 
 use crate::{
-    ReportFault, awards_text, holders_text, past_text, quota_text, quotients_text, seats_text,
-    short_text, tally_text,
+    ReportFault, awards_text, holders_text, past_text, provisional_text, quota_text,
+    quotients_text, seats_text, short_text, tally_text,
 };
 use std::alloc::Global;
 use tally_returns::ConView;
@@ -32,6 +32,8 @@ pub enum Report {
     Holders,
     /// The certificates that were reopened.
     Past,
+    /// The seats if the votes that are closed now were all the votes.
+    Provisional,
 }
 
 impl Report {
@@ -48,6 +50,7 @@ impl Report {
             "short" => Some(Report::Short),
             "holders" => Some(Report::Holders),
             "past" => Some(Report::Past),
+            "provisional" => Some(Report::Provisional),
             _ => None,
         }
     }
@@ -75,5 +78,6 @@ pub fn report_text(
         Report::Short => short_text(alloc, con, view),
         Report::Holders => holders_text(alloc, con, view),
         Report::Past => past_text(alloc, con, view),
+        Report::Provisional => provisional_text(alloc, con, view),
     }
 }

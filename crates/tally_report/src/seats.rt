@@ -45,7 +45,11 @@ pub(crate) fn push_certificate(
     push_lists(text, con, seats)
 }
 
-fn push_lists(text: &mut String, con: &Constituency, seats: &[u32]) -> Result<(), AllocError>
+pub(crate) fn push_lists(
+    text: &mut String,
+    con: &Constituency,
+    seats: &[u32],
+) -> Result<(), AllocError>
     requires { length seats.now ≡ length con.now.lists }
     ensures { OnOk result (string_bytes text.new
         ≡ string_bytes text.old ++ list_lines (seats_line seats.now) con.now) }

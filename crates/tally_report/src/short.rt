@@ -98,7 +98,7 @@ fn push_lists(
 }
 
 /// The number of the list at a place, if there is one.
-fn votes_short_at(numbers: &[Option<u64>], place: usize) -> Option<u64>
+pub(crate) fn votes_short_at(numbers: &[Option<u64>], place: usize) -> Option<u64>
     ensures { result ≡ slice_index_or numbers.now place None }
 {
     match numbers.get(place) {
@@ -123,7 +123,7 @@ fn push_list(
 }
 
 /// A number of votes, or a dash where there is none, at the right of a column of twelve places.
-fn push_votes(text: &mut String, number: Option<u64>) -> Result<(), AllocError>
+pub(crate) fn push_votes(text: &mut String, number: Option<u64>) -> Result<(), AllocError>
     ensures { OnOk result (string_bytes text.new ≡ string_bytes text.old ++ votes_column number) }
 {
     match number {

@@ -6,7 +6,7 @@ ghost use Rattle.tally_setup.specs.Threshold.{IsWithinVotes, eligible_lists};
 ghost use Rattle.tally_returns.specs.View.{FitsView};
 ghost use Rattle.tally_report.specs.Columns.{list_lines, right_cell};
 ghost use Rattle.tally_report.specs.TallyText.{hundredths, share, tally_columns, tally_office_line};
-ghost use Rattle.tally_report.specs.TallyText.{tally_text, valid_line};
+ghost use Rattle.tally_report.specs.TallyText.{tally_text, valid_line, vote_columns};
 ghost use Rattle.tally_report.specs.declared.fault.ReportFault.TheVariants.{Memory};
 
 use crate::column::{CODE_WIDTH, push_heading, push_left, push_number};
@@ -72,13 +72,28 @@ fn push_list(
     ensures { OnOk result (string_bytes text.new
         ≡ string_bytes text.old ++ tally_columns list.now votes base eligible) }
 {
-    push_left(text, list.code.as_str(), CODE_WIDTH)?;
+    push_votes_of(text, list.code.as_str(), votes, base, eligible)?;
+    let name = list.name.as_str();
+    writeln!(text, "{name}")
+}
+
+/// The columns of a list: its code, its votes, their share in the base, and whether it is eligible.
+pub(crate) fn push_votes_of(
+    text: &mut String,
+    code: &str,
+    votes: u64,
+    base: u64,
+    eligible: bool,
+) -> Result<(), AllocError>
+    requires { votes ≤ most_votes }
+    ensures { OnOk result (string_bytes text.new
+        ≡ string_bytes text.old ++ vote_columns code.now votes base eligible) }
+{
+    push_left(text, code, CODE_WIDTH)?;
     push_number(text, votes, 12)?;
     push_hundredths(text, share(base, votes))?;
     text.push_str(" ")?;
-    push_left(text, if eligible { "in" } else { "out" }, 4)?;
-    let name = list.name.as_str();
-    writeln!(text, "{name}")
+    push_left(text, if eligible { "in" } else { "out" }, 4)
 }
 
 /// The share of votes in a base, in hundredths of a per cent, rounded down.

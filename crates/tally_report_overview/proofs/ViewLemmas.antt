@@ -6,10 +6,14 @@ use Rattle.tally_setup.specs.Limits.{IsSetup}
 use Rattle.tally_setup.specs.Setup.{constituency_with}
 use Rattle.std.proofs.lemmas.List.Elements.{All-from_recursion}
 use Rattle.tally_law.specs.Allotment.{Rule, divisors, hare}
+use Rattle.tally_report.specs.ProvisionalText.{IsProvisionalText}
 use Rattle.tally_report.specs.QuotientsText.{quotients_of}
 use Rattle.tally_report.specs.Reports.{IsEnoughFor, IsReport, report_fault}
+use Rattle.tally_report.specs.ProvisionalSeats.{AreProvisionalSeats}
 use Rattle.tally_report.specs.declared.report.Report.{Report}
 use Rattle.tally_report.specs.declared.report.Report.TheVariants as report
+use Rattle.tally_report.specs.declared.status.ProvisionalStatus.{ProvisionalStatus}
+use Rattle.tally_report.specs.declared.status.ProvisionalStatus.TheVariants as status
 use Rattle.tally_returns.specs.PastSeats.{PastSeats}
 use Rattle.tally_returns.specs.State.{State}
 use Rattle.tally_returns.specs.View.{HasEachList, View}
@@ -87,11 +91,24 @@ pub same-quotients : (rule : Rule) (con : Constituency) (view : View) (past : Li
 same-quotients (divisors nth unit lot_rule) con view past = refl
 same-quotients hare con view past = refl
 
+-- provisional seats are those of the whole view
+same-seats : (state : ProvisionalStatus) (seats : List ℕ) (con : Constituency) (view : View) (past : List PastSeats) → AreProvisionalSeats con view state seats → AreProvisionalSeats con (record view { past = past }) state seats
+same-seats status.Certified seats con view past is = is
+same-seats status.Open seats con view past is = is
+same-seats (status.LotNeeded group in_question) seats con view past is = is
+same-seats status.NoEligible seats con view past is = is
+
+-- and so is their text
+pub same-provisional : (con : Constituency) (view : View) (past : List PastSeats) (text : List ℕ) → IsProvisionalText con view text → IsProvisionalText con (record view { past = past }) text
+same-provisional con view past text is = (is.0, is.1, same-seats is.0 is.1 con view past is.2, is.3)
+
 -- What a report shows is what it shows of the whole view: the two compute to the same, but for
--- quotients, which go by the rule, and for the report that shows the certificates.
+-- quotients, which go by the rule, for provisional seats, which go by their
+-- status, and for the report that shows the certificates.
 pub report-whole : (which : Report) (con : Constituency) (view : View) (past : List PastSeats) (text : List ℕ) → HasPastIf (is_past which) past (Ok view) → IsReport con view which text → IsReport con (record view { past = past }) which text
 report-whole report.Quotients con view past text has is = is ∙ same-quotients (rule_in con) con view past
 report-whole report.Past con view past text has is = subst (λ (p : List PastSeats). IsReport con (record view { past = p }) report.Past text) has is
+report-whole report.Provisional con view past text has is = same-provisional con view past text is
 report-whole other con view past text has is = is
 
 pub shown-bare : (setup : List Constituency) (old new : Option State) (con : List ℕ) (which : Report) (r : Result View Refusal) → is_past which ≡ false → IfOk r (λ view. view.past ≡ []) → AnswersShowCon setup old con r new → ShowsFor which setup old con r new

@@ -97,7 +97,7 @@ pub fn country_report(
     country_text(alloc, setup.cons(), views)
 }
 
-/// What is counted of the views of constituencies.
+/// The counts over the views of constituencies.
 fn count_views(cons: &[Constituency], views: &[ConView]) -> Counted
     requires views { AllZip FitsView cons.now views.now }
     requires limit { length cons.now ≤ most_constituencies }

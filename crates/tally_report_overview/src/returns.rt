@@ -76,7 +76,7 @@ fn write(writer: &mut Writer<Vec<u8>>, fields: &StringRecord) -> Result<(), Repo
     Ok(())
 }
 
-/// What was written.
+/// The text so far.
 fn finish(writer: Writer<Vec<u8>>) -> Result<Vec<u8>, ReportFault>
     ensures text { IfOk result (λ bytes. (text : List ℕ) → HasWritten writer text
         → bytes.items ≡ text) }

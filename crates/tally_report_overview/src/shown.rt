@@ -20,7 +20,7 @@ pub enum StationsReport {
     Stations,
 }
 
-/// What is shown of an office.
+/// The reports of an office.
 #[derive(Clone, Copy)]
 pub enum Shown {
     /// How far each constituency has come.
@@ -34,7 +34,7 @@ pub enum Shown {
 }
 
 impl Shown {
-    /// What is shown under a name on the command line.
+    /// The report of a name on the command line.
     pub fn named(name: &str) -> Option<Shown>
         ensures { result ≡ shown_named name.now }
     {

@@ -121,7 +121,7 @@ fn push_sum(text: &mut String, numbers: &[u32]) -> Result<(), AllocError>
     write!(text, "{sum:>8}")
 }
 
-/// The sum of numbers, of which no slice has so many that it would not fit.
+/// The sum of numbers. No slice is long enough for it not to fit.
 fn sum(numbers: &[u32]) -> u128
     ensures { result ≡ sum numbers.now }
 {

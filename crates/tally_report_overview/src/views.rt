@@ -30,7 +30,7 @@ fn shows_past(which: Report) -> bool
     }
 }
 
-/// What a constituency has come to, for a report: with its certificates on record only where the
+/// The view of a constituency for a report: with its certificates on record only where the
 /// report shows them. Nothing changes.
 pub fn view_for<K: Keeper>(keeper: &mut K, con: Code, which: Report) -> Result<ConView, Refusal>
     ensures stays { StaysKeeper K.Keeper keeper.old keeper.new }
@@ -117,7 +117,7 @@ fn views_of<K: Keeper>(
     Ok(views)
 }
 
-/// What each constituency has come to, in the setup's order and in one state, without certificates
+/// The view of each constituency, in the setup's order and in one state, without certificates
 /// on record. It is shown, and nothing changes, unless a failed disk shuts the keeper at it.
 pub fn all_views<K: Keeper>(alloc: Global, keeper: &mut K) -> Result<Vec<ConView>, Refusal>
     ensures stays { StaysKeeper K.Keeper keeper.old keeper.new }

@@ -7,7 +7,7 @@ ghost use Rattle.tally_setup.specs.Code.{is_code};
 use crate::counts::Counts;
 use tally_setup::Code;
 
-/// What is asked of the office. Stations, constituencies and lists are named by their codes. A
+/// A request to the office. Stations, constituencies and lists are named by their codes. A
 /// command on a return names the revision that it speaks of, and one on a constituency the edition,
 /// so that it acts on that one or on none.
 #[derive(Debug, Drop)]
@@ -136,7 +136,7 @@ impl Ask {
     }
 }
 
-/// The same code, of which contracts then know that it is one.
+/// This code, of which contracts then know that it is one.
 fn known(code: Code) -> Code
     ensures same { result ≡ code }
     ensures code { is_code code ≡ true }

@@ -3,7 +3,7 @@
 use crate::returns::Return;
 use crate::view::{Gone, Past};
 
-/// What a command that was accepted changes.
+/// The change that an accepted command makes.
 #[derive(Debug, Drop)]
 pub enum Change {
     /// Nothing.

@@ -29,7 +29,7 @@ impl Model for Counts {
 }
 
 impl Counts {
-    /// Whether there is one number for each of so many lists, and none is above 1,000,000.
+    /// Whether there is one number for each of this many lists, and none is above 1,000,000.
     pub fn are_for(&self, lists: usize) -> bool
         ensures { result ≡ are_counts lists self.now }
     {

@@ -28,7 +28,7 @@ use crate::returns::Return;
 use std::alloc::Global;
 use tally_setup::{Code, Constituency, Entry, Station, good_note};
 
-/// What a command on a return changes, or why it is refused: at a station of this constituency,
+/// The change that a command on a return makes, or its refusal: at a station of this constituency,
 /// which is certified or not, where this return or none is recorded.
 pub fn decide_return(
     alloc: Global,
@@ -52,7 +52,7 @@ pub fn decide_return(
     decide_at(alloc, con, station, certified, found, ask)
 }
 
-/// The same of a command on this station, for a caller who has looked it up.
+/// As `decide_return` for a command on this station, for a caller who has looked it up.
 pub fn decide_at(
     alloc: Global,
     con: &Constituency,

@@ -14,7 +14,7 @@ use crate::reply::LodgeReply;
 use crate::returns::Return;
 use tally_setup::Code;
 
-/// What a Lodge is answered at a station with this many lists (at most 60) and this many who may
+/// The answer to a Lodge at a station with this many lists (at most 60) and this many who may
 /// vote there, where this return or none is recorded. Where the reply is `Lodged`, `Return::lodged`
 /// is the return that is then to be recorded. A Lodge does not depend on how many entries a return
 /// needs.

@@ -37,7 +37,7 @@ pub enum Refusal {
     Exhausted,
     /// The command does not start from this status.
     WrongStatus { status: Status },
-    /// So many stations, 1 or more, have no closed return.
+    /// This many stations, 1 or more, have no closed return.
     NotAllClosed { left: u32 },
     /// No list is eligible (LOREG article 163.1 a)).
     NoEligible,
@@ -47,7 +47,7 @@ pub enum Refusal {
     LotNotNeeded,
     /// The order does not name each list of this group once and no other.
     LotWrongGroup { group: ListSet },
-    /// A lot among these lists is needed, for so many seats, and none is recorded (LOREG article
+    /// A lot among these lists is needed, for this many seats, and none is recorded (LOREG article
     /// 163.1 d)).
     LotMissing { group: ListSet, seats: u32 },
     /// The candidate is gone already.

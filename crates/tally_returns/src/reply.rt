@@ -4,7 +4,7 @@ use crate::progress::ProgressRow;
 use crate::returns::Return;
 use crate::view::ConView;
 
-/// What an accepted Lodge is answered.
+/// The answer to an accepted Lodge.
 #[derive(Clone, Copy)]
 pub enum LodgeReply {
     /// The return was lodged, as this revision (1).
@@ -14,7 +14,7 @@ pub enum LodgeReply {
     Same { rev: u32 },
 }
 
-/// What an accepted command is answered.
+/// The answer to an accepted command.
 #[derive(Debug, Drop)]
 pub enum Reply {
     /// The return was lodged, as this revision (1).
@@ -30,7 +30,7 @@ pub enum Reply {
     Edition { edition: u32 },
     /// The candidate is gone, and the one at this place of the list, from 1, moves in, or nobody.
     Vacated { next: Option<u32> },
-    /// What the constituency has come to.
+    /// The view of the constituency.
     Con(ConView),
     /// How far each constituency has come, in the setup's order.
     Progress(Vec<ProgressRow>),

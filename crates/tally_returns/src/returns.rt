@@ -113,7 +113,7 @@ impl Return {
         self.is_lawful_for(con.lists.len(), station.entitled())
     }
 
-    /// The same for this many lists (at most 60) and this many who may vote.
+    /// As `is_lawful`, for this many lists (at most 60) and this many who may vote.
     fn is_lawful_for(&self, lists: usize, entitled: u64) -> bool
         requires { lists ≤ most_lists }
         ensures lawful { (entry : declared.Entry) → IsTrue result

@@ -83,7 +83,7 @@ impl Past {
     }
 }
 
-/// What is seen of a constituency.
+/// The view of a constituency.
 #[derive(Debug, Drop)]
 pub struct ConView {
     /// From 1 to 9,999.

@@ -173,7 +173,7 @@ list_of no_items = []
 list_of (item d ds) = d ∷ list_of ds
 
 -- the array of a key: there is an item, each is of the kind that is wanted, and there are at most
--- so many
+-- this many
 unfoldable pub read_array : (Data → Bool) → List ℕ → ℕ → Data → Result (List Data) Fault
 read_array is_wanted key limit entry = do
   value ← read_value key entry

@@ -12,8 +12,8 @@ abbrev pub base_of : Base → List ℕ → ℕ → ℕ
 base_of Valid votes blank = sum votes + blank
 base_of Lists votes blank = sum votes
 
--- a list of so many votes: it has one, and its votes are at least so many ten-thousandths of the
--- base
+-- a list of this many votes: it has one, and its votes are at least this many ten-thousandths of
+-- the base
 abbrev pub is_eligible : ℕ → ℕ → ℕ → Bool
 is_eligible threshold base votes = nat_lt 0 votes && nat_le (threshold * base) (votes * whole_base)
 

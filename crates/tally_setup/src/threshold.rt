@@ -29,7 +29,7 @@ pub fn eligible(
     Ok(lists)
 }
 
-/// Whether a list of so many votes takes part: it has a vote, and its votes are at least
+/// Whether a list of this many votes takes part: it has a vote, and its votes are at least
 /// `threshold` ten-thousandths of the base. Votes and base are up to 5,000,000,000.
 pub fn is_eligible(threshold: u32, base: u64, votes: u64) -> bool
     requires threshold { threshold ≤ whole_base }

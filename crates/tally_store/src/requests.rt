@@ -79,7 +79,7 @@ pub(crate) fn answer_request<S: Alter>(
 }
 
 /// Shows a constituency by the database, without its certificates on record. Nothing is written.
-/// What is known then is still true of the database, or nothing is known. Nothing is forgotten
+/// The facts known then are still true of the database, or none is known. Nothing is forgotten
 /// where the request was accepted or refused.
 pub(crate) fn show_request<S: Alter>(
     alloc: Global,
@@ -112,7 +112,7 @@ pub(crate) fn show_request<S: Alter>(
 }
 
 /// Shows the stations of a constituency by the database, with their returns. Nothing is written.
-/// What is known stays as it is, or the request was not accepted, and nothing is known.
+/// The known facts stay as they are, or the request was not accepted, and nothing is known.
 pub(crate) fn show_stations<S: Alter>(
     alloc: Global,
     conn: &mut Connection<S>,

@@ -41,7 +41,7 @@ use Rattle.tally_store_commands.proofs.LodgeLemmas.{row-lawful}
 pub no_stations : Stations
 no_stations station = None
 
--- so many rows came
+-- this many rows came
 abbrev pub Came : SourceAt → SourceAt → ℕ → Type 0
 Came all left many = (count : ImportCount) × (now : Returns) × SoFar no_stations empty now all left count many
 
@@ -91,7 +91,7 @@ pub none-named : (P : Type 0) (r : Result ImportCount ImportFault) → IsErr r �
 none-named P (Ok count) wrong = absurd (true≢false (sym wrong))
 none-named P (Err e) is = tt
 
--- so many answers were counted
+-- this many answers were counted
 abbrev pub Counted : ImportCount → ℕ → Type 0
 Counted count many = (answered : List RowAnswer) × (count ≡ count_of answered) × (length answered ≡ many)
 
@@ -123,7 +123,7 @@ other-taken setup text s asked new other here = record { answered = refl; in_sta
 
 -- ---- what is known of the tables of a lawful state
 
--- so many rows came, and were taken; the state that they left, what is known of it, and the rows
+-- this many rows came, and were taken; the state that they left, what is known of it, and the rows
 -- that were named
 pub record RowsSoFar (setup : List Constituency) (text : List ℕ) (s : State) (all left : SourceAt) (count : ImportCount) (many : ℕ) (before after : Known) (names named : List NamedRow) (new : Seen) : Type 0 where
   pub returns : Returns

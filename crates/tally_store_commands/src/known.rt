@@ -16,7 +16,7 @@ use tally_returns::{Ask, ProgressRow, Return, Status};
 use tally_setup::Code;
 use tally_store_rows::Statuses;
 
-/// What is known of the constituency of a code.
+/// The known facts of the constituency of a code.
 pub(crate) fn known_at(known: &BTreeMap<Code, Statuses>, con: Code) -> Option<Statuses>
     ensures { result ≡ get (known_of known.now) con }
 {

@@ -70,7 +70,7 @@ pub(crate) fn lodge<S: Alter>(
     Ok(Ok(reply))
 }
 
-/// What a Lodge is answered at this station of this constituency.
+/// The answer to a Lodge at this station of this constituency.
 fn decide_first<S: Alter>(
     alloc: Global,
     tx: &mut Transaction<'_, S>,

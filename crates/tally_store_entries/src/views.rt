@@ -236,7 +236,7 @@ fn find_known<S: Alter>(
     Ok(found)
 }
 
-/// What is seen of the constituency whose rows these are. Other rows are an error, and so are rows
+/// The view of the constituency whose rows these are. Other rows are an error, and so are rows
 /// that do not have the shape of a view of the constituency.
 fn fitting_view(
     alloc: Global,
@@ -269,7 +269,7 @@ fn fitting_view(
     }
 }
 
-/// What is seen of a constituency: its rows, its sums, and how many returns are in each status.
+/// The view of a constituency: its rows, its sums, and how many returns are in each status.
 /// Where these numbers are not known, each return is looked up by its station. Certificates on
 /// record are many; where they are not asked for they are not read, and the view has none. Rows
 /// that do not have the shape of such a view are an error.

@@ -72,7 +72,7 @@ fn read_rows<S: Alter>(tx: &mut Transaction<'_, S>) -> Result<FoundRows, Error>
 }
 
 impl FoundRows {
-    /// The same rows, lent.
+    /// These rows, lent.
     fn lent(&self) -> OfficeRows<'_>
         ensures { rows_in_order result ≡ rows_found self.now }
     {

@@ -137,14 +137,14 @@ entry_of con station row rows = do
   counts ← counts_of station rows
   option_map (λ standing. (station, standing)) (return_of station con counts row)
 
--- the first return, by so many rows of `counts`, and those that the other rows read as
+-- the first return, by this many rows of `counts`, and those that the other rows read as
 abbrev pub entry_before : (List Row → Option (List (List ℕ × StationReturn))) → ℕ
     → Constituency × Station → Row → List Row → Option (List (List ℕ × StationReturn))
 entry_before others items place row counts = do
   e ← entry_of place.0.code place.1.code row (take items counts)
   option_map (λ es. e ∷ es) (others (drop items counts))
 
--- the same, where there are so many rows
+-- the same, where there are this many rows
 abbrev pub next_entry : (List Row → Option (List (List ℕ × StationReturn))) → ℕ
     → Constituency × Station → Row → List Row → Option (List (List ℕ × StationReturn))
 next_entry others items place row counts =
@@ -221,20 +221,20 @@ record_of con rows = do
   edition ← number_of (column (slice_index_or rows 0 []) 1)
   option_map (λ seats. record { edition = edition; seats = seats }) (past_from con edition 1 rows)
 
--- the first certificate, by so many rows, and those that the other rows read as
+-- the first certificate, by this many rows, and those that the other rows read as
 abbrev pub record_before : (List Row → Option (List PastSeats)) → List ℕ → ℕ → List Row
     → Option (List PastSeats)
 record_before others con lists rows = do
   r ← record_of con (take lists rows)
   option_map (λ rs. r ∷ rs) (others (drop lists rows))
 
--- the same, where there are so many rows
+-- the same, where there are this many rows
 abbrev pub next_record : (List Row → Option (List PastSeats)) → List ℕ → ℕ → List Row
     → Option (List PastSeats)
 next_record others con lists rows =
     if nat_le lists (length rows) then record_before others con lists rows else None
 
--- the certificates whose rows these are, at most so many: of each a row for each list
+-- the certificates whose rows these are, at most this many: of each a row for each list
 abbrev pub records_of : List ℕ → ℕ → ℕ → List Row → Option (List PastSeats)
 records_of con lists most [] = Some []
 records_of con lists zero (row ∷ rows) = None

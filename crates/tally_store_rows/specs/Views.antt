@@ -78,8 +78,8 @@ statuses_of view = record {
   closed = view.closed;
 }
 
--- what is seen of a constituency with so many returns in each status, by its row of `cons` and its
--- rows of the other tables
+-- what is seen of a constituency with these numbers of returns by status, by its row of `cons` and
+-- its rows of the other tables
 abbrev pub view_from_tables : Constituency → Statuses → Row → Tables → Option View
 view_from_tables con statuses row tables = do
   standing ← standing_of con.code row

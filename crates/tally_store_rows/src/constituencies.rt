@@ -12,8 +12,8 @@ use std::alloc::{AllocError, Global};
 use tally_returns::Gone;
 use tally_store_schema::number_at;
 
-/// What a row of `cons` has beside its code: the edition, whether the constituency is certified,
-/// and the note of its last reopening.
+/// The columns of a row of `cons` beside its code: the edition, whether the constituency is
+/// certified, and the note of its last reopening.
 #[derive(Clone, Copy)]
 pub struct Standing<'a> {
     pub edition: u32,
@@ -33,7 +33,8 @@ fn flag_of(number: u32) -> Option<bool>
     }
 }
 
-/// What a row of `cons` says of the constituency of a code. `None` where it is not such a row.
+/// The content of a row of `cons`, for the constituency of a code. `None` where it is not such a
+/// row.
 pub fn standing_in<'a>(row: &'a Row, con: &[u8]) -> Option<Standing<'a>>
     ensures { option_map standing_value result ≡ standing_of con.now row.now }
 {

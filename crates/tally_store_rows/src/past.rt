@@ -63,7 +63,7 @@ fn record_in(alloc: Global, rows: &[Row], con: &[u8]) -> Result<Option<Past>, Al
     Ok(Some(Past { edition, seats }))
 }
 
-/// The certificates whose rows these are, of each a row for each of so many lists.
+/// The certificates whose rows these are, of each a row for each of this many lists.
 pub fn past_in(
     alloc: Global,
     rows: &[Row],

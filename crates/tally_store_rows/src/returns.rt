@@ -16,7 +16,7 @@ use tally_returns::{Counts, Return, Status};
 use tally_setup::{Code, Constituency, Setup, Station};
 use tally_store_schema::{number_at, text_at};
 
-/// What a row of `returns` has beside its codes.
+/// The columns of a row of `returns` beside its codes.
 #[derive(Clone, Copy)]
 struct Head<'a> {
     rev: u32,

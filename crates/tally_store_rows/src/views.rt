@@ -36,7 +36,7 @@ pub fn statuses_of(view: &ConView) -> Statuses
     }
 }
 
-/// What is seen of a constituency with so many returns in each status, by its row of `cons` and its
+/// The view of a constituency with these numbers of returns by status, by its row of `cons` and its
 /// rows of the other tables. `None` where these are not such rows.
 pub fn view_from_tables(
     alloc: Global,

@@ -13,7 +13,7 @@ use Rattle.tally_store_schema.specs.Tables.{schema_with, past_tree}
 
 -- ---- making tables
 
--- the first so many tables of the office are there, and a transaction is open
+-- the first this many tables of the office are there, and a transaction is open
 pub record HasFirstTables (n : ℕ) (s : Seen) : Type 0 where
   pub schema : s.now.schema ≡ schema_with n
   pub inside : IsTrue s.in_transaction

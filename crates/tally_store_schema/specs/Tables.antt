@@ -175,7 +175,7 @@ office_indexes =
     ∷ key_index (codes "sqlite_autoindex_totals_1") totals_tree 14 (1 ∷ 2 ∷ [])
     ∷ key_index (codes "sqlite_autoindex_past_1") past_tree 16 (1 ∷ 2 ∷ 3 ∷ []) ∷ []
 
--- the schema of the first so many tables: `setup` has no index, each other table has one
+-- the schema of the first this many tables: `setup` has no index, each other table has one
 abbrev pub schema_with : ℕ → Schema
 schema_with n = record {
   tables = take n office_tables;

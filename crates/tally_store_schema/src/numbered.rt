@@ -63,7 +63,7 @@ fn most_rows_text(table: NumberedTable) -> &'static str
     }
 }
 
-/// Where the text of so many rows ends in that. An item and its number are the next parameters.
+/// Where the text of this many rows ends in that. An item and its number are the next parameters.
 fn rows_end(table: NumberedTable, rows: usize) -> usize
     requires few { rows ≤ 16 }
     ensures { result ≡ rows_end table rows }
@@ -76,7 +76,7 @@ fn rows_end(table: NumberedTable, rows: usize) -> usize
     }
 }
 
-/// The text of an INSERT of so many rows.
+/// The text of an INSERT of this many rows.
 fn rows_text(table: NumberedTable, rows: usize) -> &'static str
     requires few { rows ≤ 16 }
     ensures { result.now ≡ insert_rows_text table rows }
@@ -84,7 +84,7 @@ fn rows_text(table: NumberedTable, rows: usize) -> &'static str
     &most_rows_text(table)[..rows_end(table, rows)]
 }
 
-/// What the rows begin with, and then each number with its item.
+/// The values that the rows begin with, and then each number with its item.
 fn values_of<'a>(front: &[ValueRef<'a>], first: u32, numbers: &[u32]) -> [ValueRef<'a>; 34]
     requires short { length front.now ≤ 2 }
     requires few { length numbers.now ≤ 16 }

@@ -19,7 +19,7 @@ fn names(con: &Constituency, ask: &Ask) -> bool
     }
 }
 
-/// What is decided of a command. One that may not be decided is answered NoConstituency.
+/// The decision on a command. One that may not be decided is answered NoConstituency.
 fn decided(
     alloc: Global,
     con: &Constituency,
@@ -32,7 +32,7 @@ fn decided(
     decide_con(alloc, con, view, ask)
 }
 
-/// What is decided of the command of a line, as text.
+/// The decision on the command of a line, as text.
 fn text_of_outcome(
     alloc: Global,
     con: &Constituency,
@@ -61,7 +61,7 @@ fn check_lines(
     Ok(())
 }
 
-/// What a keeper shows of its constituency c1.
+/// A keeper's view of its constituency c1.
 fn view_of(book: &mut Book) -> Result<ConView, Fail> {
     match book.answer(&Ask::ShowCon { con: code("c1")? }) {
         Ok(Reply::Con(view)) => Ok(view),

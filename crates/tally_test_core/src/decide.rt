@@ -36,7 +36,7 @@ fn station_of(con: &Constituency, station: Code) -> Option<&Station>
     con.stations.iter().find(|place| station == place.code)
 }
 
-/// What is decided of a command. One that may not be decided is answered NoStation.
+/// The decision on a command. One that may not be decided is answered NoStation.
 fn decided(
     alloc: Global,
     con: &Constituency,

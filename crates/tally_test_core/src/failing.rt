@@ -8,7 +8,7 @@ use std::test::*;
 use tally_core::Keeper;
 use tally_test_scripts::{TWIN_TOWN, first_wrong_of_run, setups_and_scripts, text_of_import_from};
 
-/// A new keeper that takes so many requests and imports.
+/// A new keeper that takes this many requests and imports.
 fn frail(alloc: Global, setup: &str, turns: u32) -> Result<Frail, Fail> {
     Ok(Frail {
         book: fresh(alloc, setup)?,
@@ -43,8 +43,8 @@ fn all_refused(alloc: Global, script: &str) -> Result<String, Fail> {
     Ok(refused)
 }
 
-/// Fails where for a keeper with so many turns the first wrong line of a script is not this one, or
-/// where afterwards it does not refuse each of its commands.
+/// Fails where for a keeper with this many turns the first wrong line of a script is not this one,
+/// or where afterwards it does not refuse each of its commands.
 fn check_turns(
     alloc: Global,
     setup: &str,
@@ -95,7 +95,7 @@ fn check_import<K: Keeper>(alloc: Global, keeper: &mut K, wanted: &str) -> Resul
     Err(Fail::from(got))
 }
 
-/// Fails where a keeper with so many turns answers an import otherwise, or the next one, or where
+/// Fails where a keeper with this many turns answers an import otherwise, or the next one, or where
 /// another return is recorded then.
 fn check_turns_of_imports(
     alloc: Global,

@@ -12,7 +12,7 @@ use tally_setup::{Code, Setup};
 #[derive(Drop)]
 pub(crate) struct Frail {
     pub(crate) book: Book,
-    /// So many requests and imports more are taken.
+    /// This many requests and imports more are taken.
     pub(crate) turns: u32,
     /// The disk has failed.
     pub(crate) shut: bool,

@@ -28,7 +28,7 @@ fn after(alloc: Global, count: usize) -> Result<Book, Fail> {
     Ok(book)
 }
 
-/// What the import of the text at a place comes to. Where it is out of memory, the keeper has to
+/// The outcome of importing the text at a place. Where it is out of memory, the keeper has to
 /// show what one shows into which only those before it were imported, and it is done once more.
 fn import_at(
     rt: &HostRuntime,

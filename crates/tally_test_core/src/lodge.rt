@@ -13,7 +13,7 @@ fn standing(alloc: Global) -> Result<Return, Fail> {
     Ok(standing)
 }
 
-/// What a Lodge is answered at a station of 2 lists and 100 electors.
+/// The answer to a Lodge at a station of 2 lists and 100 electors.
 fn decided(found: Option<&Return>, slip: Code, counts: &Counts) -> Result<LodgeReply, Refusal> {
     decide_lodge(2, 100, found, slip, counts)
 }

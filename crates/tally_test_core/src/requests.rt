@@ -28,7 +28,7 @@ fn after(alloc: Global, setup: &str, asks: &[Ask]) -> Result<Book, Fail> {
     Ok(book)
 }
 
-/// What the request at a place is answered. Where it is out of memory, the keeper has to show what
+/// The answer to the request at a place. Where it is out of memory, the keeper has to show what
 /// one shows that was asked only those before it, and it is asked once more.
 fn ask_at(
     rt: &HostRuntime,

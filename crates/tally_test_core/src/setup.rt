@@ -55,7 +55,7 @@ fn found(alloc: Global, setup: &Setup, code: Code) -> Result<String, AllocError>
     }
 }
 
-/// The same in the example.
+/// As above, in the example.
 fn found_in_example(alloc: Global, code: &str) -> Result<String, Fail> {
     let code = Code::new(code.as_bytes()).ok_or("no code")?;
     let setup = read_setup(alloc, EXAMPLE).ok().ok_or("no setup")?;

@@ -115,7 +115,7 @@ struct Case<'a> {
     again: &'a str,
 }
 
-// Fails where something is other than in this case though the connection takes only so many bytes
+// Fails where something is other than in this case though the connection takes only this many bytes
 // of the answer.
 fn check_write<K: Keeper>(
     alloc: Global,
@@ -220,7 +220,7 @@ Connection: close\r
 \r
 {\"ok\":\"same\",\"rev\":1}";
 
-// Two connections that give the same message: the first takes so many bytes, and a read of the
+// Two connections that give the same message: the first takes this many bytes, and a read of the
 // second may fail.
 fn two_connections(
     alloc: Global,

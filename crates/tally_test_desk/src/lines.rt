@@ -48,7 +48,7 @@ pub(crate) fn answer(alloc: Global, line: &str) -> Result<String, AllocError> {
     Ok(text)
 }
 
-/// What is answered to the message of a line.
+/// The answer to the message of a line.
 fn answered<K: Keeper>(alloc: Global, office: &mut K, line: &str) -> Result<String, Fail> {
     let message = message(alloc, line)?;
     let (_, got) = exchange(alloc, office, message.as_str(), None, ROOM)?;

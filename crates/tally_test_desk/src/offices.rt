@@ -47,8 +47,8 @@ impl Office for Store<MemStore> {
 /// The most bytes that a connection takes where its writes are not to fail.
 pub(crate) const ROOM: usize = 4_096;
 
-/// A connection that gives a text, or fails once so many bytes of it were given, and takes so many
-/// bytes.
+/// A connection that gives a text, or fails once this many bytes of it were given, and takes this
+/// many bytes.
 pub(crate) fn connection(
     alloc: Global,
     text: &str,

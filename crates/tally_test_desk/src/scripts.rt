@@ -110,6 +110,19 @@ POST /con/c1/reopen {"edition":3,"note":"recount"} = 200 OK|{"edition":4,"ok":"e
 GET /con/c1/holders = 409 Conflict|{"word":"not_certified"}
 GET /con/c1/past = 200 OK|PAST c1 Twin Town|edition 3|A                   1 Alpha|B                   2 Beta|"#;
 
+// The provisional seats as the count goes on: a return that is not closed gives none, equal votes
+// leave one seat open, and the lot has B first, before the certificate and after it.
+const COUNTED: &str =
+    r#"POST /station/s1/lodge {"slip":"p1","votes":[100,100],"blank":0,"spoiled":0} = 200 OK|{"ok":"lodged","rev":1}
+GET /con/c1/provisional = 200 OK|PROVISIONAL c1 Twin Town|stations 1 closed 0|no_eligible|A                   0 Alpha|B                   0 Beta|total               0|
+POST /station/s1/close {"rev":1} = 200 OK|{"ok":"moved","rev":2}
+GET /con/c1/provisional = 200 OK|PROVISIONAL c1 Twin Town|stations 1 closed 1|lot 1 A B|A                   1 Alpha|B                   1 Beta|total               2|
+POST /con/c1/draw {"edition":1,"order":["B","A"]} = 200 OK|{"edition":2,"ok":"edition"}
+GET /con/c1/provisional = 200 OK|PROVISIONAL c1 Twin Town|stations 1 closed 1|open|A                   1 Alpha|B                   2 Beta|total               3|
+POST /con/c1/certify {"edition":2} = 200 OK|{"edition":3,"ok":"edition"}
+GET /con/c1/provisional = 200 OK|PROVISIONAL c1 Twin Town|stations 1 closed 1|certified|A                   1 Alpha|B                   2 Beta|total               3|
+GET /con/zz/provisional = 404 Not Found|{"refused":2,"word":"no_constituency"}"#;
+
 // Three stations: what is shown of them with no return, and with one that is received and one that
 // is closed. What was published is the same when it is imported.
 const PUBLISHED: &str = r#"GET /con/c1/returns = 200 OK|station,slip,blank,spoiled,A,B|
@@ -162,7 +175,7 @@ POST /station/s1/confirm {"rev":1,"slip":"p1","votes":[100,100],"blank":0,"spoil
 GET /con/c1 = 200 OK|{"blank":0,"certified":false,"closed":0,"con":"c1","edition":1,"entry":"double","gone":[],"lot":[],"note":"","seats":[],"spoiled":0,"stations":1,"votes":[0,0]}"#;
 
 // The method of Twin Town, what else the setup has, what was done before, and a script.
-const SCRIPTS: [(&str, &str, &str, &str); 11] = [
+const SCRIPTS: [(&str, &str, &str, &str); 13] = [
     ("dhondt", "", "", RECOUNT),
     ("dhondt", "", "", REFUSED),
     ("dhondt", MORE_STATIONS, "", AGAIN),
@@ -172,6 +185,8 @@ const SCRIPTS: [(&str, &str, &str, &str); 11] = [
     ("dhondt", "", CERTIFIED, BY_DIVISORS),
     ("hare", "", CERTIFIED, BY_QUOTAS),
     ("dhondt", "", CERTIFIED, REOPENED),
+    ("dhondt", "", "", COUNTED),
+    ("hare", "", "", COUNTED),
     ("dhondt", MORE_STATIONS, "", PUBLISHED),
     ("dhondt", PORT, CERTIFIED, COUNTRY),
 ];

@@ -22,7 +22,7 @@ pub struct Rows<'a> {
     pub want: Result<ImportCount, ImportFault>,
 }
 
-/// What is done. The first four have steps, each of which is carried out or not.
+/// The deed. The first four have steps, each of which is carried out or not.
 #[derive(Clone, Copy)]
 pub enum Deed<'a> {
     /// An office of this setup is made. Another fault than that of the store is shown.
@@ -45,14 +45,14 @@ pub enum Deed<'a> {
     Look,
 }
 
-/// What is left of a connection: itself, or the store of one that was dropped as it is.
+/// The rest of a connection: itself, or the store of one that was dropped as it is.
 #[derive(Drop)]
 pub(crate) enum Left<S: Alter> {
     Conn(Connection<S>),
     Store(S),
 }
 
-/// What is left after the steps that were acknowledged, how many these were, and what was shown.
+/// The rest after the steps that were acknowledged, how many these were, and what was shown.
 #[derive(Drop)]
 pub(crate) struct Work<S: Alter> {
     pub(crate) left: Left<S>,
@@ -78,7 +78,7 @@ fn ended<S: Alter + Drop>(alloc: Global, conn: Connection<S>, steps: usize) -> W
     }
 }
 
-/// What making an office in a database answers, and its connection where none is made.
+/// The answer to making an office in a database, and its connection where none is made.
 fn made<S: Alter + Drop>(
     alloc: Global,
     conn: Connection<S>,
@@ -90,7 +90,7 @@ fn made<S: Alter + Drop>(
     Store::create(alloc, conn, text.as_bytes())
 }
 
-/// What opening an office answers, and its connection where none is opened.
+/// The answer to opening an office, and its connection where none is opened.
 pub(crate) fn open<S: Alter + Drop>(
     alloc: Global,
     conn: Connection<S>,

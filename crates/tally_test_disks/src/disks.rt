@@ -1,4 +1,4 @@
-//! The two files of a database, in memory. Each lets so many calls through and then stops, or
+//! The two files of a database, in memory. Each lets this many calls through and then stops, or
 //! refuses one.
 
 use crate::deeds::Left;
@@ -40,7 +40,7 @@ pub(crate) const NO_STOP: Stop = Stop {
     refusals: 0,
 };
 
-/// So many calls are refused after so many of the log, or else of the database file.
+/// This many calls are refused after this many of the log, or else of the database file.
 pub fn stop_after(calls: u64, of_log: bool, refusals: u64) -> Stop {
     let (log, db) = if of_log {
         (calls, u64::MAX)
@@ -71,7 +71,7 @@ pub fn no_contents(alloc: Global) -> Contents {
     }
 }
 
-/// A file of these bytes, synced, that lets so many calls through and refuses so many.
+/// A file of these bytes, synced, that lets this many calls through and refuses this many.
 fn file(alloc: Global, bytes: &[u8], calls: u64, refusals: u64) -> Result<Stopping, Fail> {
     let mut memory = Memory::new(alloc);
     memory.write_at(0, bytes)?;
@@ -132,26 +132,26 @@ fn copies(alloc: Global, log: &[u8], db: &[u8]) -> Result<Contents, Fail> {
     })
 }
 
-/// What was written to files, synced or not.
+/// The bytes that were written to files, synced or not.
 pub fn written(alloc: Global, files: &Disks) -> Result<Contents, Fail> {
     copies(alloc, files.log.inner().bytes(), files.db.inner().bytes())
 }
 
-/// What was synced of it.
+/// The part of it that was synced.
 pub fn synced(alloc: Global, mut files: Disks) -> Result<Contents, Fail> {
     files.log.crash();
     files.db.crash();
     written(alloc, &files)
 }
 
-/// What a crash may leave beside all that was written.
+/// The contents that a crash may leave, beside all that was written.
 #[derive(Clone, Copy)]
 pub enum Mixture {
-    /// What was synced.
+    /// All that was synced.
     Synced,
-    /// What was written to the log, and what was synced of the database file.
+    /// All that was written to the log, and all that was synced of the database file.
     WrittenLog,
-    /// What was synced of the log, and what was written to the database file.
+    /// All that was synced of the log, and all that was written to the database file.
     WrittenDatabase,
     /// Sectors of both in turn.
     Sectors,

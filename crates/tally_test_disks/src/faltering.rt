@@ -1,4 +1,4 @@
-//! A file that lets so many calls through, refuses so many after them, and lets each later one
+//! A file that lets this many calls through, refuses this many after them, and lets each later one
 //! through.
 
 ghost use Rattle.std.specs.Prelude.{◌≡◌, ◌+◌, ◌&&◌, not, false};
@@ -44,7 +44,7 @@ pub struct Faltering<D: Disk> {
 }
 
 impl<D: Disk> Faltering<D> {
-    /// Lets so many calls through, and refuses so many after them.
+    /// Lets this many calls through, and refuses this many after them.
     pub fn new(inner: D, passes: u64, refusals: u64) -> Faltering<D> {
         let turns = Turns {
             passes,
@@ -58,7 +58,7 @@ impl<D: Disk> Faltering<D> {
         }
     }
 
-    /// What the calls that are let through go to.
+    /// The file that the other calls go to.
     pub fn inner(&self) -> &D {
         &self.inner
     }
@@ -144,7 +144,7 @@ impl<D: Disk> Disk for Faltering<D> {
     }
 }
 
-/// What the machine finds after a crash refuses nothing.
+/// The files that the machine finds after a crash refuse nothing.
 impl<D: Crash> Crash for Faltering<D> {
     fn crash(&mut self) {
         self.inner.crash();

@@ -26,7 +26,7 @@ fn text_of_import(alloc: Global, came: &Result<ImportCount, ImportFault>) -> Res
     }
 }
 
-/// What is wrong with the answer to `import = ANSWER`, which lodges the returns of three stations,
+/// The fault in the answer to `import = ANSWER`, which lodges the returns of three stations,
 /// to `trial = ANSWER`, which tries that, or to `cut import = ANSWER`, where a read fails after
 /// them; or nothing.
 fn wrong_import<K: Keeper>(alloc: Global, keeper: &mut K, line: &str) -> Result<String, Fail> {
@@ -53,7 +53,7 @@ fn wrong_import<K: Keeper>(alloc: Global, keeper: &mut K, line: &str) -> Result<
     Ok(format!(in alloc; "{line}, and not {shown}")?)
 }
 
-/// What is wrong with the answer to a line, or nothing.
+/// The fault in the answer to a line, or nothing.
 pub(crate) fn wrong<K: Keeper>(alloc: Global, keeper: &mut K, line: &str) -> Result<String, Fail> {
     if line.starts_with("import") || line.starts_with("trial") || line.starts_with("cut") {
         return wrong_import(alloc, keeper, line);
@@ -102,7 +102,7 @@ fn is_answered_again<K: Keeper>(alloc: Global, keeper: &mut K, line: &str) -> Re
     is_answered(alloc, keeper, line)
 }
 
-/// What a keeper shows. It is asked again where its store refuses any of it.
+/// A keeper's content, as text. It is asked again where its store refuses any of it.
 pub(crate) fn shown_again<K: Keeper>(alloc: Global, keeper: &mut K) -> Result<String, Fail> {
     let text = shown(alloc, keeper)?;
     if text.as_str().contains("refused 23") {

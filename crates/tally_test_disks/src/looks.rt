@@ -19,7 +19,7 @@ show c1
 show h
 progress";
 
-/// What is shown of no tables.
+/// The text for no tables.
 pub const NO_TABLES: &str = "version none, tables\nthe database lacks a table";
 
 /// The start of what is shown of the tables of version 1.
@@ -30,7 +30,7 @@ pub const FORMER_TABLES: &str =
 pub const TABLES: &str =
     "version 2, tables cons counts gone lots past returns seats setup totals\n";
 
-/// What a keeper shows: these returns, the constituencies, and the progress, a line each; and the
+/// A keeper's content: these returns, the constituencies, and the progress, a line each; and the
 /// stations of the constituencies.
 pub(crate) fn shown<K: Keeper>(alloc: Global, keeper: &mut K) -> Result<String, Fail> {
     let mut text = text_of_answers(alloc, keeper, SHOWN)?;
@@ -124,8 +124,8 @@ fn push_answered<K: Keeper>(
     Ok(())
 }
 
-/// What a database is to show of these tables, where the office has answered these lines: as an
-/// office in memory shows it.
+/// The text that a database should show for these tables, where the office has answered these
+/// lines: as an office in memory shows it.
 pub fn wanted(alloc: Global, tables: &str, setup_text: &str, lines: &str) -> Result<String, Fail> {
     let mut book = Book::new(alloc, setup(alloc, setup_text)?)?;
     let mut text = String::from_str(alloc, tables)?;

@@ -51,7 +51,7 @@ fn whole(alloc: Global, contents: &Contents, deed: Deed<'_>) -> Result<Done, Fai
     Ok(done)
 }
 
-/// What such a deed shows.
+/// The text that such a deed shows.
 pub fn shown_by(alloc: Global, contents: &Contents, deed: Deed<'_>) -> Result<String, Fail> {
     let Done { shown, .. } = whole(alloc, contents, deed)?;
     Ok(shown)

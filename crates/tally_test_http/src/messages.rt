@@ -18,7 +18,7 @@ fn joined(alloc: Global, first: &[u8], second: &[u8]) -> Result<Vec<u8>, AllocEr
     Ok(text)
 }
 
-// What each prefix of the worked message is, where it comes by so many bytes at a time and then
+// What each prefix of the worked message is, where it comes this many bytes at a time and then
 // ends or fails.
 fn is_cut_right(alloc: Global, size: usize, fails: bool) -> Result<bool, Fail> {
     let text = joined(alloc, HEAD, BODY)?;
@@ -133,7 +133,7 @@ fn a_failed_read_is_one_whatever_came_before(rt: HostRuntime) -> Result<(), Fail
     Ok(())
 }
 
-// A head of so many bytes, most of them in the value of a field.
+// A head of this many bytes, most of them in the value of a field.
 fn long_head(alloc: Global, size: usize) -> Result<Vec<u8>, AllocError> {
     let mut text = Vec::from_slice(alloc, b"GET / HTTP/1.1\r\na: ")?;
     for _ in text.len() + 4..size {
@@ -143,7 +143,7 @@ fn long_head(alloc: Global, size: usize) -> Result<Vec<u8>, AllocError> {
     Ok(text)
 }
 
-// A head with so many fields.
+// A head with this many fields.
 fn many_fields(alloc: Global, count: u32) -> Result<Vec<u8>, AllocError> {
     let mut text = Vec::from_slice(alloc, b"GET / HTTP/1.1\r\n")?;
     for _ in 0..count {
@@ -153,7 +153,7 @@ fn many_fields(alloc: Global, count: u32) -> Result<Vec<u8>, AllocError> {
     Ok(text)
 }
 
-// What heads at the limits and beyond them are, where they come by so many bytes at a time.
+// What heads at the limits and beyond them are, where they come this many bytes at a time.
 fn limits_of_heads(alloc: Global, size: usize) -> Result<bool, Fail> {
     let whole = long_head(alloc, 16_384)?;
     let long = long_head(alloc, 16_385)?;
@@ -187,7 +187,7 @@ fn a_head_has_16384_bytes_and_64_fields_at_most(rt: HostRuntime) -> Result<(), F
     Ok(())
 }
 
-// A POST that announces 1,048,576 bytes and has so many.
+// A POST that announces 1,048,576 bytes and has this many.
 fn long_body(alloc: Global, size: usize) -> Result<Vec<u8>, AllocError> {
     let mut text = Vec::from_slice(alloc, b"POST / HTTP/1.1\r\nContent-Length: 1048576\r\n\r\n")?;
     for _ in 0..size {

@@ -4,7 +4,7 @@ use std::alloc::Global;
 use std::test::Fail;
 use tally_desk_message::{Door, DoorFault, Message, read_message};
 
-/// A door of one connection, which gives its text by so many bytes at a time and then ends or
+/// A door of one connection, which gives its text this many bytes at a time and then ends or
 /// fails.
 #[derive(Drop)]
 pub(crate) struct Pieces<'a> {
@@ -39,8 +39,8 @@ impl Door for Pieces<'_> {
     }
 }
 
-/// What a text is, where it comes by so many bytes at a time and then ends or fails: a message on a
-/// line, or its fault.
+/// The reading of a text that comes a number of bytes at a time and then ends or fails: a message
+/// on a line, or its fault.
 pub(crate) fn reading(
     alloc: Global,
     text: &[u8],
@@ -51,7 +51,7 @@ pub(crate) fn reading(
     reading_from(alloc, &mut door)
 }
 
-/// What the current connection of a door gives: a message on a line, or its fault.
+/// The input of a door's current connection: a message on a line, or its fault.
 pub(crate) fn reading_from(alloc: Global, door: &mut Pieces<'_>) -> Result<String, Fail> {
     match read_message(alloc, door) {
         Ok(message) => line_of(alloc, &message),

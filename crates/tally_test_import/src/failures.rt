@@ -19,7 +19,7 @@ Err(Read)
 Err(Read)
 ";
 
-/// Gives a text, fails so many times, and goes on.
+/// Gives a text, fails this many times, and goes on.
 fn failing<'a>(front: &'a str, failures: u32, kind: ErrorKind, back: &'a str) -> Failing<'a> {
     Failing {
         front: front.as_bytes(),
@@ -34,7 +34,7 @@ fn constituency(alloc: Global, book: &Book) -> Result<Constituency, Fail> {
     Ok(con.try_copy(alloc)?)
 }
 
-/// What the check of what a reader gives comes to, as text. It has to write nothing.
+/// The outcome of checking a reader's text, as text. It has to write nothing.
 fn checked(alloc: Global, mut reader: Failing<'_>) -> Result<String, Fail> {
     let mut output = Vec::new(alloc);
     let outcome = check_csv(alloc, &mut reader, &mut output, Sep::Comma, true);
@@ -60,7 +60,7 @@ fn check_import(alloc: Global, reader: Failing<'_>, wanted: &str) -> Result<(), 
     check_answers(alloc, &mut book, "return s1 = refused 8")
 }
 
-/// The same, or where the check of it is answered otherwise.
+/// As above, or where the check of it is answered otherwise.
 fn check_failing(
     alloc: Global,
     front: &str,

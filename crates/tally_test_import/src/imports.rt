@@ -36,8 +36,8 @@ fn check_import(alloc: Global, book: &mut Book, case: &Case<'_>) -> Result<(), F
     Err(Fail::from(format!(in alloc; "not {:?}", case.want)?))
 }
 
-/// The same of an import into a new keeper of three stations, or where the lines have other answers
-/// then.
+/// As above for an import into a new keeper of three stations, or where the lines have other
+/// answers then.
 fn check_case(alloc: Global, case: &Case<'_>) -> Result<(), Fail> {
     let setup = format!(in alloc; "{TWIN_TOWN}{MORE_STATIONS}")?;
     let mut book = fresh(alloc, setup.as_str())?;
@@ -45,7 +45,7 @@ fn check_case(alloc: Global, case: &Case<'_>) -> Result<(), Fail> {
     check_answers(alloc, &mut book, case.lines)
 }
 
-/// The three returns, by reads of so many bytes.
+/// The three returns, by reads of this many bytes.
 fn returns_by(piece: usize) -> Case<'static> {
     Case {
         text: RETURNS,

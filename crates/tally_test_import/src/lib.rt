@@ -18,4 +18,6 @@ mod rows;
 #[cfg(test)]
 mod setups;
 #[cfg(test)]
+mod votes;
+#[cfg(test)]
 mod writers;

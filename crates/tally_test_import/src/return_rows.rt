@@ -71,7 +71,7 @@ fn constituency(alloc: Global) -> Result<Constituency, Fail> {
     Ok(con.try_copy(alloc)?)
 }
 
-/// So many rows that a reader gives, each in a line.
+/// This many rows that a reader gives, each in a line.
 fn rows_of(alloc: Global, reader: &mut Pieces, sep: Sep, count: u32) -> Result<String, Fail> {
     let mut rows = ReturnRows::new(alloc, reader, sep, constituency(alloc)?);
     let mut text = String::new(alloc);

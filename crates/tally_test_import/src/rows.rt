@@ -81,14 +81,14 @@ fn rows_of_text(alloc: Global, text: &str, fails: bool) -> Result<Script, Fail> 
     })
 }
 
-/// What an import of these rows into a keeper comes to, as text.
+/// The outcome of importing these rows into a keeper, as text.
 fn imported(alloc: Global, book: &mut Book, text: &str, fails: bool) -> Result<String, Fail> {
     let mut rows = rows_of_text(alloc, text, fails)?;
     let outcome = book.lodge_from(&mut rows, &mut Vec::new(alloc));
     Ok(format!(in alloc; "{outcome:?}")?)
 }
 
-/// What a trial of that import comes to, as text.
+/// The outcome of a trial of that import, as text.
 fn tried(alloc: Global, book: &mut Book, text: &str, fails: bool) -> Result<String, Fail> {
     let mut rows = rows_of_text(alloc, text, fails)?;
     let outcome = book.trial_from(&mut rows, &mut Vec::new(alloc));

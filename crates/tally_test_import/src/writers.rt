@@ -2,7 +2,7 @@
 
 use std::io::{self, ErrorKind, Write};
 
-/// Takes so many bytes, and then nothing or fails, as its flush does.
+/// Takes this many bytes, and then nothing or fails, as its flush does.
 #[derive(Drop)]
 pub(crate) struct Room {
     pub(crate) taken: Vec<u8>,

@@ -7,7 +7,7 @@ ghost use Rattle.tally_setup.specs.declared.profile.Method.TheVariants.{Hare};
 use crate::polls::{Poll, are_limits_kept, numbers, poll_of};
 use std::alloc::{AllocError, Global};
 use tally_allot::{
-    AllotFault, ListSet, allot, awards, is_allotment, lot_need, quotas, votes_short,
+    AllotFault, ListSet, allot, awards, is_allotment, least_seats, lot_need, quotas, votes_short,
 };
 use tally_setup::Method;
 
@@ -23,7 +23,7 @@ fn lot_text(alloc: Global, group: &ListSet, seats: u32) -> Result<String, AllocE
     Ok(text)
 }
 
-fn fault_text(alloc: Global, fault: AllotFault) -> Result<String, AllocError> {
+pub(crate) fn fault_text(alloc: Global, fault: AllotFault) -> Result<String, AllocError> {
     let mut text = fault.to_string(alloc)?;
     if let AllotFault::LotMissing { group, seats } = fault {
         text.push_str(": ")?;
@@ -48,6 +48,15 @@ fn need_text(alloc: Global, poll: &Poll) -> Result<String, AllocError>
     match lot_need(alloc, &poll.profile, poll.seats, &poll.votes, poll.blank) {
         Ok(Some(need)) => lot_text(alloc, &need.group, need.seats),
         Ok(None) => String::from_str(alloc, "no lot"),
+        Err(fault) => fault_text(alloc, fault),
+    }
+}
+
+fn least_text(alloc: Global, poll: &Poll) -> Result<String, AllocError>
+    requires { let p = poll.now in AreLimitsKept p.profile p.seats p.votes.items p.blank }
+{
+    match least_seats(alloc, &poll.profile, poll.seats, &poll.votes, poll.blank) {
+        Ok(seats) => format!(in alloc; "{seats:?}"),
         Err(fault) => fault_text(alloc, fault),
     }
 }
@@ -85,7 +94,7 @@ fn short_text(alloc: Global, poll: &Poll) -> Result<String, AllocError>
     }
 }
 
-/// What a call answers for a poll.
+/// The answer of a call for a poll.
 fn answer(alloc: Global, call: &str, poll: &Poll) -> Result<String, AllocError> {
     if !are_limits_kept(&poll.profile, poll.seats, &poll.votes, poll.blank) {
         return String::from_str(alloc, "no poll");
@@ -95,6 +104,9 @@ fn answer(alloc: Global, call: &str, poll: &Poll) -> Result<String, AllocError> 
     }
     if call == "need" {
         return need_text(alloc, poll);
+    }
+    if call == "least" {
+        return least_text(alloc, poll);
     }
     if poll.profile.method == Method::Hare {
         return quotas_text(alloc, poll);

@@ -4,6 +4,8 @@
 #![tactic(auto)]
 
 #[cfg(test)]
+mod allotments;
+#[cfg(test)]
 mod answers;
 #[cfg(test)]
 mod country;

@@ -131,6 +131,61 @@ A                   2           -
 B                   0           1
 ";
 
+// Without a closed return no list is eligible. Two lists of 100 votes have a seat each of three,
+// and a lot decides who has the third. With a lot by which B is first it is B's, before the
+// certificate and after it.
+const NOTHING: &str = "1 0 1: 0 0: 0 0: : : ";
+
+const PROVISIONAL_NOTHING: &str = "PROVISIONAL c1 Twin Town
+stations 1 closed 0
+no_eligible
+A                   0 Alpha
+B                   0 Beta
+total               0
+";
+
+const PROVISIONAL_TIED: &str = "PROVISIONAL c1 Twin Town
+stations 1 closed 1
+lot 1 A B
+A                   1 Alpha
+B                   1 Beta
+total               2
+";
+
+const DRAWN: &str = "2 1 1: 100 100: 0 0: : 2 1: ";
+
+const PROVISIONAL_DRAWN: &str = "PROVISIONAL c1 Twin Town
+stations 1 closed 1
+open
+A                   1 Alpha
+B                   2 Beta
+total               3
+";
+
+const PROVISIONAL_CERTIFIED: &str = "PROVISIONAL c1 Twin Town
+stations 1 closed 1
+certified
+A                   1 Alpha
+B                   2 Beta
+total               3
+";
+
+// By Hare's rule, while one of seven stations is open: 480,000 votes for 8 seats are 60,000 a
+// seat, and C and D have one and a half of them each, so seven seats are certain.
+const HALVES: &str = "1 6 7: 60000 60000 90000 90000 60000 120000: 0 0: : : ";
+
+const PROVISIONAL_HALVES: &str = "PROVISIONAL n Province
+stations 7 closed 6
+lot 1 C-of-16-letters_ D
+A                   1 A list of some length, whose name stands whole and last on its line
+B                   1 B
+C-of-16-letters_    1 C
+D                   1 D
+E                   1 E
+F                   2 F
+total               7
+";
+
 // Of 1,000 votes one list has 300, which is 30 per cent, and the next 29; blank votes count.
 const SHARES: &str = "TALLY n Province
 stations 7 closed 6
@@ -144,7 +199,7 @@ F                          0    0.00 out F
 ";
 
 // A report, the setup, the view, and the text or the number of the fault.
-const REPORTS: [(&str, &str, &str, &str); 23] = [
+const REPORTS: [(&str, &str, &str, &str); 28] = [
     ("tally", TWIN_TOWN, OPEN, TALLY),
     ("seats", TWIN_TOWN, CERTIFIED, SEATS),
     ("quotients", TWIN_TOWN, CERTIFIED, QUOTIENTS),
@@ -154,6 +209,11 @@ const REPORTS: [(&str, &str, &str, &str); 23] = [
     ("past", TWIN_TOWN, REOPENED, PAST),
     ("past", TWIN_TOWN, REOPENED_TWICE, PAST_TWICE),
     ("past", TWIN_TOWN, OPEN, "PAST c1 Twin Town\n"),
+    ("provisional", TWIN_TOWN, NOTHING, PROVISIONAL_NOTHING),
+    ("provisional", TWIN_TOWN, OPEN, PROVISIONAL_TIED),
+    ("provisional", TWIN_TOWN, DRAWN, PROVISIONAL_DRAWN),
+    ("provisional", TWIN_TOWN, CERTIFIED, PROVISIONAL_CERTIFIED),
+    ("provisional", PROVINCE, HALVES, PROVISIONAL_HALVES),
     ("quota", PROVINCE, LOREG, QUOTA),
     ("quotients", THREE_LISTS, FIFTHS, FIFTHS_QUOTIENTS),
     ("awards", THREE_LISTS, FIFTHS, FIFTHS_AWARDS),

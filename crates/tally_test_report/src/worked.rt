@@ -289,6 +289,23 @@ short dhondt 3000 2 0: 60 30 10 = [None, Some(1), None]
 short sainte-lague 0 3 0: 4999999999 1 = [None, Some(999999999)]
 short sainte-lague 0 2 0: 2500000000 2500000000 = [Some(5000000000), Some(5000000000)]";
 
+// What each list has in any case. Of three seats two equal lists have one each, and of four three
+// have one each. A's third quotient, 300 / 3, ties with the firsts of B and C and has more votes,
+// so only the fourth seat is open; and where the votes decide, these are the seats. By Hare no list
+// of three has a whole quota of two seats; A's 200 of 400 are two of four seats, and of the others
+// each has one.
+const LEAST: &str = "\
+least dhondt 0 3 0: 100 100 = [1, 1]
+least dhondt/alternating 0 3 0: 100 100 = [1, 1]
+least dhondt 0 4 0: 100 100 100 = [1, 1, 1]
+least dhondt 0 4 0: 300 100 100 = [3, 0, 0]
+least dhondt 0 2 0: 200 100 = [2, 0]
+least sainte-lague 0 2 0: 50 100 50 = [0, 1, 0]
+least dhondt 300 8 0: 168000 104000 72000 64000 40000 32000 = [4, 2, 1, 1, 0, 0]
+least hare 0 2 0: 50 50 50 = [0, 0, 0]
+least hare 0 4 0: 200 100 100 = [2, 1, 1]
+least dhondt 0 3 50: 0 0 = no list is eligible";
+
 #[test]
 fn worked_allotments(rt: HostRuntime) -> Result<(), Fail> {
     for table in [
@@ -299,6 +316,7 @@ fn worked_allotments(rt: HostRuntime) -> Result<(), Fail> {
         LOTS,
         ALTERNATING,
         SHORT,
+        LEAST,
     ] {
         for line in table.lines() {
             assert!(rt; holds(rt.alloc(), line)?, "{line}");

@@ -8,7 +8,7 @@ use tally_keeper::{Keeper, run};
 use tally_returns::{Ask, ConView, ListSet, ProgressRow, Refusal, Reply, Return, StationRow};
 use tally_setup::Code;
 
-/// What is answered, as text: a word for it, and its numbers.
+/// The answer, as text: a word for it, and its numbers.
 pub fn text_of_answer(alloc: Global, answer: &Result<Reply, Refusal>) -> Result<String, Fail> {
     match answer {
         Ok(reply) => text_of_reply(alloc, reply),
@@ -79,7 +79,7 @@ fn push_notes(text: &mut String, view: &ConView) -> Result<(), Fail> {
     Ok(())
 }
 
-/// The same, and the edition and the seats of each certificate that was reopened.
+/// As above, with the edition and the seats of each certificate that was reopened.
 fn text_of_view(alloc: Global, view: &ConView) -> Result<String, Fail> {
     let mut text = text_of_numbers(alloc, view)?;
     for past in &view.past {
@@ -106,7 +106,7 @@ fn push_row(text: &mut String, row: ProgressRow) -> Result<(), Fail> {
     Ok(())
 }
 
-/// What a refusal says, or its number.
+/// The text of a refusal, or its number.
 pub fn text_of_refusal(alloc: Global, refusal: &Refusal) -> Result<String, Fail> {
     match refusal {
         Refusal::WrongStatus { status } => Ok(format!(in alloc; "status {status:?}")?),
@@ -134,7 +134,7 @@ fn text_of_group(alloc: Global, front: &str, group: &ListSet) -> Result<String, 
     Ok(text)
 }
 
-/// What a keeper answers to the command of a line, as text. A constituency is then shown once more,
+/// A keeper's answer to the command of a line, as text. A constituency is then shown once more,
 /// without its certificates on record, and has to be shown alike.
 fn answered<K: Keeper>(alloc: Global, keeper: &mut K, line: &str) -> Result<String, Fail> {
     let ask = command(alloc, line)?;
@@ -159,7 +159,7 @@ fn check_shown<K: Keeper>(
     Err(Fail::from(shown))
 }
 
-/// What a ShowCon was answered, without the certificates on record.
+/// The answer to a ShowCon, without the certificates on record.
 fn without_past(alloc: Global, answer: &Result<Reply, Refusal>) -> Result<String, Fail> {
     match answer {
         Ok(Reply::Con(view)) => text_of_numbers(alloc, view),
@@ -167,7 +167,7 @@ fn without_past(alloc: Global, answer: &Result<Reply, Refusal>) -> Result<String
     }
 }
 
-/// What was shown of a constituency, with whatever certificates on record it has.
+/// The view of a constituency, with whatever certificates on record it has.
 fn text_of_shown(alloc: Global, shown: &Result<ConView, Refusal>) -> Result<String, Fail> {
     match shown {
         Ok(view) => text_of_view(alloc, view),
@@ -175,7 +175,7 @@ fn text_of_shown(alloc: Global, shown: &Result<ConView, Refusal>) -> Result<Stri
     }
 }
 
-/// What a keeper shows of the stations of a constituency, a line for each: its code, its electors,
+/// A keeper's stations of a constituency, a line for each: its code, its electors,
 /// and its return or `-`. Or what it refuses, on a line.
 pub fn text_of_stations<K: Keeper>(
     alloc: Global,
@@ -233,7 +233,7 @@ pub fn check_answers<K: Keeper>(alloc: Global, keeper: &mut K, script: &str) -> 
     Err(Fail::from(wrong))
 }
 
-/// What a keeper answers to the commands of these lines in one run, a line each.
+/// A keeper's answers to the commands of these lines in one run, a line each.
 pub fn text_of_answers<K: Keeper>(
     alloc: Global,
     keeper: &mut K,

@@ -7,7 +7,7 @@ use std::test::Fail;
 use tally_import::{ReturnRows, Sep};
 use tally_keeper::{ImportCount, ImportFault, Keeper, NamedRow};
 
-/// What an import of what a reader gives comes to, and the rows that it names.
+/// The outcome of importing a reader's text, and the rows that it names.
 fn import_named<K: Keeper, R: Read + Drop>(
     alloc: Global,
     keeper: &mut K,
@@ -21,7 +21,7 @@ fn import_named<K: Keeper, R: Read + Drop>(
     Ok(keeper.lodge_from(&mut rows, named))
 }
 
-/// The same of its trial.
+/// As above, for its trial.
 fn trial_named<K: Keeper, R: Read + Drop>(
     alloc: Global,
     keeper: &mut K,
@@ -35,7 +35,7 @@ fn trial_named<K: Keeper, R: Read + Drop>(
     Ok(keeper.trial_from(&mut rows, named))
 }
 
-/// What an import of what a reader gives comes to.
+/// The outcome of importing a reader's text.
 pub fn import_from<K: Keeper, R: Read + Drop>(
     alloc: Global,
     keeper: &mut K,
@@ -45,7 +45,7 @@ pub fn import_from<K: Keeper, R: Read + Drop>(
     import_named(alloc, keeper, reader, sep, &mut Vec::new(alloc))
 }
 
-/// What its trial comes to.
+/// The outcome of its trial.
 pub fn trial_from<K: Keeper, R: Read + Drop>(
     alloc: Global,
     keeper: &mut K,
@@ -55,7 +55,7 @@ pub fn trial_from<K: Keeper, R: Read + Drop>(
     trial_named(alloc, keeper, reader, sep, &mut Vec::new(alloc))
 }
 
-/// What an import by commas comes to, as text.
+/// The outcome of an import by commas, as text.
 pub fn text_of_import_from<K: Keeper, R: Read + Drop>(
     alloc: Global,
     keeper: &mut K,

@@ -2,10 +2,10 @@
 
 use std::io::{self, ErrorKind, Read};
 
-/// Gives its text in pieces of so many bytes, and then ends or fails.
+/// Gives its text in pieces of this many bytes, and then ends or fails.
 #[derive(Drop)]
 pub struct Pieces<'a> {
-    /// What is still to come.
+    /// The text still to come.
     pub text: &'a [u8],
     /// How many bytes a read gives at most.
     pub piece: usize,
@@ -25,17 +25,17 @@ impl Read for Pieces<'_> {
     }
 }
 
-/// Gives a text; then so many reads fail; then, where it is read again, it gives another text and
+/// Gives a text; then this many reads fail; then, where it is read again, it gives another text and
 /// ends.
 #[derive(Drop)]
 pub struct Failing<'a> {
-    /// What comes before the reads that fail.
+    /// The text before the reads that fail.
     pub front: &'a [u8],
     /// How many reads fail.
     pub failures: u32,
     /// How they fail.
     pub kind: ErrorKind,
-    /// What comes after them.
+    /// The text after them.
     pub back: &'a [u8],
 }
 

@@ -11,7 +11,7 @@ pub const HEADER: &str = "station,slip,blank,spoiled,A,B\n";
 pub const RETURNS: &str =
     "station,slip,blank,spoiled,A,B\ns1,p1,0,0,10,20\ns2,p2,1,0,30,40\ns3,p3,0,2,50,60\n";
 
-/// The same as a spreadsheet saves it, after a byte order mark.
+/// As a spreadsheet saves it, after a byte order mark.
 pub const QUOTED_RETURNS: &str = "\u{feff}\
 \"station\";\"slip\";\"blank\";\"spoiled\";\"A\";\"B\"\r
 \"s1\";\"p1\";\"0\";\"0\";\"10\";\"20\"\r
@@ -26,13 +26,13 @@ pub const BAD_RETURNS: &str =
 /// The first 60 bytes of the three returns, which end within the row of s2.
 pub const CUT_RETURNS: &str = "station,slip,blank,spoiled,A,B\ns1,p1,0,0,10,20\ns2,p2,1,0,30,";
 
-/// What is answered where all three returns were lodged.
+/// The answer where all three returns were lodged.
 pub const ALL_LODGED: &str = "return s1 = 1 p1 Received [10, 20] 0 0 \n\
 return s2 = 1 p2 Received [30, 40] 1 0 \n\
 return s3 = 1 p3 Received [50, 60] 0 2 \n\
 show c1 = open 1 3 0 0 0/3 [0, 0] 0 0 [] []";
 
-/// What is answered where none was. 8 is NoReturn.
+/// The answer where none was. 8 is NoReturn.
 pub const NONE_LODGED: &str = "return s1 = refused 8
 return s2 = refused 8
 return s3 = refused 8
@@ -67,7 +67,7 @@ pub fn failing_reads(alloc: Global) -> Result<Vec<(String, &'static str, &'stati
     Ok(texts)
 }
 
-/// A text of a return and so many records that are bad.
+/// A text of a return and this many records that are bad.
 pub fn with_bad_rows(alloc: Global, bad: usize) -> Result<String, Fail> {
     let bad = "x\n".repeat(alloc, bad)?;
     Ok(format!(in alloc; "{ONE_RETURN}{bad}")?)

@@ -68,7 +68,7 @@ show c1 = certified 6 0 0 0 1/1 [120, 120] 4 1 [1, 2] [2, 1] recount 2.1 resigne
 lodge s1 p1 100,100 3 2 = differs 5
 lodge s1 p2 120,120 4 1 = same 5";
 
-/// The same where lots alternate: a lot is turned round for second seats, so that by the lot B, A
+/// As above where lots alternate: a lot is turned round for second seats, so that by the lot B, A
 /// the third seat is A's.
 const ALTERNATING: &str = "lodge s1 p1 100,100 = lodged 1
 certify c1 1 = left 1

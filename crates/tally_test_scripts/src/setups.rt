@@ -68,7 +68,7 @@ pub fn entered_twice(alloc: Global) -> Result<String, Fail> {
     )
 }
 
-/// The same, in a large constituency, with two agents at its station.
+/// As above, in a large constituency, with two agents at its station.
 pub fn with_agents(alloc: Global) -> Result<String, Fail> {
     let setup = entered_twice(alloc)?;
     let large = with(

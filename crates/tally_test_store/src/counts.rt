@@ -17,7 +17,7 @@ pub(crate) struct Case<'a> {
     pub(crate) shows: Vec<String>,
 }
 
-/// What an office of a setup shows before the first of these lines, and after each.
+/// The content of an office of a setup before the first of these lines, and after each.
 pub(crate) fn shows_of(alloc: Global, text: &str, lines: &str) -> Result<Vec<String>, Fail> {
     let mut shows = Vec::new(alloc);
     let mut done = String::new(alloc);
@@ -33,7 +33,7 @@ pub(crate) fn shows_of(alloc: Global, text: &str, lines: &str) -> Result<Vec<Str
 /// More runs than a count has.
 pub(crate) const MOST: u64 = 100_000;
 
-/// Whether files of these contents show what they may after so many acknowledged steps.
+/// Whether files of these contents show what they may after this many acknowledged steps.
 pub(crate) fn check(
     alloc: Global,
     case: &Case<'_>,
@@ -49,7 +49,7 @@ pub(crate) fn check(
     Err(Fail::from(shown))
 }
 
-/// What a crash may leave of what was written and what was synced of it.
+/// The contents that a crash may leave of the bytes written and those synced.
 fn check_left(
     alloc: Global,
     case: &Case<'_>,
@@ -82,7 +82,7 @@ fn stops(alloc: Global, case: &Case<'_>, stop: Stop) -> Result<bool, Fail> {
     Ok(has_stopped)
 }
 
-/// How many calls one file lets through in the first run that meets no stop. Each run lets so many
+/// How many calls one file lets through in the first run that meets no stop. Each run lets as many
 /// more through than the one before.
 fn counted(alloc: Global, case: &Case<'_>, of_log: bool, more: u64) -> Result<u64, Fail> {
     for run in 0..MOST {

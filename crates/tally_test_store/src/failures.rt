@@ -8,8 +8,8 @@ use std::test::*;
 use tally_core::Keeper;
 use tally_test_scripts::{Failing, TWIN_TOWN, check_answers, failing_reads, text_of_import_from};
 
-/// Fails where an import of a text whose reads fail so many times is answered otherwise, or where a
-/// return is recorded then. 8 is NoReturn.
+/// Fails where an import of a text whose reads fail this many times is answered otherwise, or where
+/// a return is recorded then. 8 is NoReturn.
 fn check_import<K: Keeper>(
     alloc: Global,
     office: &mut K,

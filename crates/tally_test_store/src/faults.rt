@@ -16,7 +16,7 @@ UPDATE setup SET version = 3 -> the tables are those of no state
 UPDATE setup SET text = 'x' -> the stored setup: not TOML
 CREATE TABLE other (n INTEGER NOT NULL) STRICT -> the database failed";
 
-/// What opening a database answers after these statements.
+/// The answer to opening a database after these statements.
 fn opening<S: Alter + Drop>(
     alloc: Global,
     mut conn: Connection<S>,
@@ -48,7 +48,7 @@ CREATE TABLE lots (n INTEGER) STRICT -> the database has such tables
 CREATE TABLE other (n INTEGER) STRICT -> the database failed
 CREATE TABLE lots (n INTEGER) STRICT !-> the setup: not TOML";
 
-/// What making an office in a database answers after these statements.
+/// The answer to making an office in a database after these statements.
 fn making<S: Alter + Drop>(
     alloc: Global,
     mut conn: Connection<S>,

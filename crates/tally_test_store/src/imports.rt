@@ -33,7 +33,7 @@ struct Case<'a> {
     lines: &'a str,
 }
 
-/// What gives the text of an import.
+/// The reader of the text of an import.
 fn reader<'a>(case: &Case<'a>) -> Pieces<'a> {
     Pieces {
         text: case.text.as_bytes(),
@@ -53,7 +53,7 @@ fn check_import<K: Keeper>(alloc: Global, office: &mut K, case: &Case<'_>) -> Re
     Err(Fail::from(format!(in alloc; "{tried:?} and {came:?}")?))
 }
 
-/// The same of these imports, one after the other, with the answers of the office that is opened
+/// As above for these imports, one after the other, with the answers of the office that is opened
 /// again after each.
 fn check_imports<S: Alter + Drop>(
     alloc: Global,

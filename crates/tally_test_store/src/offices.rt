@@ -17,7 +17,7 @@ pub(crate) fn empty(alloc: Global) -> Result<Conn, Fail> {
     }
 }
 
-/// What making an office in a database answers, and its connection where none is made.
+/// The answer to making an office in a database, and its connection where none is made.
 pub(crate) fn create<S: Alter + Drop>(
     alloc: Global,
     conn: Connection<S>,
@@ -41,12 +41,12 @@ fn made_in<S: Alter + Drop>(
     }
 }
 
-/// The same in memory.
+/// As above, in memory.
 pub(crate) fn made(alloc: Global, text: &str) -> Result<Store<MemStore>, Fail> {
     made_in(alloc, empty(alloc)?, text)
 }
 
-/// What opening an office answers, and its connection where none is opened.
+/// The answer to opening an office, and its connection where none is opened.
 pub(crate) fn open<S: Alter + Drop>(
     alloc: Global,
     conn: Connection<S>,

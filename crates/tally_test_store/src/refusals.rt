@@ -37,7 +37,7 @@ correct s2 3 p2 30,40 1 = moved 4
 close s2 4 = moved 5
 certify c1 3 = edition 4";
 
-/// What an office shows after each of the lines, one text after the other.
+/// The content of an office after each of the lines, one text after the other.
 fn each_shown(alloc: Global, text: &str) -> Result<String, Fail> {
     let mut book = Book::new(alloc, setup(alloc, text)?)?;
     let mut shown = String::new(alloc);
@@ -53,7 +53,7 @@ fn case(alloc: Global, text: &str) -> Result<Case<'static>, Fail> {
     })
 }
 
-/// What becomes of an office whose file refuses a call.
+/// The outcome for an office whose file refuses a call.
 #[derive(Clone, Copy, PartialEq)]
 enum Came {
     /// No call was refused.
@@ -66,7 +66,7 @@ enum Came {
     GoesOn,
 }
 
-/// What becomes of an office that shows this.
+/// The outcome for an office that shows this.
 fn shown_as(shown: &str) -> Came {
     if shown.is_empty() {
         return Came::NotOpened;
@@ -89,7 +89,7 @@ fn check_shown(alloc: Global, left: &Contents, shown: &str) -> Result<(), Fail> 
     Err(Fail::from(format!(in alloc; "{shown}, and opened again {again}")?))
 }
 
-/// What becomes of an office that is looked at after the line that its store refuses.
+/// The outcome for an office that is looked at after the line that its store refuses.
 fn looked_at(alloc: Global, case: &Case<'_>, stop: Stop) -> Result<Came, Fail> {
     let files = files_with(alloc, &case.contents, stop)?;
     let Done {
@@ -131,7 +131,7 @@ fn check_going_on(
 }
 
 /// In how many runs an office was shut by a call that one file refused, and in how many it went on.
-/// Each run lets so many more calls through than the one before, up to one that meets no refusal.
+/// Each run lets one more call through than the one before, up to one that meets no refusal.
 fn counted(alloc: Global, text: &str, of_log: bool) -> Result<(u64, u64), Fail> {
     let case = case(alloc, text)?;
     let each_shown = each_shown(alloc, text)?;

@@ -19,7 +19,7 @@ fn wrong_at_once<S: Alter + Drop>(
     first_wrong(alloc, &mut office, script)
 }
 
-/// The same where all commands of the script are one run.
+/// As above where all commands of the script are one run.
 fn wrong_as_one_run<S: Alter + Drop>(
     alloc: Global,
     mut office: Store<S>,
@@ -68,7 +68,7 @@ show c1 = certified 6 0 0 0 1/1 [120, 120] 0 0 [1, 2] [2, 1] recount 2.1 resigne
 lodge s1 p1 100,100 = differs 5
 lodge s1 p2 120,120 = same 5";
 
-/// What is wrong in a script where a database was changed by these statements before.
+/// The fault in a script where a database was changed by these statements before.
 fn wrong_after<S: Alter + Drop>(
     alloc: Global,
     mut conn: Connection<S>,

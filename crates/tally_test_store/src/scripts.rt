@@ -109,7 +109,7 @@ fn rows(text: &str, sep: Sep, want: Result<ImportCount, ImportFault>) -> Rows<'_
     }
 }
 
-/// The three returns, by reads of so many bytes.
+/// The three returns, by reads of this many bytes.
 fn returns_by(piece: usize) -> Rows<'static> {
     Rows {
         text: RETURNS,

@@ -21,7 +21,7 @@ const MORE: u64 = 1;
 /// kinds that came before.
 const STEPS: usize = 20;
 
-/// What is shown before a deed of one step and after it.
+/// The content before a deed of one step and after it.
 fn pair(alloc: Global, before: String, after: String) -> Result<Vec<String>, Fail> {
     let mut shows = Vec::new(alloc);
     shows.push(before)?;

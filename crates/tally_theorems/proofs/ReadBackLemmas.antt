@@ -196,7 +196,7 @@ fields-length (x ∷ xs) short =
     let rest = fields-length xs short.1 in
     omega (arith, first, rest, length-append (field_text default_writer x) (fields_text default_writer xs))
 
--- a record of so many short fields
+-- a record of this many short fields
 abbrev IsShort : List (List ℕ) → Type 0
 IsShort fields = Short fields × (length fields ≤ 64)
 
@@ -235,7 +235,7 @@ row-some x xs =
       length-append (field_text default_writer x ++ fields_text default_writer xs) (end_of (is_blank default_writer (x ∷ xs))),
     )
 
--- each record has a field, and at most so many bytes as a row
+-- each record has a field, and at most this many bytes as a row
 Fit : ℕ → List (List (List ℕ)) → Type 0
 Fit most [] = Unit {0}
 Fit most ([] ∷ records) = ⊥

@@ -54,7 +54,7 @@ ImportsReturns setup s con count t = (d : Delivery)
     × ImportsComing setup (Some (opening setup))
     (Some (text_coming con Comma (returns_text con (rows_in s con)))) d (Ok count) (Some t)
 
--- so many rows were lodged, and nothing else came
+-- this many rows were lodged, and nothing else came
 abbrev pub all_lodged : ℕ → ImportCount
 all_lodged n = record { lodged = n; same = 0; differs = 0; refused = 0; bad = 0; first = None }
 

@@ -4,7 +4,7 @@ ghost use Rattle.tally_theorems.specs.KeeperLaws as law;
 
 use tally_machine::laws as machine;
 
-/// What a keeper does from one state to another is a run of the machine, so that the laws of the
+/// The acts of a keeper from one state to another are a run of the machine, so that the laws of the
 /// machine hold of it. A keeper that a failed disk has shut has no state, and its answers are those
 /// of a run up to then.
 pub fn the_run_of_a_keeper_is_a_run()
@@ -49,9 +49,9 @@ pub fn records_stay()
     machine::records_stay();
 }
 
-/// What is on record after all that happened to a keeper was on record before, with the same seats,
-/// or one of its requests reopened it: then the seats are the one allotment of the closed votes in
-/// the state that the keeper had, in which the constituency was certified at that edition.
+/// A certificate on record after all that happened to a keeper was on record before, with the same
+/// seats, or one of its requests reopened it: then the seats are the one allotment of the closed
+/// votes in the state that the keeper had, in which the constituency was certified at that edition.
 pub fn records_are_of_allotments()
     ensures { law.RecordsOfKeepersAreOfAllotments }
 {

@@ -9,7 +9,7 @@ use crate::keepers;
 use tally_desk_message::laws as message;
 use tally_machine::laws as machine;
 
-/// What the answer to a message does to an office is one request, one import or nothing, as they
+/// The effect of a message's answer on an office is one request, one import or nothing, as they
 /// happen to a keeper, and all messages of a serving are requests and imports, one after the other.
 /// So the laws of keepers hold of messages.
 pub fn messages_are_what_happens_to_a_keeper()

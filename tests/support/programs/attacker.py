@@ -3,7 +3,9 @@
     attacker.py PORT CERTIFICATE SECONDS JSON
 
 JSON has the head and the body of a request, the addresses, and how many ask at once; in the request
-`#` is another number each time. It prints the number of answers of each status, and their times.
+`#` is another number each time, from 1 to `every` where it has that. It prints the number of answers
+of each status, and their times. A JSON that is too long for a word comes on standard input, and `-`
+in its place.
 """
 
 import json
@@ -14,7 +16,8 @@ import threading
 import time
 
 port, certificate, seconds = int(sys.argv[1]), sys.argv[2], float(sys.argv[3])
-request_of, sources, each = json.loads(sys.argv[4])
+request_of, sources, each = json.loads(
+    sys.stdin.read() if sys.argv[4] == "-" else sys.argv[4])
 tls = ssl.create_default_context(cafile=certificate)
 end, took, statuses, number, lock = 0, [], {}, iter(range(10**9)), threading.Lock()
 
@@ -58,9 +61,10 @@ def run(source):
             try:
                 it = connections.get(place) or connected(source[place])
                 connections[place] = it
-                body = request_of.get("body", "").replace("#", str(n + 1))
+                shown = str(n % request_of.get("every", 10**9) + 1)
+                body = request_of.get("body", "").replace("#", shown)
                 began = time.monotonic()
-                it.sendall((request_of["head"].replace("#", str(n + 1))
+                it.sendall((request_of["head"].replace("#", shown)
                             + f"Host: office.example\r\nContent-Length: {len(body)}\r\n\r\n"
                             + body).encode())
                 status, closed = answer(it)

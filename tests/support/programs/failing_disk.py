@@ -18,4 +18,5 @@ def failing(descriptor):
 
 os.fdatasync = failing
 sys.argv = sys.argv[2:]
+sys.path[0] = os.path.dirname(sys.argv[0])
 runpy.run_path(sys.argv[0], run_name="__main__")

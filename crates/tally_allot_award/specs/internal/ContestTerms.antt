@@ -7,7 +7,7 @@ use Rattle.tally_allot_award.specs.declared.divisor_contest.DivisorContest.{Divi
 use Rattle.tally_allot_award.specs.declared.hare_contest.HareContest.{HareContest}
 use Rattle.tally_allot_award.specs.declared.poll.Poll.{Poll as PollCode}
 
--- a rule, the votes, a lot and so many seats
+-- a rule, the votes, a lot and this many seats
 abbrev pub terms_under : Rule → PollCode → List ℕ → ℕ → Terms
 terms_under rule poll lot seats =
     record { rule = rule; poll = kept_poll poll; lot = lot; seats = seats }

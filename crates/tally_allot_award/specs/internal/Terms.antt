@@ -16,7 +16,7 @@ pub use Rattle.tally_allot_award.specs.internal.Premises.{AreDivisors, IsRule, I
 pub use Rattle.tally_allot_award.specs.internal.Premises.{ArePlacedApart}
 pub use Rattle.tally_allot_award.specs.internal.Premises.{IsProperLot}
 
--- the poll of lists with these votes under a threshold of so many ten-thousandths of a base
+-- the poll of lists with these votes under a threshold of this many ten-thousandths of a base
 abbrev pub poll_under : ℕ → ℕ → List ℕ → Poll
 poll_under threshold base votes =
     record { votes = votes; eligible = map (is_eligible threshold base) votes }
@@ -122,7 +122,7 @@ AreFairSeats terms a = IsFair (placed_race terms) terms.seats a
 abbrev pub AreFairSoFar : Terms → List ℕ → Type 0
 AreFairSoFar terms a = IsFair (placed_race terms) (sum a) a
 
--- The lists that are marked are the eligible ones with so many votes.
+-- The lists that are marked are the eligible ones with this many votes.
 abbrev pub HaveVotes : Poll → ℕ → List Bool → Type 0
 HaveVotes poll votes group =
     (x : ℕ) → (slice_index_or group x false ≡ true) ↔

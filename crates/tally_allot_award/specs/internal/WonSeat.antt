@@ -5,7 +5,7 @@ use Rattle.tally_frac.specs.Limits.{last_divisor}
 use Rattle.tally_allot_award.specs.declared.won.WonSeat.{WonSeat}
 use Rattle.tally_allot_award.specs.internal.Race.{Race, IsPair}
 
--- no seats for each of so many lists
+-- no seats for each of this many lists
 abbrev pub none_held : ℕ → List ℕ
 none_held count = replicate count 0
 
@@ -23,7 +23,7 @@ pub record AreWon (race : Race) (a : List ℕ) (rows : List WonSeat) : Type 0 wh
       race.Above (slice_index_or rows i d).list (slice_index_or rows i d).seat m
       (slice_index a m + 1)
 
--- a seat of one of so many lists, within the most that there are
+-- a seat of one of this many lists, within the most that there are
 abbrev pub IsRow : ℕ → WonSeat → Type 0
 IsRow count row = (row.list < count) × (1 ≤ row.seat) × (row.seat ≤ last_divisor)
 

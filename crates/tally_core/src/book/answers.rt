@@ -68,7 +68,7 @@ fn lodge(
     Ok(Reply::from(reply))
 }
 
-/// What a Lodge is answered.
+/// The answer to a Lodge.
 pub(super) fn decide_first(
     ledger: &Ledger,
     station: Code,

@@ -34,7 +34,7 @@ ReadsHead result bytes c d =
     OnlyReadsInput c d × IfOk result (λ _. c.input ≡ bytes ++ d.input)
     × IfErr result (IsFault c.input c.fails) × FailsAs result c d
 
--- the body of so many bytes with which a text begins, or the fault
+-- the body of this many bytes with which a text begins, or the fault
 abbrev pub IsBodyOrFault : List ℕ → Bool → ℕ → Result ⊤ MessageFault → List ℕ → Type 0
 IsBodyOrFault text fails count (Ok _) body = (count ≤ length text) × (body ≡ take count text)
 IsBodyOrFault text fails count (Err BadHead) body = ⊥
@@ -46,8 +46,8 @@ IsBodyOrFault text fails count (Err EndedEarly) body = (length text < count) × 
 IsBodyOrFault text fails count (Err Read) body = (length text < count) × (fails ≡ true)
 IsBodyOrFault text fails count (Err Memory) body = ⊤
 
--- Input was taken that completes a body of so many bytes, of which the first were there, or it has
--- a fault.
+-- Input was taken that completes a body of this many bytes, of which the first were there, or it
+-- has a fault.
 abbrev pub ReadsBody :
     List ℕ → ℕ → Result ⊤ MessageFault → List ℕ → Connection → Connection → Type 0
 ReadsBody old count result body c d =

@@ -50,7 +50,7 @@ lodged_of counts (Ok (Lodged rev)) = counts ∷ []
 lodged_of counts (Ok (Same rev)) = []
 lodged_of counts (Err refusal) = []
 
--- rows, under a header of so many lists
+-- rows, under a header of this many lists
 pub record Taken : Type 0 where
   pub lists : ℕ
   pub rows : List Row

@@ -27,7 +27,7 @@ AreRecordsAfter old_left left r rows stop =
     (text : Option (List ℕ)) (before : List (List (List ℕ))) → HasGiven text old_left before r →
     AreAll (sep_of r) text left (before ++ rows) stop
 
--- The import, under a header of so many lists, is of rows that are all; or there is the fault of
+-- The import, under a header of this many lists, is of rows that are all; or there is the fault of
 -- too many, or what stopped them. Out of memory may come at any place.
 abbrev pub ImportsRecords : ℕ → (List (List (List ℕ)) → Option Stop → Type 0) → Import →
     Result (Unit {0}) CheckFault → Type 0

@@ -92,7 +92,7 @@ piece_rows sep end piece = text_rows sep (text_of_piece (is_whole end) sep piece
 abbrev pub nothing : List (List ℕ)
 nothing = [] ∷ [] ∷ []
 
--- After so many records of a piece, after which more may come, there is only the one that the
+-- After this many records of a piece, after which more may come, there is only the one that the
 -- separator after it begins.
 abbrev pub HasNothingAfter : Sep → ℕ → List ℕ → Type 0
 HasNothingAfter sep given piece = drop given (piece_rows sep None piece) ≡ nothing ∷ []
@@ -149,7 +149,7 @@ pub record IsSpent (r : Work) : Type 0 where
   pub limit : r.end ≡ None → r.held.taken ≤ size_limit
   pub few : length (bytes_of r) ≤ r.held.taken + 1
 
--- These bytes are held since the last line after which nothing was given, and so many of their
+-- These bytes are held since the last line after which nothing was given, and this many of their
 -- records were given: another one is begun after those.
 abbrev pub Begun : Sep → List ℕ → ℕ → Type 0
 Begun sep bytes given = (piece : ℕ) × (last : List (List ℕ)) × (piece ≤ length bytes) ×

@@ -5,8 +5,8 @@ use Rattle.tally_desk.specs.Serving.{IsServing}
 use Rattle.tally_desk.specs.Respond.{Answers, Office}
 use Rattle.tally_office_commands.specs.Served.{served_line}
 
--- The text is the line of a server: of so many connections this many were answered, and the others
--- failed.
+-- The text is the line of a server: of this many connections this many were answered, and the
+-- others failed.
 pub record IsReportOfServing (Trusted : Type 0) (count : ℕ) (known knows : Option Connections)
     (old new : Office) (text : List ℕ) : Type 0 where
   pub answered : ℕ

@@ -9,7 +9,7 @@ abbrev pub places_of_list : List GoneCandidate → ℕ → List ℕ
 places_of_list gone list =
     map (λ (g : GoneCandidate). g.place) (filter (λ (g : GoneCandidate). g.list == list) gone)
 
--- for each of so many lists the places of those of it, in order
+-- for each of this many lists the places of those of it, in order
 pub record AreByList (gone : List GoneCandidate) (lists : ℕ) (places : List (List ℕ)) : Type 0 where
   pub count : length places ≡ lists
   pub each : (l : ℕ) → l < lists → slice_index_or places l [] ≡ places_of_list gone (l + 1)

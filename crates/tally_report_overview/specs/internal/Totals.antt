@@ -39,17 +39,17 @@ most_of_con = 300000000000
 abbrev pub most_of_all : ℕ
 most_of_all = 60000000000000
 
--- No list has more than so many seats or votes.
+-- No list has more than this many seats or votes.
 pub record AreWithin (most : ℕ) (totals : Totals) : Type 0 where
   pub seats : (code : List ℕ) → seats_at totals code ≤ most
   pub votes : (code : List ℕ) → votes_at totals code ≤ most
 
--- No list has more than so many seats or votes above what it had.
+-- No list has more than this many seats or votes above what it had.
 pub record AreWithinOf (most : ℕ) (old new : Totals) : Type 0 where
   pub seats : (code : List ℕ) → seats_at new code ≤ seats_at old code + most
   pub votes : (code : List ℕ) → votes_at new code ≤ votes_at old code + most
 
--- A list of this code has so many seats and votes more.
+-- A list of this code has this many seats and votes more.
 pub record IsAdded (added : List ℕ) (more_seats more_votes : ℕ) (old new : Totals)
     : Type 0 where
   pub seats : (code : List ℕ)
@@ -58,7 +58,7 @@ pub record IsAdded (added : List ℕ) (more_seats more_votes : ℕ) (old new : T
       → votes_at new code ≡ votes_at old code + (if bytes_eq added code then more_votes else 0)
   pub codes : (code : List ℕ) → has_code new code ≡ (has_code old code || bytes_eq added code)
 
--- These lists have so many seats and votes more.
+-- These lists have this many seats and votes more.
 pub record AreAdded (lists : List ListEntry) (list_seats list_votes : List ℕ) (old new : Totals)
     : Type 0 where
   pub seats : (code : List ℕ)
@@ -120,7 +120,7 @@ pub record IsCountedMore (view : View) (old new : Counted) : Type 0 where
   pub seats : new.seats ≡ old.seats + sum (certified_seats view)
   pub votes : new.votes ≡ old.votes + sum view.votes
 
--- No number is more than so many.
+-- No number is more than this many.
 pub record IsCountWithin (most : ℕ) (counted : Counted) : Type 0 where
   pub certified : counted.certified ≤ most
   pub stations : counted.stations ≤ most
@@ -128,7 +128,7 @@ pub record IsCountWithin (most : ℕ) (counted : Counted) : Type 0 where
   pub seats : counted.seats ≤ most
   pub votes : counted.votes ≤ most
 
--- No number is more than so many above what it was.
+-- No number is more than this many above what it was.
 pub record IsCountWithinOf (most : ℕ) (old new : Counted) : Type 0 where
   pub certified : new.certified ≤ old.certified + most
   pub stations : new.stations ≤ old.stations + most

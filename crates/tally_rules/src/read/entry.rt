@@ -36,7 +36,7 @@ use tally_setup::{
 };
 use toml::Value;
 
-/// What the items of an array have to be.
+/// The type that the items of an array must have.
 #[derive(Clone, Copy)]
 pub(super) enum Kind {
     Text,
@@ -84,7 +84,7 @@ pub(super) fn read_array(
     }
 }
 
-/// The same of a key of an entry, which has the fault, if there is one.
+/// As `read_array`, for a key of an entry, which has the fault, if there is one.
 fn array_in<'a>(
     entry: &'a Value,
     way: &Way,
@@ -183,7 +183,7 @@ fn first_station(
     }
 }
 
-/// What an entry of `station` has beside its code.
+/// The keys of an entry of `station` beside its code.
 #[tactic(auto, unfolding(crate::specs::Reading::station_coded))]
 fn station_coded(entry: &Value, code: Code) -> Result<Station, KeyFault>
     requires { is_code code ≡ true }
@@ -201,7 +201,7 @@ fn station_coded(entry: &Value, code: Code) -> Result<Station, KeyFault>
     })
 }
 
-/// What an entry of `station` has beside its code, of this number and code.
+/// The keys of an entry of `station` beside its code, for this number and code.
 #[tactic(auto, unfolding(crate::specs::Reading::rest_of_station))]
 fn rest_of_station(
     entry: &Value,
@@ -256,8 +256,8 @@ fn station_entry(
     }
 }
 
-/// Each entry of `station` of a constituency with at most so many, after these constituencies. The
-/// codes of its stations are added to those taken.
+/// Each entry of `station` of a constituency with at most this many, after these constituencies.
+/// The codes of its stations are added to those taken.
 #[tactic(auto, unfolding(crate::specs::Reading::read_each_station))]
 fn read_each_station(
     alloc: Global,
@@ -306,8 +306,8 @@ fn with_few_entitled(con: &Holder, stations: Vec<Station>) -> Result<Vec<Station
     })
 }
 
-/// The stations of a constituency with at most so many, after these constituencies, whose codes are
-/// added to those taken.
+/// The stations of a constituency with at most this many, after these constituencies, whose codes
+/// are added to those taken.
 #[tactic(auto, unfolding(crate::specs::Reading::read_stations))]
 fn read_stations(
     alloc: Global,
@@ -379,7 +379,7 @@ fn read_candidates(
     Ok(names)
 }
 
-/// What an entry of `list` has beside its code, of this constituency and this list.
+/// The keys of an entry of `list` beside its code, for this constituency and this list.
 #[tactic(auto, unfolding(crate::specs::Reading::rest_of_list))]
 fn rest_of_list(
     alloc: Global,
@@ -440,7 +440,7 @@ fn read_lists(alloc: Global, entry: &Value, con: &Holder) -> Result<Vec<ListEntr
     Ok(lists)
 }
 
-/// What an entry of `constituency` has beside its code, after these, of this constituency. The
+/// The keys of an entry of `constituency` beside its code, after these constituencies. The
 /// codes of its stations are added to those taken.
 #[tactic(auto, unfolding(crate::specs::Reading::rest_of_constituency))]
 fn rest_of_constituency(

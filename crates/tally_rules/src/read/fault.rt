@@ -98,7 +98,7 @@ pub(super) struct PlacedFault {
     pub place: Option<Place>,
 }
 
-/// What is read in an entry, which has the fault, if there is one.
+/// A reading of an entry, which has the fault, if there is one.
 pub(super) fn in_entry<T: Drop>(way: &Way, read: Result<T, KeyFault>) -> Result<T, PlacedFault>
     ensures value { IfOk result (λ value. read ≡ Ok value) }
     ensures fault { IfErr result (λ found. read ≡ Err found.fault) }

@@ -53,7 +53,7 @@ impl Profiles {
     }
 }
 
-/// What an entry of `profile` has beside its code.
+/// The keys of an entry of `profile` beside its code.
 #[tactic(auto, unfolding(crate::specs::Reading::rest_of_profile))]
 fn rest_of_profile(entry: &Value) -> Result<Profile, KeyFault>
     ensures profile { IfOk result (λ profile. rest_of_profile (view entry.now) ≡ Ok profile) }
@@ -68,7 +68,7 @@ fn rest_of_profile(entry: &Value) -> Result<Profile, KeyFault>
     })
 }
 
-/// The same of the entry of this number and code, which has the fault, if there is one.
+/// The keys of the entry of this number and code, which has the fault, if there is one.
 fn profile_of(entry: &Value, number: usize, code: Code) -> Result<(Code, Profile), PlacedFault>
     ensures code { IfOk result (λ p. p.0 ≡ code) }
     ensures profile { IfOk result (λ p.

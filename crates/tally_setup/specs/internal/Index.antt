@@ -34,7 +34,7 @@ pub record IsIndexed (cons : List Constituency) (codes stations : List (List ℕ
   pub stations_are : stations ≡ all_station_codes cons
   pub places_are : map (station_at cons) places ≡ map Some (all_stations cons)
 
--- the places of so many stations of one constituency
+-- the places of this many stations of one constituency
 abbrev pub places_in : ℕ → ℕ → List StationPlace
 places_in con zero = []
 places_in con (suc stations) =

@@ -68,8 +68,8 @@ pub record Rows : Type 0 where
   pub cons : List Row
   pub tables : Tables
 
--- what is seen of a constituency with so many returns in each status, by its one row of `cons` and
--- its other rows
+-- what is seen of a constituency with these numbers of returns by status, by its one row of `cons`
+-- and its other rows
 abbrev pub view_of_rows : Constituency → Statuses → Rows → Option View
 view_of_rows con statuses rows =
     if length rows.cons == 1

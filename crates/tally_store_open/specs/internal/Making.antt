@@ -28,7 +28,7 @@ abbrev pub IsFaultOfEachSetup : Schema → CreateFault → Type 0
 IsFaultOfEachSetup schema fault =
     (text : List ℕ) → IsOk (setup_of_text text) → IsCreateFault text schema fault
 
--- the sums of no return, for so many lists
+-- the sums of no return, for this many lists
 abbrev pub no_votes : ℕ → VoteCounts
 no_votes lists = record { votes = votes_of_lists lists []; blank = 0; spoiled = 0 }
 

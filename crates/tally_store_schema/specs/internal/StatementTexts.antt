@@ -52,7 +52,7 @@ most_rows_text numbered.Seats = codes "INSERT INTO seats (con, list, n) VALUES "
 most_rows_text numbered.Past =
     codes "INSERT INTO past (con, edition, list, n) VALUES " ++ sixteen_long_rows
 
--- where the text of so many rows ends in that
+-- where the text of this many rows ends in that
 abbrev pub rows_end : NumberedTable → ℕ → ℕ
 rows_end numbered.Counts rows = 43 + 12 * rows
 rows_end numbered.Lots rows = 41 + 12 * rows

@@ -1,0 +1,3 @@
+pub mod RowsLemmas
+pub mod AnswerLemmas
+pub mod NumberLemmas

@@ -1,0 +1,6 @@
+pub mod Allots
+pub mod Lot
+pub mod Troubles
+pub mod Votes
+pub mod Wanted
+pub mod internal

@@ -1,0 +1,2 @@
+-- What only proofs and private contracts speak of.
+pub mod Reading

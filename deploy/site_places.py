@@ -1,0 +1,56 @@
+"""The places of a site that the package sets up, of which a computer may have several.
+
+The files of deploy/ name the places of one office that was installed by hand. The package has its
+programs in /usr, and each site has folders, units and ports of its own."""
+
+import re
+
+# The ports of a site: the desk has one of these, and the reader the one that is so much higher.
+DESKS, READER = range(8080, 8180), 100
+HERE_ONLY = "/usr/local/share/office"
+# The folders in which each site has one of its own name.
+FOLDERS = ("/var/lib/office-status", "/var/lib/office", "/var/log/office", "/var/www/office",
+           "/etc/nginx/office", "/etc/office", "/run/office-recorder", "/run/office-reader")
+UNITS = ("office", "office-reader", "office-recorder", "office-press", "office-backup",
+         "office-status", "office-alarm")
+MADE_BY = {"StateDirectory", "RuntimeDirectory", "LogsDirectory"}
+
+
+def at_site(text, site, desk, read):
+    """A text of deploy/ with the places and ports of a site."""
+    for old, new in (("/usr/local/bin/", "/usr/bin/"), ("/usr/local/lib/", "/usr/lib/"),
+                     ("/usr/local/share/doc/office/", "/usr/share/doc/office/deploy/"),
+                     (HERE_ONLY, f"/var/lib/office-site/{site}")):
+        text = text.replace(old, new)
+    folders = "|".join(FOLDERS)
+    text = re.sub(rf"({folders})(?![\w-])", rf"\1/{site}", text)
+    for old, new in (("8080", desk), ("8090", read)):
+        text = re.sub(rf"(127\.0\.0\.1:|--port ){old}\b", rf"\g<1>{new}", text)
+    return text
+
+
+def template_of(unit, text):
+    """A unit of deploy/ as one of systemd's templates, of which `%i` is the site."""
+    name, _, kind = unit.rpartition(".")
+    lines = [f"# Made of deploy/{unit} by deploy/make-deb."]
+    for line in re.sub(r"\A(#.*\n)+", "", text).splitlines():
+        key, _, value = line.partition("=")
+        if key == "InaccessiblePaths" or line.startswith("#"):
+            pass  # those of all sites
+        elif key in MADE_BY:
+            line = f"{line}/%i"
+        elif key == "Description":
+            line = f"{line}, site %i"
+        elif key in ("After", "OnFailure"):
+            line = re.sub(r"\b(office[\w-]*)\.service", r"\1@%i.service", line)
+        else:
+            line = at_site(line, "%i", "${DESK}", "${READ}")
+            line = line.replace("office-status says", "office-status@%i says")
+            line = re.sub("/office/status$", r"\g<0> --config /etc/office/%i/status.toml", line)
+        if key.startswith("ExecStart") and "${" in line:
+            lines.append("EnvironmentFile=/etc/office/%i/ports")
+        lines.append(line)
+        if line == "[Unit]" and unit == "office.service":
+            # Nothing else reaches the desk, or it does not start.
+            lines += ["Requires=office-ports.service", "After=office-ports.service"]
+    return f"{name}@.{kind}", "\n".join(lines) + "\n"
