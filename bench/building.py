@@ -2,7 +2,8 @@
 """Builds the programs that the benchmarks measure; run by itself, records how long a build of the program took.
 
     python3 bench/building.py            after a first build by ./office: from the ends that it noted
-    python3 bench/building.py ENDS       from a copy of that file, crates/tally_office/out/office.ends
+    python3 bench/building.py ENDS       from a copy of that file, crates/tally_office/out/office.ends, or from that of the
+                                         program for check, allot and recount, crates/tally_office_small/out/office.ends
     python3 bench/building.py --files    from the times of the files that checks left, where there is no such file
 
 It writes bench/crate_seconds.txt, from which ./office says how long a build takes. Parts of which it finds no whole
@@ -23,6 +24,8 @@ from pathlib import Path
 HERE = Path(__file__).resolve().parent
 ROOT = HERE.parent
 TOP = "tally_office"
+# The program for `check`, `allot` and `recount`.
+SMALL = "tally_office_small"
 PROGRAM = ROOT / "crates" / TOP / "out" / TOP
 RECORD = HERE / "crate_seconds.txt"
 ENDS = PROGRAM.with_name("office.ends")
@@ -178,9 +181,10 @@ def seconds_of_ends(ends):
     how = {part: came for part, _, *came in lines}
     if "reading" not in ended:
         sys.exit(f"no crate of that build ended, by {ends}")
+    top, building = (SMALL, "building_small") if "building_small" in ended or SMALL in ended else (TOP, "building")
     took = {"reading": ended["reading"]} if how["reading"] == ["new"] else {}
     free = [ended["reading"]] * workers
-    for crate, used in crates_in_turn().items():
+    for crate, used in crates_in_turn((top,)).items():
         if crate not in ended:
             continue
         first = free.index(min(free))
@@ -188,8 +192,8 @@ def seconds_of_ends(ends):
         free[first] = ended[crate]
         if how[crate] == ["new"]:
             took[crate] = ended[crate] - begun
-    if "building" in ended and TOP in ended:
-        took["building"] = ended["building"] - ended[TOP]
+    if building in ended and top in ended:
+        took[building] = ended[building] - ended[top]
     return took
 
 
@@ -231,7 +235,7 @@ def write_record(took):
     lines = RECORD.read_text().splitlines() if RECORD.is_file() else []
     head = [line for line in lines if line.startswith("#")]
     old = {part: int(number) for part, number in (line.split() for line in lines if line and line not in head)}
-    parts = ["reading", *sorted(crates_in_turn()), "building"]
+    parts = ["reading", *sorted(crates_in_turn((TOP, SMALL))), "building", "building_small"]
     seconds = {**{part: old[part] for part in parts if part in old}, **took}
     for part in parts:
         if part not in took:

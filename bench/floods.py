@@ -79,7 +79,8 @@ def megabyte(con):
 @dataclass
 class Flood:
     """Who asks for what: under which name, from how many addresses, how many of them at once; `#`
-    in the target or the body is another number each time, from 1 to `every`."""
+    in the target or the body is another number each time, from 1 to `every`. It lasts this many
+    seconds at least: where each request holds the office for some, shorter ones see only one."""
 
     name: str
     target: str
@@ -91,6 +92,7 @@ class Flood:
     body: str = ""
     password: str | None = None
     processes: int = 2
+    seconds: int = 0
 
 
 OWN = code(1, 1)
@@ -113,7 +115,7 @@ FLOODS = (
     Flood("a clerk's password, imports", "/con/c2/import", 10, 10, "bruno", method="POST",
           body=rows(2)),
     Flood("a clerk's password, trials of a megabyte", "/con/c3/trial", 10, 4, "bruno",
-          method="POST", body=megabyte(3)),
+          method="POST", body=megabyte(3), seconds=30),
     Flood("a clerk's password, lodges", f"/station/{OWN}/lodge", 10, 10, "bruno", method="POST",
           body=json.dumps({"slip": "p2", "votes": [1] * LISTS, "blank": 1, "spoiled": 0})),
     Flood("strangers, tables, 30 addresses", "/con/c#/quotients", 30, 15),
@@ -267,7 +269,9 @@ def measure(front, given):
     for _ in range(given.rounds):
         _, before = clerk.lodges(given.seconds)
         for flood in floods:
-            took, rate, answered = among(front, clerk, flood, given.seconds, given.spare)
+            seconds = max(given.seconds, flood.seconds)
+            took, rate, answered = among(front, clerk, flood, seconds, given.spare)
+            rate *= given.seconds / seconds
             time.sleep(1)
             _, after = clerk.lodges(given.seconds)
             share = rate / statistics.mean((before, after))

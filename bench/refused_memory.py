@@ -1,10 +1,10 @@
 #!/usr/bin/env python3
-"""Refuses a check and an allotment their memory, once at each place where they ask for some.
+"""Refuses a check, an allotment and a recount their memory, once at each place where they ask for some.
 
 A library of a few lines of C comes before the allocator of the C library. It refuses the first
 request for memory, then in another run the second, and so on until a run makes fewer requests than
-that; and again so that every request from the chosen one on is refused. Each run of `office check`
-and `office allot` has to end with status 3 and `failed: memory`, with nothing on standard output, or to do without
+that; and again so that every request from the chosen one on is refused. Each run of `office check`,
+`office allot` and `office recount` has to end with status 3 and `failed: memory`, with nothing on standard output, or to do without
 what was refused and answer as it does with ample memory.
 
     bench/refused_memory.py [--program PATH] [--every N]
@@ -23,7 +23,7 @@ from pathlib import Path
 
 # The modules imported from here are not to be left beside it in compiled form.
 sys.dont_write_bytecode = True
-from building import PROGRAM
+from building import PROGRAM, ROOT
 
 # Counts the requests, and writes how many there were when the program listens for connections, and
 # at the end.
@@ -92,6 +92,8 @@ def cases():
     law = "list,votes\nA,168000\nB,104000\nC,72000\nD,64000\nE,40000\nF,32000\n"
     words = ["allot", "--seats", "8", "--threshold", "100", "--awards", "--method"]
     lot = ["--lot", ",".join(f"L{n}" for n in range(60))]
+    again = ["recount", "--setup", str(ROOT / "examples/setup.toml"), "--con", "montehondo"]
+    returns = (ROOT / "examples/returns.csv").read_text(encoding="utf-8")
     return checks | {
         "seats by divisors": ([*words, "dhondt"], law),
         "seats by quotas": ([*words, "hare"], law),
@@ -99,6 +101,9 @@ def cases():
         "a lot that is missing": ([*words, "dhondt"], lists),
         "a lot that is not needed": ([*words, "dhondt", "--lot", "A,B"], law),
         "votes of a list twice": ([*words, "dhondt"], law + "A,1\n"),
+        "returns counted again": ([*again, "--awards", "--decisive", "--without", "01-001-A"], returns),
+        "a station that is not there": ([*again, "--without", "01-001-A,x"], returns),
+        "returns of other lists": (again, texts()["a header"]),
     }
 
 

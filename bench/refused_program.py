@@ -62,7 +62,7 @@ RIVERS = "\n" + profile("h0", "hare", 0, "lists") + constituency("h1", "Three Ri
 )
 
 REPORTS = ("tally", "seats", "quotients", "awards", "quota", "short", "holders", "past", "provisional", "stations",
-           "returns")
+           "returns", "result")
 
 
 # ---- messages
@@ -97,7 +97,7 @@ ELECTION = (
     message("/con/h1/certify", {"edition": 1}),
 )
 
-ROUTES = (PROGRESS, message("/country"), message("/station/s1"), message("/con/c1"), *(message(f"/con/c1/{report}") for report in REPORTS))
+ROUTES = (PROGRESS, message("/country"), message("/results"), message("/station/s1"), message("/con/c1"), *(message(f"/con/c1/{report}") for report in REPORTS))
 
 
 def ask(port, text):
@@ -471,6 +471,7 @@ def workloads(bench):
         imports_into_open(bench, "import with a bad row", three, bad),
         show(bench, election, "progress"),
         show(bench, election, "country"),
+        show(bench, election, "results"),
         *(show(bench, election, report, first=is_open) for report in REPORTS),
         show(bench, election, "quota", "h1", is_open),
         Command(bench, "show of version 1", past, of_version_1(bench), takes_over=True),

@@ -56,10 +56,10 @@ GROWING = [500, 1_000, 2_000, 4_000]
 SHOW_GOAL = 1.3
 AWARDS_GOAL = 2
 
-REPORTS = ["progress", "country", "tally", "seats", "quotients", "awards", "short", "holders", "past", "provisional", "stations", "returns", "quota"]
+REPORTS = ["progress", "country", "tally", "seats", "quotients", "awards", "short", "holders", "past", "provisional", "stations", "returns", "result", "results", "quota"]
 
 # Those that are of no constituency alone.
-OF_ALL = ("progress", "country")
+OF_ALL = ("progress", "country", "results")
 
 # The parts that are measured.
 PARTS = ["one", "many", "instructions", "growth"]

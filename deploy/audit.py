@@ -116,7 +116,7 @@ def counts_of(file, con, second, header, rows):
         where, station = f"{file}, line {line}", row[0]
         need(station in con.electors, f"{where}: {con.code} has no station {station!r}")
         need(station not in found, f"{where}: station {station} comes twice")
-        need(len(row) == len(header), f"{where}: {len(row)} fields, where the header has {len(header)}")
+        need(len(row) == len(header), f"{where}: {counted(len(row), 'field')}, where the header has {len(header)}")
         found[station] = row[1], None
         if second == "drawn" and not any(row[2:]):
             continue
@@ -124,8 +124,8 @@ def counts_of(file, con, second, header, rows):
         need(not wrong, f"{where}: {''.join(wrong[:1])!r} of station {station} is not a number")
         blank, spoiled, *votes = map(int, row[2:])
         papers, agents = sum(votes) + blank + spoiled, con.agents.get(station)
-        need(papers <= con.most(station), f"{where}: {papers} papers of station {station}, which has {con.electors[station]} electors"
-             + (f" and {agents} agents" if agents else ""))
+        need(papers <= con.most(station), f"{where}: {counted(papers, 'paper')} of station {station}, which has "
+             f"{counted(con.electors[station], 'elector')}" + (f" and {counted(agents, 'agent')}" if agents else ""))
         found[station] = row[1], [*votes, blank, spoiled]
     return found
 
@@ -328,6 +328,11 @@ def per_cent(part, whole):
     return f"{hundredths // 100:,}.{hundredths % 100:02}"
 
 
+def counted(number, word):
+    """A number with its word: 1 seat, 1,200 seats."""
+    return f"{number:,} {word}{'' if number == 1 else 's'}"
+
+
 def decimal(millionths):
     return f"{millionths / MILLION:,.6f}"
 
@@ -351,16 +356,17 @@ def work(audit, draws):
         return "no number of draws is enough", True
     stations, papers = audit.reached(draws)
     all_papers = sum(map(sum, audit.recorded.values()))
-    return (f"{draws:,} draws, of some {stations:,.0f} of {len(audit.stations):,} stations, "
-            f"with {papers:,.0f} of {all_papers:,} papers", papers >= NEARLY_ALL * all_papers)
+    return (f"{counted(draws, 'draw')}, of some {stations:,.0f} of {counted(len(audit.stations), 'station')}, "
+            f"with {papers:,.0f} of {counted(all_papers, 'paper')}", papers >= NEARLY_ALL * all_papers)
 
 
 def print_outcome(audit):
     con, electors = audit.con, sum(audit.con.electors.values())
     threshold = f", with a threshold of {per_cent(con.threshold, 10000)} per cent of {BASES[con.base]}" if con.threshold else ""
-    print(f"{con.code} {con.name}: {con.seats} seats by {RULES[con.method]}{threshold}")
-    agents = f" and {sum(con.agents.values()):,} agents" if con.agents else ""
-    print(f"{len(con.electors):,} stations, all closed, with {electors:,} electors{agents}; {sum(audit.votes):,} votes for lists, "
+    print(f"{con.code} {con.name}: {counted(con.seats, 'seat')} by {RULES[con.method]}{threshold}")
+    agents = f" and {counted(sum(con.agents.values()), 'agent')}" if con.agents else ""
+    print(f"{counted(len(con.electors), 'station')}, all closed, with {counted(electors, 'elector')}{agents}; "
+          f"{counted(sum(audit.votes), 'vote')} for lists, "
           f"{audit.blank:,} blank, {audit.spoiled:,} spoiled")
     in_question = {place for it in audit.lots for place, _ in it.terms[:2]}
     for i, code in enumerate(con.lists):
@@ -386,7 +392,7 @@ def print_plan(audit, risk):
     if audit.lots:
         print_lots(audit)
         return
-    print(f"The seats follow from {len(audit.assertions)} assertions. The closest, each with the votes that were recorded wrongly at "
+    print(f"The seats follow from {counted(len(audit.assertions), 'assertion')}. The closest, each with the votes that were recorded wrongly at "
           "least if it is false:")
     for it in audit.assertions[:3]:
         print(f"  {math.ceil(it.votes()):12,}  {it.words}")
@@ -424,9 +430,9 @@ def draw(given):
 
 def assess(given):
     audit, papers = begun(given)
-    counted = {station: counts for station, (_, counts) in papers.items() if counts}
-    if len(counted) == len(audit.recorded):
-        of_papers = Audit(audit.con, counted)
+    found = {station: counts for station, (_, counts) in papers.items() if counts}
+    if len(found) == len(audit.recorded):
+        of_papers = Audit(audit.con, found)
         print_outcome(audit)
         print_sums(given, given.returns)
         return count_of_all(audit, of_papers)
@@ -436,11 +442,11 @@ def assess(given):
     times = Counter(draws)
     for station in [*papers, *times]:
         said = int(papers[station][0]) if station in papers else 0
-        need(said == times[station], f"{given.papers}: station {station} is drawn {times[station]} times in {len(draws)} draws, "
+        need(said == times[station], f"{given.papers}: station {station} is drawn {counted(times[station], 'time')} in {counted(len(draws), 'draw')}, "
                                      f"and the file says {said}")
     print_outcome(audit)
     print_sums(given, given.returns)
-    return follow(audit, given, draws, counted)
+    return follow(audit, given, draws, found)
 
 
 def follow(audit, given, draws, counted):

@@ -35,8 +35,6 @@ def ran(*words):
 
 def ready_database(program, setup, files):
     """Makes the database, or looks whether it is the one of this setup and can be opened."""
-    if not setup.is_file():
-        raise Fault(f"{setup} is not there")
     if files.db.exists():
         close_database(program, files.db)
         if text_in(files.db) != setup.read_bytes():

@@ -43,17 +43,17 @@ SEE_SLIPS = ("clerk", "board")
 
 CODE = "[A-Za-z0-9_-]{1,16}"
 STATION, CON = f"/station/(?P<station>{CODE})", f"/con/(?P<con>{CODE})"
-REPORTS = "tally|seats|quotients|awards|quota|short|holders|past|provisional"
+REPORTS = "tally|seats|quotients|awards|quota|short|holders|past|provisional|result"
 OF_ALL = "stations|returns"
 # The kinds by the patterns of their targets: the first that fits decides.
 TARGETS = [(kind, re.compile(pattern)) for kind, pattern in (
-    ("table", "/progress|/country"),
+    ("table", "/progress|/country|/results"),
     ("slips", STATION),
     ("table", f"{CON}(/({REPORTS}))?"),
     ("slips", f"{CON}/({OF_ALL})"),
     ("now_all", f"/now{CON}/(?P<table>{OF_ALL})"),
     ("now_slips", f"/now(?P<table>{STATION})"),
-    ("now", f"/now(?P<table>/progress|/country|{CON}(/[a-z]+)?)"),
+    ("now", f"/now(?P<table>/progress|/country|/results|{CON}(/[a-z]+)?)"),
     ("history", f"/now{STATION}/(?P<act>history)"),
     ("command", f"{STATION}/(?P<act>lodge|query|correct|close|confirm)"),
     ("command", f"{CON}/(?P<act>draw|certify|reopen|vacate)"),

@@ -238,9 +238,11 @@ def read_con(select, setup):
 
 def read_copy(file):
     """The setup's text and the constituencies of a copy, by their codes. Each is counted again."""
-    beside = [end for end in ("-wal", "-shm", "-journal") if Path(f"{file}{end}").exists()]
-    if beside:
-        raise Refused("not_a_copy", file=file, log=f"{file}{beside[0]}")
+    # (an index of a log, -shm, has nothing of its own, and a log without a byte has no commit)
+    beside = [Path(f"{file}{end}") for end in ("-wal", "-journal")]
+    for log in beside:
+        if log.exists() and log.stat().st_size:
+            raise Refused("not_a_copy", file=file, log=log)
     address = f"{file.resolve().as_uri()}?mode=ro&immutable=1"
     try:
         with contextlib.closing(sqlite3.connect(address, uri=True)) as it:

@@ -259,7 +259,8 @@ def act_of_count(forms, con, record):
     if con.left:
         raise Refused("not_closed", con=con.code, left=con.left, stations=len(con.stations))
     lost = [one.station for one in con.returns if record and not record.is_whole_of(one)]
-    said = forms.said("count_said", con=forms.templates.name(con.setup["name"]),
+    key = "count_said_one" if len(con.stations) == 1 else "count_said"
+    said = forms.said(key, con=forms.templates.name(con.setup["name"]),
                       stations=forms.number(len(con.stations)))
     return {**paper(forms, con, "count_form", record), "said": said,
             "board": forms.board_of(con.code), "signers": forms.signers(con.code),
@@ -277,7 +278,8 @@ def act_of_proclamation(forms, con, record):
     """The values for the template of the act of proclamation."""
     if not con.certified:
         raise Refused("not_certified", con=con.code)
-    said = forms.said("proclamation_said", con=forms.templates.name(con.setup["name"]),
+    key = "proclamation_said_one" if con.setup["seats"] == 1 else "proclamation_said"
+    said = forms.said(key, con=forms.templates.name(con.setup["name"]),
                       seats=forms.number(con.setup["seats"]),
                       method=forms.words["methods"][con.setup["rule"]["method"]])
     elected = [{"seat": forms.number(seat), "list": con.lists[place - 1], "order": order,

@@ -3,12 +3,12 @@
 
     python3 deploy/press.py http://127.0.0.1:8080 [ADDRESS..] FOLDER [--every SECONDS] [--setup FILE] [--head FILE] [--site FOLDER]
 
-It asks the office by GET alone, and writes into FOLDER: index.html, what all constituencies are together; count.html, how far
-the count is; a page for each constituency; and the same numbers as CSV and JSON. Where there are several offices the pages are
-those of all. With the setup file it also writes setup.json, which the clerks' page reads, draws the threshold, has turnout and
-the seats that are open, names the candidates who are gone, and writes for each certificate the returns of its stations, as one
-CSV and as pages; where there is no certificate, those that are closed so far. With the head that the recorder writes, each round shows how long the record of commands is and the hash of
-its last line, and record.csv keeps what was shown. The folder of the site says what the pages are called, in which language,
+It asks the office by GET alone, once a round for the results of all constituencies, and writes into FOLDER: index.html, what
+they are together; count.html, how far the count is; a page for each constituency; and the same numbers as CSV and JSON. Where
+there are several offices the pages are those of all. With the setup file it also writes setup.json, which the clerks' page reads,
+draws the threshold, has turnout, names the candidates who are gone, and writes for each certificate the returns of its stations,
+as one CSV and as pages; where there is no certificate, those that are closed so far. With the head that the recorder writes, each
+round shows how long the record of commands is and the hash of its last line, and record.csv keeps what was shown. The folder of the site says what the pages are called, in which language,
 and more (press_site.py). manifest.json has the hash of each file, feed.atom what was certified, withdrawn and vacated, and
 datapackage.json, the schemas and openapi.json say what the files have.
 
@@ -17,9 +17,9 @@ those of the country and of the count in each round. The stations of a constitue
 one where something of it has changed, and once a minute. With --every a round waits for them for half a second and one answer,
 and the others are asked for in later rounds, those first that waited longest. If that answer takes longer, as that of a large
 constituency, the rounds after it wait less. A file is written beside and renamed, so nobody reads half of one, and once more
-compressed. Where the office does not answer, or its answers do not agree with one another, the page that was there stays,
-with a line that says how old it is. With --every it goes on until it is ended. Each round prints a line, with how many GETs it
-took; the status is 1 where the last one failed in part. Python 3.11 or later.
+compressed. Where the office does not answer, or not what can be used, the page that was there stays, with a line that says how
+old it is. With --every it goes on until it is ended. Each round prints a line, with how many GETs it took; the status is 1 where
+the last one failed in part. Python 3.11 or later.
 """
 
 import argparse
@@ -46,7 +46,7 @@ from press_data import (ACTS, OF_HASH, OPEN, STATION, adds_up, con_csv, con_json
                         returns_csv, returns_in, schemas)
 from press_pages import (aged, con_bodies, con_page, count_pages, details_page, index_pages,
                          stations_pages, unaged)
-from press_reports import READERS, NoAnswer, read_country, read_progress, read_stations
+from press_results import NoAnswer, read_results, read_stations
 from press_site import Site, Wrong, fault_of
 from press_templates import TemplateError
 
@@ -54,7 +54,7 @@ from press_templates import TemplateError
 PATIENCE = 60
 # The files and the routes of the site, for programs.
 ROUTES = Path(__file__).resolve().with_name("openapi.json")
-# A constituency that changes while it is asked for is asked for again, so often.
+# Stations that change while they are asked for are asked for again, so often.
 TRIES = 3
 # Where there is no certificate the stations are asked for again after this many seconds, though no
 # number is another one: two changes may leave each as it was. A round of --every asks for stations
@@ -110,74 +110,6 @@ class Office:
             return json.loads(self.text(target))
         except json.JSONDecodeError as error:
             raise NoAnswer(f"{target}: not JSON") from error
-
-    def report(self, con, name):
-        """A report, or None where the rule of the constituency has no such report."""
-        status, text = self.get(f"/con/{con}/{name}")
-        if status == 409 and '"other_method"' in text:
-            return None
-        if status != 200:
-            raise NoAnswer(f"/con/{con}/{name}: status {status}")
-        return text
-
-
-# ---- what is known of a constituency
-
-
-def fetched(office, con, certified):
-    """The texts of a constituency's reports."""
-    names = ["tally", "past"] + (["seats", "holders", "quotients"] if certified else [])
-    texts = {name: office.report(con, name) for name in names}
-    if certified:
-        of_rule = ["quota"] if texts["quotients"] is None else ["awards", "short"]
-        texts |= {name: office.report(con, name) for name in of_rule}
-    return {name: text for name, text in texts.items() if text is not None}
-
-
-def agree(view, known):
-    """Whether the reports say what the constituency's view says: of one moment, and not of two."""
-    tally = known["tally"]
-    wanted = [(tally[key], view[key]) for key in ("stations", "closed", "blank", "spoiled")]
-    wanted.append(([row["votes"] for row in tally["lists"]], view["votes"]))
-    if view["certified"]:
-        given = known["seats"]["seats"]
-        of_lists = [given[row["code"]] for row in tally["lists"]]
-        held = [sum(row["list"] == row_of["code"] for row in known["holders"]) for row_of in tally["lists"]]
-        wanted += [(known["seats"]["edition"], view["edition"]), (of_lists, view["seats"]), (held, view["seats"])]
-        if "awards" in known:
-            wanted.append((sum(won for _, row in known["quotients"] for _, won in row), len(known["awards"])))
-    return all(found == given for found, given in wanted)
-
-
-def look(office, con, before=None):
-    """A constituency as it is: its view, its texts and what they say, all of one moment. Its reports follow from its view:
-    where that is what it was before, so are they."""
-    for again in range(TRIES):
-        if again:
-            time.sleep(1.1)  # longer than a proxy may keep an answer
-        view = office.json(f"/con/{con}")
-        if before and before["view"] == view:
-            return before
-        try:
-            texts = fetched_or_moved(office, con, view)
-            if texts is None or office.json(f"/con/{con}") != view:
-                continue
-            known = {name: READERS[name](text) for name, text in texts.items()}
-            if agree(view, known):
-                return {"view": view, "texts": texts, **known}
-        except (ValueError, KeyError, IndexError, TypeError) as error:
-            raise NoAnswer(f"/con/{con}: a text that is not of its report: {error!r}") from error
-    raise NoAnswer(f"/con/{con}: it changes while it is asked for")
-
-
-def fetched_or_moved(office, con, view):
-    """The texts, or None where the constituency was reopened or certified meanwhile."""
-    try:
-        return fetched(office, con, view["certified"])
-    except NoAnswer as refused:
-        if "status 409" in str(refused):
-            return None
-        raise
 
 
 def read_setup(file):
@@ -288,7 +220,7 @@ def certified_returns(office, code, view, entry):
     """The returns of a certificate as CSV; None where they are of another moment: the next round asks for them again."""
     returns = returns_of(office, code, entry)
     text = returns_csv([row["code"] for row in entry["lists"]], returns)
-    if not adds_up(text, view) or office.json(f"/con/{code}") != view:
+    if not adds_up(text, view) or office.json(f"/con/{code}")["edition"] != view["edition"]:
         return None
     of_setup(f"/con/{code}/returns", (row[0] for row in returns), (station["code"] for station in entry["stations"]))
     return text
@@ -351,10 +283,11 @@ def open_file(code):
     return f"stations-{code}-{OPEN}.csv"
 
 
-def write_open(office, folder, site, con, row, entry, seen, may_ask):
+def write_open(office, folder, site, code, con, entry, seen, may_ask):
     """The stations of a constituency without a certificate as they are, where they are to be asked for; the file of the closed
     returns that is there, or none."""
-    code, name, key, now = row["con"], open_file(row["con"]), (row, con["view"]), time.monotonic()
+    row, name, now = con["progress"], open_file(code), time.monotonic()
+    key = row, con["view"]
     if not entry or row["certified"] or row["missing"] == row["stations"]:
         seen.stations.pop(code, None)
         return {}
@@ -406,44 +339,57 @@ def write_parts(folder, name, pages):
 @dataclass
 class Seen:
     """The state of an election as it was seen: its constituencies, and of each what was written last, and the moment that its page says; of one
-    without a certificate its stations, and when they were asked for; what the offices add up; the seconds that the last round left
-    for stations, fewer than none where it waited longer."""
+    without a certificate its stations, and when they were asked for; of each the electors of the stations that are counted; the
+    seconds that the last round left for stations, fewer than none where it waited longer."""
     cons: dict = field(default_factory=dict)
     written: dict = field(default_factory=dict)
     moments: dict = field(default_factory=dict)
     stations: dict = field(default_factory=dict)
-    country: list | None = None
+    electors: dict = field(default_factory=dict)
     left: float = 0.0
 
 
-def write_con(folder, site, row, con, entry, returns, seen):
+def electors_counted(folder, con, entry, returns):
+    """The electors of the stations that are counted, by the setup and the file of closed returns; None where they are not known, or
+    that file is of another moment."""
+    tally = con["tally"]
+    if not entry or tally["closed"] == tally["stations"] or not tally["closed"]:
+        return sum(station["electors"] for station in entry["stations"]) if entry and tally["closed"] else None
+    if OPEN not in returns:
+        return None
+    _, rows = returns_in(text_of(folder / returns[OPEN]))
+    closed = {row[0] for row in rows}
+    return sum(station["electors"] for station in entry["stations"] if station["code"] in closed) if len(closed) == tally["closed"] else None
+
+
+def write_con(folder, site, code, con, entry, returns, seen):
     """Writes the files of a constituency, where something of it has changed."""
-    code = row["con"]
-    if seen.written.get(code) == (row, returns) and con is seen.cons.get(code):
+    if seen.written.get(code) == returns and con is seen.cons.get(code):
         return
-    site.meet(listed["code"] for listed in con["tally"]["lists"])
+    row = con["progress"]
     now = datetime.now().astimezone()
-    body, *more = con_bodies(site, code, con, row, entry, returns)
+    electors = seen.electors[code] = electors_counted(folder, con, entry, returns)
+    body, *more = con_bodies(site, code, con, row, entry, returns, electors)
     moment = put_dated(folder, f"con-{code}.html", lambda moment: con_page(site, con, row, body, moment), now)
     write_parts(folder, f"details-{code}", [partial(details_page, site, code, con, row, of_page) for of_page in more])
     if OPEN not in returns:
         write_stations(folder, site, code, con, entry, returns.get(row["edition"]) if row["certified"] and entry else None)
         remove(folder, open_file(code))
     put(folder, f"con-{code}.csv", con_csv(con))
-    put_dated(folder, f"con-{code}.json", lambda moment: con_json(con, row, moment), now)
-    seen.cons[code], seen.written[code], seen.moments[code] = con, (row, returns), moment
+    put_dated(folder, f"con-{code}.json", lambda moment: con_json(con, moment), now)
+    seen.cons[code], seen.written[code], seen.moments[code] = con, returns, moment
 
 
-def write_index(folder, site, progress, text, failed, setup, seen, head):
-    cons = {row["con"]: seen.cons[row["con"]] for row in progress if row["con"] in seen.cons}
-    names = {code: entry["name"] for code, entry in setup.items()} | {code: con["tally"]["name"] for code, con in cons.items()}
-    moment, changed = datetime.now().astimezone(), max((seen.moments[code] for code in cons), default=None)
-    first, *more = index_pages(site, progress, cons, failed, setup, names, moment, changed, seen.country)
+def write_index(folder, site, cons, setup, electors, seen, head):
+    """Writes the files of all constituencies; `electors` are those of the stations that are counted, by constituency."""
+    moment, changed = datetime.now().astimezone(), max((seen.moments[code] for code in cons if code in seen.moments), default=None)
+    first, *more = index_pages(site, cons, setup, moment, changed, electors)
     put(folder, "index.html", first)
     write_parts(folder, "cons", more)
-    first, *more = count_pages(site, progress, text, cons, names, moment, changed, head)
+    first, *more = count_pages(site, cons, moment, changed, head)
     put(folder, "count.html", first)
     write_parts(folder, "count", more)
+    progress = [con["progress"] for con in cons.values()]
     put(folder, "index.csv", index_csv(progress))
     put_dated(folder, "index.json", lambda since: index_json(progress, since), moment)
     put(folder, "results.csv", results_csv(cons, setup))
@@ -460,33 +406,15 @@ def write_about(folder, site, cons, codes, setup, seen, head):
     put(folder, "manifest.json", manifest(published(folder, "manifest.json"), head, moment))
 
 
-def progress_of(offices):
-    """The progress of all offices: its texts, the office of each row, and what failed."""
-    texts, rows, failures = [], [], []
+def results_of(offices):
+    """The results of all offices, each of one moment: by constituency its office and what it is; and what failed."""
+    found, failures = {}, []
     for office in offices:
         try:
-            text = office.text("/progress")
-            rows += [(office, row) for row in read_progress(text)]
-            texts.append(text)
+            found |= {code: (office, con) for code, con in read_results(office.text("/results")).items()}
         except NoAnswer as error:
             failures.append(str(error))
-    return texts, rows, failures
-
-
-def country_of(offices):
-    """The sums of the offices, each at one moment; None where there is no such text, as at a proxy in front of several."""
-    said = []
-    for office in offices:
-        status, text = office.get("/country")
-        if status == 404:
-            return None
-        if status != 200:
-            raise NoAnswer(f"/country: status {status}")
-        try:
-            said.append(read_country(text))
-        except ValueError as error:
-            raise NoAnswer("/country: a text that is not of this report") from error
-    return said
+    return found, failures
 
 
 class Round:
@@ -494,16 +422,27 @@ class Round:
     many seconds."""
 
     def __init__(self, offices, folder, site, setup, seen, seconds):
-        self.offices, self.folder, self.site, self.setup, self.seen, self.seconds = offices, folder, site, setup, seen, seconds
-        self.texts, self.rows, self.failures = progress_of(offices)
-        self.whole = len(self.texts) == len(offices)
-        # By constituency what it is, its counts, and the files of returns that are there.
-        self.cons, self.counts, self.files, self.failed = {}, {}, {}, set()
+        self.folder, self.site, self.setup, self.seen, self.seconds = folder, site, setup, seen, seconds
+        found, self.failures = results_of(offices)
+        self.whole = not self.failures
+        # By constituency its office, what it is, and the files of returns that are there.
+        self.offices = {code: office for code, (office, _) in found.items()}
+        for _, con in found.values():
+            if not site.provisional:
+                con.pop("provisional", None)
+        self.cons = {code: self.as_before(code, con) for code, (_, con) in found.items()}
+        self.files, self.failed = {}, set()
+        for con in self.cons.values():
+            site.meet(row["code"] for row in con["tally"]["lists"])
+
+    def as_before(self, code, con):
+        """A constituency as it is: the object of before, where it is equal."""
+        before = self.seen.cons.get(code)
+        return before if before == con else con
 
     def leave_as_it_is(self):
         """A file of all offices has all of them, or stays as it is."""
-        here = {row["con"] for _, row in self.rows}
-        pages = [file for file in self.folder.glob("*.html") if con_of(file.name) not in here]
+        pages = [file for file in self.folder.glob("*.html") if con_of(file.name) not in self.cons]
         for page in pages:
             self.mark_old(page)
         self.failures[-1] += f"; left as they are: {len(pages)} pages"
@@ -516,12 +455,11 @@ class Round:
 
     def each(self, act, order=None):
         """Does this for each constituency that has not failed."""
-        for office, row in sorted(self.rows, key=order) if order else self.rows:
-            code = row["con"]
+        for code in sorted(self.cons, key=order) if order else self.cons:
             if code in self.failed:
                 continue
             try:
-                act(office, code, row)
+                act(code, self.cons[code])
             except NoAnswer as error:
                 for page in self.folder.glob("*.html"):
                     if con_of(page.name) == code:
@@ -529,46 +467,36 @@ class Round:
                 self.failed.add(code)
                 self.failures.append(str(error))
 
-    def look(self, office, code, row):
-        con = self.cons[code] = look(office, code, self.seen.cons.get(code))
-        # The counts of open returns are in the progress alone; what the view has too is the view's.
-        self.counts[code] = row | {key: con["view"][key] for key in ("stations", "closed", "edition", "certified")}
+    def waits(self, code):
+        """The order in which stations are asked for: first those of a certificate, and then those that waited longest."""
+        return not self.cons[code]["view"]["certified"], self.seen.stations.get(code, (None, 0))[1]
 
-    def add_up(self):
-        """Asks what the offices add up, where a constituency is another one than before."""
-        if not self.whole or all(con is self.seen.cons.get(code) for code, con in self.cons.items()):
-            return
-        try:
-            self.seen.country = country_of(self.offices)
-        except NoAnswer as error:
-            self.seen.country = None
-            self.failures.append(str(error))
-
-    def write_returns(self, office, code, _):
-        con, entry, before, may_ask = self.cons[code], self.setup.get(code), office.took, self.seconds > 0
+    def write_returns(self, code, con):
+        office, entry, may_ask = self.offices[code], self.setup.get(code), self.seconds > 0
+        before = office.took
         try:
             files = write_returns(office, self.folder, code, con, entry, may_ask)
-            files |= write_open(office, self.folder, self.site, con, self.counts[code], entry, self.seen, may_ask)
+            files |= write_open(office, self.folder, self.site, code, con, entry, self.seen, may_ask)
             if con["view"]["certified"]:
                 files["acts"] = acts_of(self.folder, code, con["view"]["edition"], files)
             self.seconds -= office.took - before
-        except (ValueError, csv.Error) as error:
+        except (ValueError, KeyError, TypeError, csv.Error) as error:
             raise NoAnswer(f"/con/{code}/returns: a text that is not of its report: {error!r}") from error
         self.files[code] = files
 
-    def write_con(self, _, code, __):
-        write_con(self.folder, self.site, self.counts[code], self.cons[code], self.setup.get(code), self.files[code], self.seen)
+    def write_con(self, code, con):
+        write_con(self.folder, self.site, code, con, self.setup.get(code), self.files[code], self.seen)
 
     def write_rest(self, head):
         """Writes the files that are of all constituencies."""
-        shown = head and self.rows and put_head(self.folder, head)
-        rows = [row for _, row in self.rows]
+        shown = head and self.cons and put_head(self.folder, head)
         if self.whole:
-            write_index(self.folder, self.site, rows, "".join(self.texts), self.failed, self.setup, self.seen, shown)
-        if rows:
-            codes = [row["con"] for row in rows]
-            cons = {code: self.seen.cons[code] for code in codes if code not in self.failed}
-            write_about(self.folder, self.site, cons, codes if self.whole else None, self.setup, self.seen, shown)
+            # (of one whose returns could not be read nobody knows whose electors are counted)
+            electors = {code: many for code, many in self.seen.electors.items() if code not in self.failed}
+            write_index(self.folder, self.site, self.cons, self.setup, electors, self.seen, shown)
+        if self.cons:
+            cons = {code: self.seen.cons[code] for code in self.cons if code not in self.failed}
+            write_about(self.folder, self.site, cons, list(self.cons) if self.whole else None, self.setup, self.seen, shown)
 
 
 def seconds_of_round(seen):
@@ -581,14 +509,11 @@ def write_all(offices, folder, site, setup, seen, head=None, seconds=math.inf):
     it = Round(offices, folder, site, setup, seen, seconds)
     if it.failures:
         it.leave_as_it_is()
-    it.each(it.look)
-    it.add_up()
-    # First what is certified, and then those that waited longest.
-    it.each(it.write_returns, lambda one: (not one[1]["certified"], seen.stations.get(one[1]["con"], (None, 0))[1]))
+    it.each(it.write_returns, it.waits)
     seen.left = it.seconds
     it.each(it.write_con)
     it.write_rest(head)
-    return len(it.rows) - len(it.failed) + it.whole, it.failures
+    return len(it.cons) - len(it.failed) + it.whole, it.failures
 
 
 def main():
@@ -609,6 +534,10 @@ def main():
     site.meet(row["code"] for entry in setup for row in entry["lists"])
     if setup:
         put(given.folder, "setup.json", json_text(setup))
+    if known := site.for_clerks():
+        put(given.folder, "site.json", json_text(known))
+    else:
+        remove(given.folder, "site.json")
     signal.signal(signal.SIGTERM, lambda *_: sys.exit(0))
     offices, entries, seen, asked = [Office(address) for address in given.office], {entry["code"]: entry for entry in setup}, Seen(), 0
     while True:

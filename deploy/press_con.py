@@ -6,10 +6,12 @@ from datetime import datetime
 from press_country import seats_before, shares_before
 from press_data import OPEN
 from press_figures import bars, half_circle
+from press_head import Standing, counted_line, has_won, leads
 from press_parts import (COUNTED, NOTHING, TABLE_ROOM, Head, Part, by_votes, changed, changing,
                          details_links, divided, hundredths, list_name, numbers, pieces,
-                         progress_bar, room_beside, row_of, sections, sections_on, size, table,
-                         tables, text_sections, together, votes_said)
+                         progress_bar, room_beside, rounded, row_of, sections, sections_on,
+                         shown_share, size, table, tables, together, votes_said)
+from press_results import provisional_seats
 
 # Columns of quotients side by side, as many as a sheet has room for.
 QUOTIENTS_WIDE = 8
@@ -36,7 +38,10 @@ def seats_sections(site, code, con, row, entry, room):
     macros = site.templates.of_con
     if not con["view"]["certified"]:
         why = "why_returns" if row["closed"] < row["stations"] else "why_board"
-        return [Part(macros.no_seats("none_withdrawn" if con["past"] else "none_open", why))]
+        none = "none_withdrawn" if con["past"] else "none_open"
+        if provisional_seats(con):
+            return provisional_sections(site, con, none, why, room)
+        return [Part(macros.no_seats(none, why))]
     given, total = con["seats"]["seats"], con["seats"]["total"]
     before, _ = former_con(site, code, con, entry)
     rows = [row_of(site, list_name(site, one["code"], one["name"]),
@@ -54,6 +59,31 @@ def seats_sections(site, code, con, row, entry, room):
     return [Part(seats, first.heads), *sections_on(site, more)]
 
 
+def provisional_sections(site, con, none, why, room):
+    """The seats if the votes that are closed were all the votes."""
+    given, said, tally = provisional_seats(con), con["provisional"], con["tally"]
+    names = {row["code"]: row["name"] for row in tally["lists"]}
+    total, question, word = con["rule"]["seats"], said["question"], site.templates.parts.provisional
+    ordered = sorted(given, key=lambda code: (-given[code], list(names).index(code)))
+    rows = [row_of(site, list_name(site, code, names[code]), word(site.number(given[code])))
+            for code in ordered]
+    if question:
+        rows.append(row_of(site, site.said("by_lot"), word(site.number(question))))
+    rows.append(row_of(site, site.said("total"), word(site.number(total))))
+    values = {"share": site.per_cent(hundredths(tally["closed"], tally["stations"])),
+              "closed": site.number(tally["closed"]), "stations": site.number(tally["stations"])}
+    heads = (site.said("list"), numbers(site.said("seats_provisional")))
+    first, *more = tables(site, site.said("table_provisional", **values), heads, rows, "totalled",
+                          room=room)
+    circle = half_circle(site, {}, total, question, provisional=given)
+    lot = question and site.said("provisional_lot", seats=site.number(question),
+                                 lists=", ".join(said["group"]))
+    seats = site.templates.of_con.provisional_seats(
+        none, why, site.said("provisional_said", seats=site.number(total), **values), lot, circle,
+        first)
+    return [Part(seats, first.heads), *sections_on(site, more)]
+
+
 def certified_said(site, con, entry):
     values = {"edition": con["seats"]["edition"], "seats": site.number(con["seats"]["total"])}
     if not entry:
@@ -64,7 +94,7 @@ def certified_said(site, con, entry):
 def votes_sections(site, code, con, entry, room):
     """The votes, with as many rows of their table as have room, and the others."""
     _, before = former_con(site, code, con, entry)
-    lists = [row | {"share": int(row["share"].replace(".", ""))} for row in by_votes(con)]
+    lists = [row | {"share": share_of(con, entry, row)} for row in by_votes(con)]
     rows = [row_of(site, list_name(site, row["code"], row["name"]), site.number(row["votes"]),
                    changed(site, row["code"], row["share"], before, site.per_cent, " %"),
                    site.said("yes" if row["eligible"] else "no")) for row in lists]
@@ -82,6 +112,34 @@ def votes_sections(site, code, con, entry, room):
     return [Part(votes, first.heads), *sections_on(site, more)]
 
 
+def share_of(con, entry, row):
+    """The share of a list in hundredths of a per cent; that of the office, which is rounded down,
+    where the rule is not known."""
+    if not entry:
+        return int(row["share"].replace(".", ""))
+    return shown_share(row["votes"], base_of(con, entry), entry["threshold"], row["eligible"])
+
+
+def base_of(con, entry):
+    """The votes of which shares are."""
+    if entry and entry["base"] == "lists":
+        return sum(row["votes"] for row in con["tally"]["lists"])
+    return con["tally"]["valid"]
+
+
+def con_head(site, con, entry, electors):
+    """The lines under the title: who has won or who leads, and how much is counted. The electors
+    are those of the stations that are counted, or None."""
+    tally, seats = con["tally"], con.get("seats")
+    standings = [Standing(row["name"], row["votes"], seats["seats"][row["code"]] if seats else 0)
+                 for row in tally["lists"]]
+    headline = (has_won(site, standings, seats["total"]) if seats
+                else leads(site, standings, base_of(con, entry)))
+    counted = counted_line(site, tally["closed"], tally["stations"],
+                           tally["valid"] + tally["spoiled"], electors)
+    return {"headline": headline, "counted_line": counted}
+
+
 def counted_section(site, code, con, row, entry, published):
     tally, turnout, link = con["tally"], None, None
     said = site.said("con_counted", closed=site.number(row["closed"]),
@@ -89,7 +147,7 @@ def counted_section(site, code, con, row, entry, published):
     if entry and tally["closed"] == tally["stations"]:
         papers = tally["valid"] + tally["spoiled"]
         electors = sum(station["electors"] for station in entry["stations"])
-        turnout = site.said("turnout", share=site.per_cent(hundredths(papers, electors)),
+        turnout = site.said("turnout", share=site.per_cent(rounded(papers, electors)),
                             papers=site.number(papers), electors=site.number(electors))
     if published:
         link = f"stations-{code}-1.html"
@@ -222,9 +280,11 @@ def files_section(site, code, edition, returns):
 # ---- pages
 
 
-def con_bodies(site, code, con, row, entry, returns):
-    """The parts of the page of a constituency, and, where that is too long for one, the pages on which
-    it goes on; `entry` is what the setup says of the constituency, or None."""
+def con_bodies(site, code, con, row, entry, returns, electors=None):
+    """The parts of the page of a constituency, and, where that is too long for one, the pages on
+    which it goes on; `entry` is what the setup says of the constituency, or None, and `electors`
+    are those of the stations that are counted, or None."""
+    head = con_head(site, con, entry, electors)
     order = {listed["code"]: place for place, listed in enumerate(by_votes(con))}
     names = {listed["code"]: listed["candidates"] for listed in entry["lists"]} if entry else {}
     published = (row["edition"] if row["certified"] else OPEN) in returns
@@ -233,8 +293,7 @@ def con_bodies(site, code, con, row, entry, returns):
                *quotients_sections(site, con, order), *quota_sections(site, con, order),
                *past_sections(site, con, order, returns)]
     files = files_section(site, code, row["edition"], returns)
-    texts = text_sections(site, con["texts"])
-    empty = {"links": NOTHING, "sections": []}
+    empty = {"links": NOTHING, "sections": [], **head}
     room = room_beside(details_page(site, code, con, row, empty, datetime.now().astimezone()))
 
     def links(groups, here):
@@ -244,19 +303,18 @@ def con_bodies(site, code, con, row, entry, returns):
     for of_seats, of_votes in TABLES_OF_CON:
         seats, *more_seats = seats_sections(site, code, con, row, entry, of_seats)
         votes, *more_votes = votes_sections(site, code, con, entry, of_votes)
-        more = [*more_seats, *more_votes, *details, *texts]
+        more = [*more_seats, *more_votes, *details]
         if sum(map(size, [seats, votes, counted, files, *more])) <= room:
             return [{"seats": NOTHING.join([seats, *more_seats]), "counted": counted,
                      "votes": NOTHING.join([votes, *more_votes]), "links": NOTHING,
-                     "details": NOTHING.join(details), "files": files,
-                     "texts": NOTHING.join(texts)}]
+                     "details": NOTHING.join(details), "files": files, **head}]
         groups = divided(more, room, links)
         to_others = links(groups, None)
         if sum(map(size, [seats, votes, counted, to_others, files])) <= room:
             break
     first = {"seats": seats, "votes": votes, "counted": counted, "links": to_others,
-             "details": NOTHING, "files": files, "texts": NOTHING}
-    return [first, *({"links": links(groups, here), "sections": group}
+             "details": NOTHING, "files": files, **head}
+    return [first, *({"links": links(groups, here), "sections": group, **head}
                      for here, group in enumerate(groups))]
 
 

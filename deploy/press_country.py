@@ -2,6 +2,8 @@
 
 from dataclasses import dataclass, field
 
+from press_results import provisional_seats
+
 # How many of the closest seats are shown.
 CLOSEST = 10
 
@@ -13,17 +15,19 @@ class Party:
     name: str
     votes: int = 0
     seats: int = 0
+    provisional: int = 0  # seats in constituencies without a certificate
 
 
 @dataclass
 class Country:
     parties: list = field(default_factory=list)  # in the order of seats, then of votes
-    chamber: int | None = None  # seats of all constituencies, where they are known
+    chamber: int = 0  # seats of all constituencies
     certified: int = 0  # seats
+    provisional: int = 0  # seats in constituencies without a certificate
+    question: int = 0  # seats there that a lot would decide
     cons: int = 0
     certified_cons: int = 0
     withdrawn: list = field(default_factory=list)  # codes of constituencies
-    unknown: list = field(default_factory=list)
     stations: int = 0
     closed: int = 0
     valid: int = 0
@@ -35,10 +39,10 @@ class Country:
     whole_cons: int = 0
     papers: int = 0
     electors: int | None = 0
+    # Electors of all stations that are counted; None where they are not known.
+    counted_electors: int | None = 0
     closest: list = field(default_factory=list)  # votes short, list, constituency
     without_short: int = 0  # certified constituencies whose rule has no votes short
-    # Whether the office adds up the same, at one moment; None where that is not known.
-    same: bool | None = None
 
     @property
     def majority(self):
@@ -54,45 +58,29 @@ class Country:
         return sum(party.votes for party in self.parties) if self.bases == {"lists"} else self.valid
 
 
-def together(progress, cons, failed, setup, said=None):
-    """The country, of what is known of its constituencies, some of which gave no answer this time; their setups may be missing.
-    `said` is what the offices themselves add up, or None."""
-    found, parties, sizes = Country(cons=len(progress)), {}, []
-    for row in progress:
-        con, entry = cons.get(row["con"]), setup.get(row["con"])
-        found.stations += row["stations"]
-        sizes.append(con["seats"]["total"] if con and "seats" in con else entry["seats"] if entry else None)
-        if con is None or row["con"] in failed:
-            found.unknown.append(row["con"])
-        if con is not None:
-            add_votes(found, parties, con, entry)
-            add_seats(found, parties, row["con"], con)
-    found.chamber = sum(one["chamber"] for one in said) if said else None if None in sizes else sum(sizes)
-    found.parties = sorted(parties.values(), key=lambda party: (-party.seats, -party.votes))
+def together(cons, setup, counted):
+    """The country, of its constituencies, whose setups may be missing. `counted` are the electors of the stations that are counted,
+    by constituency."""
+    found, parties = Country(cons=len(cons)), {}
+    for code, con in cons.items():
+        found.chamber += con["rule"]["seats"]
+        add_votes(found, parties, con, setup.get(code))
+        add_seats(found, parties, code, con)
+        add_electors(found, con, counted.get(code))
+    found.parties = sorted(parties.values(),
+                           key=lambda party: (-party.seats - party.provisional, -party.votes))
     found.closest = sorted(found.closest, key=lambda one: one[0])[:CLOSEST]
-    if said and not found.unknown:
-        found.same = sums_of(said) == (found.cons, found.certified_cons, found.stations, found.closed,
-                                       {party.code: (party.seats, party.votes) for party in found.parties})
     return found
-
-
-def sums_of(said):
-    """The sums of several offices, together."""
-    lists = {}
-    for one in said:
-        for row in one["lists"]:
-            seats, votes = lists.get(row["code"], (0, 0))
-            lists[row["code"]] = seats + row["seats"], votes + row["votes"]
-    return (*(sum(one[key] for one in said) for key in ("cons", "certified", "stations", "closed")), lists)
 
 
 def add_votes(found, parties, con, entry):
     tally = con["tally"]
+    found.stations += tally["stations"]
     found.closed += tally["closed"]
     found.valid += tally["valid"]
     found.blank += tally["blank"]
     found.spoiled += tally["spoiled"]
-    found.bases.add(entry["base"] if entry else None)
+    found.bases.add(con["rule"]["base"])
     for row in tally["lists"]:
         parties.setdefault(row["code"], Party(row["code"], row["name"])).votes += row["votes"]
     if tally["closed"] == tally["stations"]:
@@ -101,9 +89,17 @@ def add_votes(found, parties, con, entry):
         found.electors = None if found.electors is None or entry is None else found.electors + electors(entry)
 
 
+def add_electors(found, con, counted):
+    """Adds the electors of the stations that are counted; where those of one are not known, those
+    of all are not."""
+    if con["tally"]["closed"]:
+        found.counted_electors = None if None in (found.counted_electors, counted) else found.counted_electors + counted
+
+
 def add_seats(found, parties, code, con):
     if "seats" not in con:
         found.withdrawn += [code] if con["past"] else []
+        add_provisional(found, parties, con)
         return
     found.certified_cons += 1
     found.certified += con["seats"]["total"]
@@ -111,6 +107,14 @@ def add_seats(found, parties, code, con):
         parties[of_list].seats += many
     found.closest += [(row["short"], row["list"], code) for row in con.get("short", ()) if row["short"] is not None]
     found.without_short += "short" not in con
+
+
+def add_provisional(found, parties, con):
+    given = provisional_seats(con)
+    for of_list, many in given.items():
+        parties[of_list].provisional += many
+        found.provisional += many
+    found.question += con["provisional"]["question"] if given else 0
 
 
 def electors(entry):
@@ -140,11 +144,12 @@ def seats_before(former, codes):
 
 
 def shares_before(former, codes):
-    """The share of the valid votes that each list had there, in hundredths of a per cent; None where they are not known."""
+    """The share of the valid votes that each list had there, in hundredths of a per cent, rounded half up; None where they are not
+    known."""
     if not codes or any(code not in former or not former[code]["valid"] for code in codes):
         return None
     valid, votes = sum(former[code]["valid"] for code in codes), {}
     for code in codes:
         for of_list, many in former[code]["votes"].items():
             votes[of_list] = votes.get(of_list, 0) + many
-    return {of_list: many * 10_000 // valid for of_list, many in votes.items()}
+    return {of_list: (many * 20_000 + valid) // (2 * valid) for of_list, many in votes.items()}

@@ -9,10 +9,11 @@ import uuid
 import xml.etree.ElementTree as ET
 
 from press_names import isolated
+from press_results import provisional_seats
 
 # Of the form of the files. The first number is raised when something goes or means something else,
 # the second when something is added.
-VERSION = "1.2.0"
+VERSION = "2.0.0"
 
 # In the name of a file of returns, in the place of the edition of a certificate.
 OPEN = "open"
@@ -49,6 +50,8 @@ LIST = {
     "share": described(TEXT | {"pattern": r"^\d{1,3}\.\d\d$"}, "Per cent of the votes that the rule takes as its base, rounded down."),
     "takes_part": described(FLAG, "Whether the list has votes and reaches the threshold."),
     "seats": described(COUNT, "Seats that the certificate gives the list; missing without a certificate."),
+    "provisional": described(COUNT, "Seats of the list if the votes that are closed were all the votes: the result where there is a certificate, and "
+                             "nowhere else. Missing before the first closed return, and where they are not published."),
 }
 RESULTS = {
     "con": PROGRESS["con"], "con_name": described(TEXT, "Name of the constituency."),
@@ -116,17 +119,27 @@ REPORTS = {
     "quota": an_object({"votes": COUNT, "seats": COUNT, "lists": an_array(an_object(OF_LIST | {
         "votes": VOTES, "whole": COUNT, "remainder": COUNT, "seats": COUNT}))}),
 }
+RULE = {
+    "seats": described(COUNT, "Seats of the constituency."), "method": {"enum": ["dhondt", "sainte-lague", "modified-sainte-lague", "hare"]},
+    "threshold": described(COUNT, "In hundredths of a per cent."), "base": {"enum": ["valid", "lists"]},
+    "lot_rule": described({"enum": ["fixed", "alternating"]},
+                          "Alternating: the order of a lot is turned round for the second, fourth, .. seat of its lists, but not under hare."),
+}
+PROVISIONAL = described(an_object({
+    "status": described({"enum": ["certified", "open", "lot", "no_eligible"]}, "Open: the votes that are closed, or these and the lot, decide."),
+    "question": described(COUNT, "Seats that a lot would decide, which no list has here."),
+    "group": described(an_array(CODE), "The lists among which it would decide them."),
+    "seats": {"type": "object", "additionalProperties": COUNT},
+}), "Seats if the votes that are closed were all the votes: the result where there is a certificate, and nowhere else.")
 IF_CERTIFIED = ("seats", "holders", "quotients", "awards", "short", "quota")
 SCHEMAS = {
     "index": ("The progress of all constituencies: index.json", an_object(HEAD | {"constituencies": an_array(an_object(PROGRESS))})),
     "con": ("A constituency: con-CODE.json", an_object(
-        HEAD | {"progress": an_object(PROGRESS), "view": described(VIEW, "What GET /con/CODE shows."), "texts": described(
-            an_object(dict.fromkeys(REPORTS, TEXT), *IF_CERTIFIED), "The reports word for word."), **REPORTS}, *IF_CERTIFIED)),
+        HEAD | {"progress": an_object(PROGRESS), "view": described(VIEW, "What GET /con/CODE shows."), "rule": an_object(RULE),
+                "provisional": PROVISIONAL, **REPORTS}, "provisional", *IF_CERTIFIED)),
     "setup": ("The setup of the election: setup.json", an_array(an_object({
-        "code": PROGRESS["con"], "name": RESULTS["con_name"], "seats": COUNT, "method": {"enum": ["dhondt", "sainte-lague", "modified-sainte-lague", "hare"]},
-        "threshold": described(COUNT, "In hundredths of a per cent."), "base": {"enum": ["valid", "lists"]},
-        "lot": described({"enum": ["fixed", "alternating"]},
-                         "Alternating: the order of a lot is turned round for the second, fourth, .. seat of its lists, but not under hare."),
+        "code": PROGRESS["con"], "name": RESULTS["con_name"], **{key: kind for key, kind in RULE.items() if key != "lot_rule"},
+        "lot": RULE["lot_rule"],
         "lists": an_array(an_object({"code": CODE, "name": TEXT, "candidates": an_array(TEXT)})),
         "stations": an_array(an_object({"code": CODE, "electors": COUNT, "agents": described(
             COUNT, "Those who may vote there beyond its electors; missing where there are none.")}, "agents"))}))),
@@ -223,9 +236,9 @@ def in_a_cell(name):
 
 
 def list_rows(con):
-    seats = con["seats"]["seats"] if "seats" in con else {}
+    given = [con[of]["seats"] if of in con else {} for of in ("seats", "provisional")]
     return [[row["code"], in_a_cell(row["name"]), row["votes"], row["share"], "yes" if row["eligible"] else "no",
-             seats.get(row["code"], "")] for row in con["tally"]["lists"]]
+             *(seats.get(row["code"], "") for seats in given)] for row in con["tally"]["lists"]]
 
 
 def con_csv(con):
@@ -291,11 +304,11 @@ def dated(moment, **more):
     return json_text({"version": VERSION, "time": moment.isoformat(timespec="seconds"), **more})
 
 
-def con_json(con, row, moment):
+def con_json(con, moment):
     if "quotients" in con:
         con = con | {"quotients": [{"list": code, "quotients": [{"quotient": value, "won": won} for value, won in row]}
                                    for code, row in con["quotients"]]}
-    return dated(moment, progress=row, **con)
+    return dated(moment, **con)
 
 
 def index_json(progress, moment):
@@ -340,6 +353,14 @@ def events(con, candidates):
         yield "vacancy", f"{row['list']} {row['place']} {row['note']}", {"list": row["list"], "place": row["place"], "name": who}, row["note"]
 
 
+def provisional_event(site, con):
+    """The provisional seats of a constituency, where it has some. Its words are the seats, so that others are another event."""
+    if given := ", ".join(f"{code} {many}" for code, many in provisional_seats(con).items() if many):
+        tally = con["tally"]
+        share = site.per_cent(tally["closed"] * 10_000 // tally["stations"])
+        yield "provisional", given, {"share": share}, site.say("feed_provisional_seats", seats=given)
+
+
 def entry_of(site, code, con, event, moment):
     kind, words, of_title, text = event
     entry, name = ET.Element(f"{ATOM}entry"), con["tally"]["name"]
@@ -374,7 +395,7 @@ def feed(before, cons, codes, setup, site, moment):
     moment, known, shown = moment.isoformat(timespec="seconds"), said_before(before), {}
     for code, con in cons.items():
         candidates = {row["code"]: row["candidates"] for row in setup[code]["lists"]} if code in setup else {}
-        for event in events(con, candidates):
+        for event in (*events(con, candidates), *provisional_event(site, con)):
             entry = entry_of(site, code, con, event, moment)
             shown[entry.findtext(f"{ATOM}id")] = entry
     kept = {of: entry for of, entry in known.items() if of in shown or stays(entry, cons, codes)}

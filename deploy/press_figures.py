@@ -56,38 +56,53 @@ def places_of_dots(count):
     return sorted(found, key=lambda dot: (-dot[0], dot[1])), size
 
 
-def half_circle(site, seats, total, open_seats=0, majority=None):
+def half_circle(site, seats, total, open_seats=0, majority=None, provisional=None):
     """The seats as a half circle of dots, by list in the order of seats, then the open ones; each
-    list is named beside its own."""
-    groups = sorted(((code, many) for code, many in seats.items() if many),
-                    key=lambda group: -group[1])
-    named = [*groups, *([(None, open_seats)] if open_seats else [])]
+    list is named beside its own. Provisional seats are hollow dots after those of the list, which
+    is then named without a number: the word is not beside it."""
+    provisional = provisional or {}
+    sums = {code: (seats.get(code, 0), provisional.get(code, 0))
+            for code in dict.fromkeys([*seats, *provisional])}
+    groups = sorted(((code, *of) for code, of in sums.items() if any(of)),
+                    key=lambda group: -sum(group[1:]))
+    named = [*groups, *([(None, open_seats, 0)] if open_seats else [])]
     dots, size = places_of_dots(total)
     at = majority_angle(dots, majority) if majority else None
     drawn, labels, start, ring, before = [], [], 0, False, None
-    for code, many in named:
-        own, start = dots[start:start + many], start + many
+    for code, many, more in named:
+        own, start = dots[start:start + many + more], start + many + more
         ring = bool(code and before and not ring
                     and like(site.colours_of(before), site.colours_of(code)))
-        drawn.append(group_of_dots(code, own, size, ring))
+        drawn += [group_of_dots(code, own[:many], size, ring)] if many else []
+        drawn += [group_of_dots(code, own[many:], size, hollow=True)] if more else []
         before = code
         middle = (own[0][0] + own[-1][0]) / 2
-        labels.append((clear_of(at, middle), f"{code or site.say('open_seats')} {many}"))
+        label = code or site.say("open_seats")
+        labels.append((clear_of(at, middle), label if more else f"{label} {many}"))
     sides, lines, width, top, bottom = placed_labels(labels, 100 + size)
     return {
-        "said": ", ".join(f"{code or site.say('open_seats')} {many}" for code, many in named),
+        "said": ", ".join(dots_said(site, *group) for group in named),
+        "hollow": any(provisional.values()),
         "box": f"{-width:.0f} {top:.0f} {2 * width:.0f} {bottom - top:.0f}",
         "stroke": f"{2 * size:.1f}", "groups": drawn, "sides": sides, "lines": lines,
         "line": majority_line(at, 100 + size) if majority else None,
         "majority": majority, "total": total}
 
 
-def group_of_dots(code, dots, size, ring):
+def dots_said(site, code, many, more):
+    said = f"{code or site.say('open_seats')} {many}"
+    if not more:
+        return said
+    return site.say("circle_provisional", list=code, many=more) if not many else (
+        site.say("circle_both", said=said, many=more))
+
+
+def group_of_dots(code, dots, size, ring=False, hollow=False):
     """The dots of a list, as lines of no length with round ends, as wide as the picture says; of
     the open seats where there is no list."""
     path = "".join(f"M{radius * math.cos(angle):.1f} {-radius * math.sin(angle):.1f}h0"
                    for angle, radius in dots)
-    hole = size if ring else 0 if code else 2 * size - 1.6
+    hole = 1.45 * size if hollow else size if ring else 0 if code else 2 * size - 1.6
     return {"code": code, "path": path, "hole": f"{hole:.1f}" if hole else None}
 
 

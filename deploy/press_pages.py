@@ -14,11 +14,13 @@ from press_con import colours, con_bodies, con_page, details_page
 from press_country import first_list, seats_before, shares_before, together
 from press_data import returns_in
 from press_figures import MOST_DOTS, MOST_LABELS, bars, half_circle, map_shape
+from press_head import Standing, counted_line, has_won, leads
 from press_names import isolated
 from press_parts import (AGE, COUNTED, NOTHING, PAGE_ROOM, Head, Part, by_votes, changed,
                          changing, details_links, divided, framed, hundredths, list_name, numbers,
-                         progress_bar, room_beside, row_of, searched, sections, size, table,
-                         tables, text_sections, unaged, votes_said)
+                         progress_bar, room_beside, rounded, row_of, searched, sections, size,
+                         table, tables, unaged, votes_said)
+from press_results import provisional_seats
 
 __all__ = ["aged", "con_bodies", "con_page", "count_pages", "details_page", "index_pages",
            "stations_pages", "unaged"]
@@ -33,30 +35,42 @@ TABLES_OF_COUNTRY = (math.inf, 16_000, 12_000, 8_000, 4_000)
 
 
 def certified_said(site, country):
-    values = {"chamber": site.number(country.chamber or 0), "cons": site.number(country.cons),
+    values = {"chamber": site.number(country.chamber), "cons": site.number(country.cons),
               "seats": site.number(country.certified),
               "certified": site.number(country.certified_cons)}
-    if country.chamber is None:
-        return site.said("certified_some", **values)
     if country.whole:
         return site.said("certified_one" if country.cons == 1 else "certified_all", **values)
     return site.said("certified_part", **values,
                      open=site.number(country.chamber - country.certified))
 
 
+def provisional_said(site, country):
+    """How many seats are provisional, with how much is counted; None where none is."""
+    if not country.provisional + country.question:
+        return None
+    share = site.per_cent(hundredths(country.closed, country.stations))
+    said = site.said("provisional_country", share=share, seats=site.number(country.provisional),
+                     cons=site.number(country.cons - country.certified_cons))
+    if not country.question:
+        return said
+    return said + " " + site.said("provisional_country_lot", seats=site.number(country.question))
+
+
 def circle_of(site, country):
     """The half circle of all seats, where they can be made out."""
     seats = {party.code: party.seats for party in country.parties}
-    total = country.chamber if country.chamber is not None else country.certified
-    if not 0 < total <= MOST_DOTS or not 0 < sum(map(bool, seats.values())) <= MOST_LABELS:
+    more = {party.code: party.provisional for party in country.parties}
+    total, labels = country.chamber, sum(any(of) for of in zip(seats.values(), more.values()))
+    if not 0 < total <= MOST_DOTS or not 0 < labels <= MOST_LABELS:
         return None
-    return half_circle(site, seats, total, total - country.certified, country.majority)
+    return half_circle(site, seats, total, total - country.certified - country.provisional,
+                       country.majority, more)
 
 
 def chart_of(site, country):
     """The bars of the votes, where there are some."""
     rows = [{"code": party.code, "name": party.name, "eligible": True,
-             "share": hundredths(party.votes, country.base)}
+             "share": rounded(party.votes, country.base)}
             for party in sorted(country.parties, key=lambda party: -party.votes) if party.votes]
     return bars(site, rows) if rows else None
 
@@ -64,8 +78,7 @@ def chart_of(site, country):
 def former_of(site, country, cons):
     """The values with which seats and shares are compared, each where it can be."""
     certified = [code for code, con in cons.items() if "seats" in con]
-    whole = (country.closed == country.stations and not country.unknown
-             and country.bases == {"valid"})
+    whole = country.closed == country.stations and country.bases == {"valid"}
     return (seats_before(site.former, certified),
             shares_before(site.former, list(cons)) if whole else None)
 
@@ -73,7 +86,7 @@ def former_of(site, country, cons):
 def parties_table(site, country, former, room):
     """The table of lists, of which the last may be one row together; and the others' codes."""
     seats, shares = former
-    given = sum(1 for party in country.parties if party.seats)
+    given = sum(1 for party in country.parties if party.seats or party.provisional)
     rows = []
     for party in country.parties[:given + SHOWN_WITHOUT_SEAT]:
         cells = party_cells(site, country, party, seats, shares)
@@ -85,27 +98,41 @@ def parties_table(site, country, former, room):
     if left:
         rows.append(row_of(site, *others_cells(site, country, left)))
     rows.append(row_of(site, site.said("total"), site.number(country.certified),
+                       *provisional_cell(site, country, country.provisional),
                        site.number(sum(party.votes for party in country.parties)), ""))
-    heads = (site.said("list"), changing(site, "seats", seats),
+    more = [numbers(site.said("seats_provisional"))] if country.provisional else []
+    heads = (site.said("list"),
+             changing(site, "seats_certified" if country.provisional else "seats", seats), *more,
              numbers(site.said("votes").lower()), changing(site, "share", shares))
-    return table(site, site.said("table_country"), heads, rows, "totalled"), shown
+    wide = bool(country.provisional)
+    return table(site, site.said("table_country"), heads, rows, "totalled", wide), shown
+
+
+def provisional_cell(site, country, seats):
+    """The cell of seats that are not certified, where the country has some."""
+    if not country.provisional:
+        return []
+    return [site.templates.parts.provisional(site.number(seats)) if seats else "–"]
 
 
 def party_cells(site, country, party, seats, shares):
     given = "–"
     if country.certified:
         given = changed(site, party.code, party.seats, seats, site.number)
-    share = hundredths(party.votes, country.base)
-    return [list_name(site, party.code, party.name), given, site.number(party.votes),
+    share = rounded(party.votes, country.base)
+    return [list_name(site, party.code, party.name), given,
+            *provisional_cell(site, country, party.provisional), site.number(party.votes),
             changed(site, party.code, share, shares, site.per_cent, " %")]
 
 
 def others_cells(site, country, parties):
-    votes, seats = (sum(getattr(party, what) for party in parties) for what in ("votes", "seats"))
-    said = site.said("others" if seats else "others_without", number=site.number(len(parties)))
-    share = site.per_cent(hundredths(votes, country.base))
+    votes, seats, more = (sum(getattr(party, what) for party in parties)
+                          for what in ("votes", "seats", "provisional"))
+    words = "others" if seats or more else "others_without"
+    said = site.said(words, number=site.number(len(parties)))
+    share = site.per_cent(rounded(votes, country.base))
     given = site.number(seats) if country.certified else "–"
-    return [said, given, site.number(votes), f"{share} %"]
+    return [said, given, *provisional_cell(site, country, more), site.number(votes), f"{share} %"]
 
 
 def turnout_said(site, country):
@@ -113,9 +140,20 @@ def turnout_said(site, country):
     if not country.whole_cons or not country.electors:
         return None
     words = "turnout" if country.whole_cons == country.cons else "turnout_part"
-    share = site.per_cent(hundredths(country.papers, country.electors))
+    share = site.per_cent(rounded(country.papers, country.electors))
     return site.said(words, cons=site.number(country.whole_cons), share=share,
                      papers=site.number(country.papers), electors=site.number(country.electors))
+
+
+def country_head(site, country):
+    """The lines under the title of the pages of the country: who has won, once all is certified, or
+    who leads; and how much is counted."""
+    standings = [Standing(party.name, party.votes, party.seats) for party in country.parties]
+    headline = (has_won(site, standings, country.certified, country.majority) if country.whole
+                else leads(site, standings, country.base))
+    counted = counted_line(site, country.closed, country.stations,
+                           country.valid + country.spoiled, country.counted_electors)
+    return {"headline": headline, "counted_line": counted}
 
 
 def programs(site, setup):
@@ -126,41 +164,42 @@ def programs(site, setup):
     return [(file, site.said(words)) for file, words in files.items()]
 
 
-def country_values(site, country, cons, names):
+def country_values(site, country, cons):
     """The parts of the page of the country, but for its tables."""
+    names = names_of(cons)
     share = site.per_cent(hundredths(country.closed, country.stations))
     return {
         "title": title_of(site), "certified": certified_said(site, country),
-        "withdrawn": [(code, names.get(code, code)) for code in country.withdrawn],
-        "unknown": [(code, names.get(code, code)) for code in country.unknown],
+        "provisional": provisional_said(site, country),
+        "withdrawn": [(code, names[code]) for code in country.withdrawn],
         "circle": circle_of(site, country), "chart": chart_of(site, country),
         "base": site.say(f"base_{'lists' if country.bases == {'lists'} else 'valid'}"),
-        "same": country.same,
         "counted": site.said("counted", closed=site.number(country.closed), share=share,
                              stations=site.number(country.stations)),
         "done": f"{country.closed / max(country.stations, 1) * 100:.2f}",
         "turnout": turnout_said(site, country),
         "votes": votes_said(site, country.valid, country.blank, country.spoiled),
-        "closest": [{"votes": short, "code": code, "con": con, "name": names.get(con, con)}
+        "closest": [{"votes": short, "code": code, "con": con, "name": names[con]}
                     for short, code, con in country.closest],
         "without_short": country.without_short,
         "map": map_shape(site.map, cons) if site.map else None}
 
 
-def index_pages(site, progress, cons, failed, setup, names, moment, changed, said=None):
+def index_pages(site, cons, setup, moment, changed, electors):
     """The page of the country: what the constituencies are together, and each of them; and the
-    pages of the constituencies where there is no room for them. `said` is what the offices add
-    up."""
-    country = together(progress, cons, failed, setup, said)
-    values, former = country_values(site, country, cons, names), former_of(site, country, cons)
-    values |= {"programs": programs(site, setup), "moment": moment, "last_change": changed,
+    pages of the constituencies where there is no room for them. `electors` are those of the
+    stations that are counted, by constituency."""
+    country = together(cons, setup, electors)
+    values, former = country_values(site, country, cons), former_of(site, country, cons)
+    head = country_head(site, country)
+    values |= head | {"programs": programs(site, setup), "moment": moment, "last_change": changed,
                "compared_seats": former[0] is not None, "compared_shares": former[1] is not None}
-    rows = cons_rows(site, progress, cons, names)
+    rows = cons_rows(site, cons)
     firsts = {first_list(con) for con in cons.values()}
     for own, room in [(True, math.inf), *((False, room) for room in TABLES_OF_COUNTRY)]:
         links, pages = NOTHING, []
         if not own:
-            links, pages = cons_pages(site, rows, cons, names, moment, changed)
+            links, pages = cons_pages(site, rows, cons, moment, changed, head)
         parties, shown = parties_table(site, country, former, room)
         codes = shown_codes(values, shown, firsts if own or site.map else set())
         text = site.templates.page(
@@ -189,22 +228,23 @@ def in_order(text):
     return "".join(letter for letter in letters if not unicodedata.combining(letter))
 
 
-def in_order_of_names(progress, names):
-    return sorted(progress, key=lambda row: in_order(names.get(row["con"], row["con"])))
+def names_of(cons):
+    return {code: con["tally"]["name"] for code, con in cons.items()}
 
 
-def cons_rows(site, progress, cons, names):
+def cons_rows(site, cons):
     """The constituencies in the order of their names: code and row of each."""
-    macros, rows = site.templates.of_country, []
-    for row in in_order_of_names(progress, names):
-        code, con = row["con"], cons.get(row["con"])
-        first = first_list(con) if con else None
-        given = [(of, many) for of, many in seats_of(con) if many]
+    macros, rows, names = site.templates.of_country, [], names_of(cons)
+    for code in sorted(cons, key=lambda code: in_order(names[code])):
+        con = cons[code]
+        first = first_list(con)
+        seats, not_final = seats_of(con), provisional_seats(con)
+        given = [(of, many) for of, many in seats or not_final.items() if many]
         rows.append((code, row_of(
-            site, macros.con_cell(code, names.get(code, code), state_of(row, con)),
+            site, macros.con_cell(code, names[code], state_of(con)),
             list_name(site, first) if first else "–",
-            macros.seats_cell(given) if given else "–",
-            site.per_cent(hundredths(row["closed"], row["stations"])) + " %")))
+            macros.seats_cell(given, bool(not_final)) if given else "–",
+            site.per_cent(hundredths(con["tally"]["closed"], con["tally"]["stations"])) + " %")))
     return rows
 
 
@@ -216,28 +256,29 @@ def cons_table(site, rows):
 
 def seats_of(con):
     """The seats of a certificate, in their order."""
-    if not con or "seats" not in con:
+    if "seats" not in con:
         return []
     return sorted(con["seats"]["seats"].items(), key=lambda pair: -pair[1])
 
 
-def state_of(row, con):
-    if row["certified"]:
+def state_of(con):
+    if con["view"]["certified"]:
         return "state_certified"
-    return "state_withdrawn" if con and con["past"] else "state_open"
+    return "state_withdrawn" if con["past"] else "state_open"
 
 
-def cons_pages(site, rows, cons, names, moment, changed):
+def cons_pages(site, rows, cons, moment, changed, head):
     """Links to the pages of the constituencies, where they are on pages of their own; and these
     pages."""
     def written(rows, links):
-        firsts = [first_list(cons[code]) for code, _ in rows if code in cons]
+        firsts = [first_list(cons[code]) for code, _ in rows]
         return site.templates.page(
             "cons.html", title=site.said("cons"), links=links, table=cons_table(site, rows),
             colours=site.colours_in(dict.fromkeys(filter(None, firsts))), moment=moment,
-            last_change=changed)
+            last_change=changed, **head)
 
-    said = [names.get(code, code) for code, _ in rows]
+    names = names_of(cons)
+    said = [names[code] for code, _ in rows]
     labels = [isolated(name if len(name) <= LETTERS else f"{name[:LETTERS - 1]}…")
               for name in said]
     texts = [row for _, row in rows]
@@ -250,20 +291,20 @@ def cons_pages(site, rows, cons, names, moment, changed):
 # ---- the page of the count
 
 
-def count_sections(site, progress, cons, names):
+def count_sections(site, cons):
     rows = []
-    for row in progress:
-        code, state = row["con"], state_of(row, cons.get(row["con"]))
+    for code, con in cons.items():
+        row, state = con["progress"], state_of(con)
         said = site.said(state)
         if state == "state_certified":
             said = site.said("state_certified_in", edition=row["edition"])
-        rows.append(row_of(site, site.templates.parts.con_link(code, names.get(code, code)), said,
+        rows.append(row_of(site, site.templates.parts.con_link(code, con["tally"]["name"]), said,
                            *(site.number(row[key]) for key in COUNTED)))
-    certified = sum(row["certified"] for row in progress)
+    certified = sum(con["view"]["certified"] for con in cons.values())
     said = site.said("certified_cons", certified=site.number(certified),
-                     cons=site.number(len(progress)))
+                     cons=site.number(len(cons)))
     progress_said = site.templates.of_count.certified(
-        said, progress_bar(site, said, certified, len(progress)))
+        said, progress_bar(site, said, certified, len(cons)))
     heads = (Head(site.said("con")), Head(site.said("certificate")),
              *(numbers(site.said(key)) for key in COUNTED))
     return sections(site, site.said("cons"),
@@ -271,13 +312,16 @@ def count_sections(site, progress, cons, names):
                     progress_said)
 
 
-def count_pages(site, progress, text, cons, names, moment, changed, head=None):
+def count_pages(site, cons, moment, changed, head=None):
     """The page of the count: how many returns of each constituency are in which state; and those
     on which it goes on. `head` is that of the record of commands."""
+    counted = counted_line(site, *(sum(con["tally"][key] for con in cons.values())
+                                   for key in ("closed", "stations")))
+
     def written(sections, links):
         return site.templates.page("count.html", title=site.said("count_title"), colours=[],
                                    links=links, sections=sections, moment=moment,
-                                   last_change=changed)
+                                   last_change=changed, counted_line=counted)
 
     def links(groups, here):
         if len(groups) == 1:
@@ -285,12 +329,11 @@ def count_pages(site, progress, text, cons, names, moment, changed, head=None):
         files = ["count.html", *(f"count-{place}.html" for place in range(1, len(groups)))]
         return details_links(site, files, groups, here)
 
-    parts = count_sections(site, progress, cons, names)
+    parts = count_sections(site, cons)
     if head:
         of_count, whole = site.templates.of_count, head.get("whole", True)
         record = of_count.record(site.number(head["n"]), head["hash"], whole)
         parts.append(Part(record))
-    parts += text_sections(site, {"progress": text})
     groups = divided(parts, room_beside(written([], NOTHING)), links)
     return [written(group, links(groups, here)) for here, group in enumerate(groups)]
 
@@ -312,13 +355,16 @@ def stations_pages(site, code, con, entry, text, states=None):
     rows = [station_row(site, station, found.get(station["code"]), (*lists, 2, 3), states)
             for station in entry["stations"]]
     words = stations_said(site, con, len(returns), len(entry["stations"]), states)
+    papers = sum(int(value) for row in returns for value in row[2:])
+    electors = sum(one["electors"] for one in entry["stations"] if one["code"] in found)
+    counted = counted_line(site, len(returns), len(entry["stations"]), papers, electors)
 
     def written(rows, links, moment):
         caption = site.said("table_stations")
         returns = framed(site, caption, heads, rows, "searched stations", wide=True)
         return site.templates.page(
             "stations.html", code=code, name=con["tally"]["name"], said=words, links=links,
-            table=returns, moment=moment, colours=colours(site, con))
+            table=returns, moment=moment, colours=colours(site, con), counted_line=counted)
 
     codes = [station["code"] for station in entry["stations"]]
     empty = written([], NOTHING, datetime.now().astimezone())
@@ -355,5 +401,5 @@ def aged(site, text, moment):
     since = re.search(r'<time datetime="([^"]+)">', text)
     age = site.age_of(datetime.fromisoformat(since[1]), moment)
     begin, end = AGE
-    line = site.templates.parts.old(moment.strftime("%H:%M:%S"), age)
+    line = site.templates.parts.old(site.hour(moment), age)
     return unaged(text).replace(begin + end, f"{begin}{line}{end}", 1)

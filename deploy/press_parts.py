@@ -129,22 +129,21 @@ def hundredths(votes, base):
     return votes * 10_000 // base if base else 0
 
 
+def rounded(votes, base):
+    """A share in hundredths of a per cent, rounded half up."""
+    return (votes * 20_000 + base) // (2 * base) if base else 0
+
+
+def shown_share(votes, base, threshold, is_eligible):
+    """The share of a list, rounded half up; but rounded down where it would be shown as reaching
+    the threshold, and the list does not reach it."""
+    share = rounded(votes, base)
+    return share if is_eligible or share < threshold else hundredths(votes, base)
+
+
 def by_votes(con):
     """The lists of a constituency, those with most votes first."""
     return sorted(con["tally"]["lists"], key=lambda row: -row["votes"])
-
-
-def text_sections(site, texts):
-    """The office's own texts, one after the other; one that is longer than a page may be is in
-    pieces of whole lines."""
-    found = []
-    for name, text in texts.items():
-        lines = Markup.escape(text).splitlines(keepends=True)
-        for place, piece in enumerate(pieces(lines, TABLE_ROOM)):
-            part = f"{name}-{place}" if place else name
-            made = site.templates.parts.text(name, part, NOTHING.join(piece), not found)
-            found.append(Part(made, [name]))
-    return found
 
 
 # ---- the division into pages

@@ -8,8 +8,10 @@ import re
 import tomllib
 import xml.etree.ElementTree as ET
 from collections import defaultdict
-from datetime import date
+from contextlib import suppress
+from datetime import date, datetime
 from pathlib import Path
+from zoneinfo import ZoneInfo, ZoneInfoNotFoundError
 
 from press_templates import Markup, TemplateError, Templates
 
@@ -27,7 +29,11 @@ PALETTE = (("#0f4775", "#2f7dc0"), ("#cc5f20", "#ffc08a"), ("#14532d", "#2f8a55"
 LANGUAGES = {file.stem.removeprefix("press_"): file
              for file in Path(__file__).resolve().parent.glob("press_*.toml")}
 ABOUT = {"title": str, "date": date, "authority": str, "licence": str, "language": str,
-         "contact": str, "accessibility": str, "place": str, "board": list}
+         "contact": str, "accessibility": str, "place": str, "board": list, "timezone": str,
+         "provisional": bool}
+# What to write in the place of a value of another kind.
+WANTED = {str: 'a text in quotes, such as "Montehondo"', date: "a day such as 2026-11-29",
+          list: "tables [[board]], each with a name and a role", bool: "true or false"}
 # Bytes of a logo, which is in each page.
 LOGO_ROOM = 6_000
 SHAPES = {"svg", "g", "path", "polygon", "polyline", "rect", "circle", "ellipse", "line"}
@@ -103,17 +109,33 @@ def read_about(file):
         about = tomllib.loads(text_of(file))
     except tomllib.TOMLDecodeError as error:
         raise Wrong(f"{file}: {error}") from error
+    if "date" in about:
+        about["date"] = day_of(about["date"])
     for key, kind in ABOUT.items():
         if key in about and not isinstance(about[key], kind):
-            raise Wrong(f"{file}: {key} is not a {kind.__name__}")
+            raise Wrong(f"{file}: {key} is {about[key]!r}: write {WANTED[kind]}")
     if about.get("language", "en") not in LANGUAGES:
         raise Wrong(f"{file}: no texts of the language {about['language']!r}")
+    try:
+        ZoneInfo(about.get("timezone", "UTC"))
+    except (ZoneInfoNotFoundError, ValueError, OSError) as error:
+        raise Wrong(f"{file}: no time zone {about['timezone']!r}") from error
     if not re.fullmatch(r"https?://\S+|[\w.-]+|", about.get("accessibility", "")):
         raise Wrong(f"{file}: accessibility is not an address such as https://example.org/access")
     for member in about.get("board", ()):
         if not is_member(member):
             raise Wrong(f"{file}: board is not tables, each with a name and a role")
     return about
+
+
+def day_of(value):
+    """The day of a value of TOML, in quotes or without; any other value as it is."""
+    if isinstance(value, datetime):
+        return value.date()
+    if isinstance(value, str) and re.fullmatch(r"\d{4}-\d{2}-\d{2}", value.strip(), re.ASCII):
+        with suppress(ValueError):
+            return date.fromisoformat(value.strip())
+    return value
 
 
 def is_member(member):
@@ -189,10 +211,13 @@ class Site:
         folder = folder or Path("/nonexistent")
         self.about = read_about(folder / "site.toml")
         self.language = self.about.get("language", "en")
+        # Whether seats may be shown before they are certified.
+        self.provisional = self.about.get("provisional", True)
         self.words = tomllib.loads(LANGUAGES[self.language].read_text(encoding="utf-8"))
         self.colours = read_colours(folder / "colours.csv")
-        self.names = {row["station"]: row["name"]
-                      for row in rows_of(folder / "stations.csv", "station", "name")}
+        stations = rows_of(folder / "stations.csv", "station", "name")
+        self.names = {row["station"]: row["name"] for row in stations}
+        self.places = {row["station"]: row["place"] for row in stations if row.get("place")}
         self.former = read_former(folder / "before.csv")
         self.map = read_map(folder / "map.svg")
         self.logo = read_logo(folder / "logo.svg")
@@ -205,6 +230,14 @@ class Site:
             self.templates.check()
         except TemplateError as error:
             raise Wrong(f"{folder / 'templates'}: {fault_of(error)}") from error
+
+    def for_clerks(self):
+        """Names of stations and a former result, as the clerks' page has them; None where the
+        folder has neither."""
+        stations = {code: {"name": name, "place": self.places.get(code, "")}
+                    for code, name in self.names.items()}
+        former = {con: found["votes"] for con, found in self.former.items()}
+        return {"stations": stations, "former": former} if stations or former else None
 
     def meet(self, codes):
         """Gives each list that was not met before a place among the colours."""
@@ -246,7 +279,18 @@ class Site:
         return self.say("day", day=day.day, month=month, year=day.year)
 
     def moment(self, moment):
-        return f"{self.day(moment)}, {moment.strftime('%H:%M:%S %z')}"
+        """A moment in the zone of the site, to the minute; in that of the server where the site has
+        none."""
+        if "timezone" not in self.about:
+            return f"{self.day(moment)}, {moment.strftime('%H:%M:%S %z')}"
+        here = moment.astimezone(ZoneInfo(self.about["timezone"]))
+        return f"{self.day(here)}, {here.strftime('%H:%M %Z')}"
+
+    def hour(self, moment):
+        """The hour of a moment, as `moment` has it."""
+        if "timezone" not in self.about:
+            return moment.strftime("%H:%M:%S")
+        return moment.astimezone(ZoneInfo(self.about["timezone"])).strftime("%H:%M %Z")
 
     def age_of(self, since, now):
         return self.age(max((now - since).total_seconds(), 0))

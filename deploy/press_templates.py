@@ -56,7 +56,8 @@ class Templates:
 
     def page(self, name, /, **values):
         """The text of a page."""
-        return self.environment.get_template(name).render(search=False, **values)
+        empty = {"search": False, "counted_line": None, "headline": None}
+        return self.environment.get_template(name).render(empty | values)
 
     def macros(self, name):
         """The macros of a file, as functions."""

@@ -47,6 +47,8 @@ THREADS, PORT_THREADS = 64, 4
 # How many reports of a desk are asked for at once. After a table of all stations the next waits
 # three times as long as it took, and a second at most; this many wait, and others are answered 429.
 AT_ONCE, REST, LONGEST_REST, WAITING = 2, 3, 1.0, 16
+# Columns of the table of stations: its code, electors, a blank, the status and the revision.
+TO_REVISION = 16 + 8 + 1 + 9 + 5
 # How long a desk that takes no connection is waited for.
 CONNECTING = 5
 # How many tables of all stations a name may ask for at once, and one more each this many seconds.
@@ -70,10 +72,10 @@ class Often:
 
 
 def without_slips(table):
-    """A table of stations of which each line ends with the revision. The first two are its head."""
+    """A table of stations of which each line ends with the revision. The first two are its head.
+    Whatever comes after the revision is left out."""
     lines = table.split(b"\n")
-    short = [re.sub(rb"^(\S+ +\d+ [a-z]+ +\d+) .*", rb"\1", line, flags=re.S) for line in lines[2:]]
-    return b"\n".join(lines[:2] + short)
+    return b"\n".join(lines[:2] + [line[:TO_REVISION] for line in lines[2:]])
 
 
 class Reader:

@@ -24,8 +24,9 @@ With --two-of-board a lot, a certificate and a reopening need two names of the b
 202, `waits_for_second_name`, and the same request from another name within an hour is sent to the office. It is another request
 where its body differs, as where it names another edition.
 
-Files are imported and tried one at a time; while others give commands, the desk is left to them three times as long as a file
-took. Of a name four may wait or be under way, and others are answered 429.
+Files are imported and tried one at a time, each after the commands that wait. While others give commands, the desk is left to
+them three times as long as a file took: ten seconds at most before the next file, forty before the next one of the same name.
+Of a name four may wait or be under way, and others are answered 429.
 
 While a desk starts again a command waits for it. A desk that ended without an answer is sent the command again: no command
 acts a second time.
@@ -75,8 +76,9 @@ STATION_COMMANDS, STATION_SECONDS = 20, 15
 # had this many more.
 STAFF_BYTES, STAFF_RATE, COMMAND_BYTES = 32 << 20, 20_000, 1000
 # This many files of a name, and of all, may wait for their turn or be under way. After one the next
-# waits three times as long as it took, and this many seconds at most, where others give commands.
-FILES_OF_NAME, FILES, REST, LONGEST_REST = 4, 16, 3, 10.0
+# waits three times as long as it took where others give commands: this many seconds at most, and
+# one of the same name this many. How often those that wait look whether it is their turn.
+FILES_OF_NAME, FILES, REST, LONGEST_REST, LONGEST_OF_NAME, STEP = 4, 16, 3, 10.0, 40.0, 0.02
 # A history has the last lines, this many of what was done and as many of what was not, and of one
 # that is longer not what was sent.
 LINES, LONGEST = 200, 65_536
@@ -375,36 +377,82 @@ class Limit:
             return False
 
 
+class Rest(NamedTuple):
+    """The time that is left to others after a file, where another command came after the file began."""
+
+    began: float
+    until: float
+
+
+class File:
+    """A file that waits; what came before it, once it is its turn, are commands up to this number."""
+
+    def __init__(self, name):
+        self.name, self.before = name, None
+
+
 class Files:
-    """The files of a desk, imported or tried one at a time, so that other commands wait for one at most."""
+    """The files of a desk, imported or tried one at a time, while others have their share of its time."""
 
     def __init__(self):
-        self.turn, self.lock, self.names = threading.Lock(), threading.Lock(), collections.Counter()
-        # When the last file began, from when on the next one may, and when another command came.
-        self.began, self.moment, self.other = 0.0, 0.0, -1.0
+        self.lock, self.names, self.waiting, self.is_busy = threading.Lock(), collections.Counter(), [], False
+        # What is left to others after the last file, and after the last one of each name.
+        self.rest, self.rest_of = Rest(0.0, 0.0), {}
+        # When another command came, the number of the last one, and of those that are under way.
+        self.other, self.number, self.under_way = -1.0, 0, set()
 
-    def see_another(self):
-        self.other = time.monotonic()
+    @contextlib.contextmanager
+    def another(self):
+        """A command that is no file: it goes before each file that waits."""
+        with self.lock:
+            self.number += 1
+            number, self.other = self.number, time.monotonic()
+            self.under_way.add(number)
+        try:
+            yield
+        finally:
+            with self.lock:
+                self.under_way.remove(number)
+
+    def left(self, name):
+        """How long a file of this name has to wait for others yet."""
+        rests = self.rest, self.rest_of.get(name, self.rest)
+        return max([rest.until - time.monotonic() for rest in rests if self.other >= rest.began] + [0.0])
+
+    def wait(self, file):
+        """Where it is the turn of a file, it begins: None. Else how long it waits before it looks again."""
+        with self.lock:
+            first = next((other for other in self.waiting if not self.left(other.name)), None)
+            if self.is_busy or first is not file:
+                return min(STEP, self.left(file.name) or STEP)
+            if file.before is None:
+                file.before = self.number
+            if min(self.under_way, default=self.number + 1) <= file.before:
+                return STEP
+            self.waiting.remove(file)
+            self.is_busy = True
+            return None
 
     def passed(self, name, act):
         """The answer to an act, once it has its turn; 429 where too many wait."""
+        file = File(name)
         with self.lock:
             if self.names[name] == FILES_OF_NAME or self.names.total() == FILES:
                 return TOO_MANY
             self.names[name] += 1
+            self.waiting.append(file)
+        while (seconds := self.wait(file)) is not None:
+            time.sleep(seconds)
+        began = time.monotonic()
         try:
-            with self.turn:
-                left = self.moment - time.monotonic()
-                if left > 0 and self.other >= self.began:
-                    time.sleep(left)
-                self.began = time.monotonic()
-                found = act()
-                took = time.monotonic() - self.began
-                self.moment = time.monotonic() + min(REST * took, LONGEST_REST)
-                return found
+            return act()
         finally:
+            end = time.monotonic()
             with self.lock:
+                self.is_busy = False
                 self.names[name] -= 1
+                self.rest = Rest(began, end + min(REST * (end - began), LONGEST_REST))
+                self.rest_of[name] = Rest(began, end + min(REST * (end - began), LONGEST_OF_NAME))
 
 
 class Desk:
@@ -533,8 +581,8 @@ class Recorder:
         act = path.split("/")[3]
         if fields["office-allowed"] == "1" and act in ("import", "trial"):
             return self.desk.files.passed(name, lambda: self.commanded(method, path, fields, body))
-        self.desk.files.see_another()
-        return self.commanded(method, path, fields, body)
+        with self.desk.files.another():
+            return self.commanded(method, path, fields, body)
 
     def commanded(self, method, path, fields, body):
         """The answer to a command: it is recorded, and the desk has it; a trial is not recorded."""

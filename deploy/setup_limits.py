@@ -33,6 +33,11 @@ def is_name(value):
     return 1 <= len(value.encode()) <= MOST_NAME_BYTES
 
 
+def counted(number, one, more=None):
+    """A number with its word: 1 station, 1200 stations."""
+    return f"{number} {one if number == 1 else more or one + 's'}"
+
+
 def papers(station):
     """The most papers that a station may have: its electors, and the agents who vote there."""
     return station["electors"] + station.get("agents", 0)

@@ -5,7 +5,7 @@ from collections import Counter, defaultdict
 from dataclasses import dataclass, field
 
 import setup_limits as limits
-from setup_tables import folded, other_columns
+from setup_tables import folded, other_columns, party_key, plain
 
 RULES = {"loreg": {"code": "loreg", "method": "dhondt", "threshold": 300, "base": "valid"}}
 # A constituency of one seat has the candidate with most votes (LOREG 163.2).
@@ -148,6 +148,9 @@ class Maker:
                 value=text,
                 other=near,
                 file=self.tables["constituencies"].file,
+                table=table.name,
+                column=self.column(table, "constituency"),
+                digits=len(near or ""),
             )
         return found
 
@@ -162,10 +165,9 @@ class Maker:
         self.profiles = list(self.columns.get("profile", []))
         if self.rule:
             self.profiles = [RULES[self.rule], RULES_OF_ONE_SEAT[self.rule], *self.profiles]
-        try:
-            limits.profiles_of({"profile": self.profiles or [RULES["loreg"]]})
-        except limits.Fault as fault:
-            self.faults.add("columns.toml", None, "bad_profile", fault=fault)
+        before = len(self.faults.found)
+        self.check_profiles()
+        if len(self.faults.found) > before:
             self.profiles = []
             return
         if not self.profiles:
@@ -173,6 +175,33 @@ class Maker:
         for profile in self.profiles:
             for key in profile.keys() - {"code", "method", "threshold", "base", "lot"}:
                 self.faults.add("columns.toml", None, "unknown_key", key=f"profile.{key}")
+
+    def check_profiles(self):
+        """The limits of rules, each fault in the language of the rest."""
+        if len(self.profiles) > limits.MOST_PROFILES:
+            self.faults.add("columns.toml", None, "too_many_profiles", most=limits.MOST_PROFILES)
+        seen, words = set(), {"method": limits.METHODS, "base": limits.BASES, "lot": limits.LOTS}
+        for number, profile in enumerate(self.profiles, 1 - 2 * bool(self.rule)):
+            if not isinstance(profile, dict):
+                self.faults.add("columns.toml", None, "bad_key", key="profile")
+                continue
+            for key in ("code", "method", "threshold", "base", "lot"):
+                value = profile.get(key, limits.LOTS[0] if key == "lot" else None)
+                said = {"number": number, "key": key, "value": value}
+                if value is None:
+                    self.faults.add("columns.toml", None, "profile_missing", **said)
+                elif key == "code" and not limits.is_code(value):
+                    self.faults.add("columns.toml", None, "not_code", value=value)
+                elif key == "code" and value in seen:
+                    self.faults.add("columns.toml", None, "profile_twice", **said)
+                elif key == "threshold" and not is_whole(value, limits.MOST_THRESHOLD):
+                    wanted = f"0 .. {limits.MOST_THRESHOLD}"
+                    self.faults.add("columns.toml", None, "profile_value", **said, wanted=wanted)
+                elif key in words and value not in words[key]:
+                    wanted = ", ".join(words[key])
+                    self.faults.add("columns.toml", None, "profile_value", **said, wanted=wanted)
+            if isinstance(profile.get("code"), str):
+                seen.add(profile["code"])
 
     def take_constituencies(self):
         table, seen = self.tables["constituencies"], {}
@@ -218,7 +247,7 @@ class Maker:
 
     def made_code(self, text, seen):
         """A code of the letters and digits of a text, which no other row has."""
-        base = (identity(text).upper() or "X")[:16].strip("-")
+        base = (code_letters(text).upper() or "X")[:16].strip("-")
         code, number = base, 1
         while code.lower() in seen:
             number += 1
@@ -247,7 +276,7 @@ class Maker:
             text = table.value(row, "party") or table.value(row, "name")
             made = {"code": table.code(row, "code"), "name": self.text(row, "name")}
             kept = {key: row.cells[place] for place, key in others if row.cells[place]}
-            one = PartyList(row, made, kept, party=identity(text) or folded(text), text=text)
+            one = PartyList(row, made, kept, party=party_key(text), text=text)
             order = self.number(row, "order", 0, 10**6) if table.has("order") else number
             one.order = 10**6 + number if order is None else order
             if con:
@@ -266,21 +295,24 @@ class Maker:
     def give_codes(self):
         """Gives each party one code everywhere: its own, one of `columns.toml`, or a new one."""
         lists = [one for con in self.cons for one in con.lists]
-        given, owner = {}, {}
-        own = {
-            identity(text) or folded(text): code
-            for text, code in self.columns.get("codes", {}).items()
-        }
-        for party, code in own.items():
-            if not limits.is_code(code):
-                self.faults.add("columns.toml", None, "not_code", value=code)
-            given[party] = (code, None)
+        given, owner = self.own_codes({one.party for one in lists}), {}
         for one in lists:
             self.take_code(one, given, owner)
-        taken = {code.lower(): (code, None) for code, _ in given.values()}
-        for party in sorted({one.party for one in lists if one.party not in given}):
-            code = self.made_code(party, taken)
-            taken[code.lower()] = given[party] = (code, None)
+        first = {}
+        for one in lists:
+            first.setdefault(one.party, one.text)
+        taken = {code.lower(): party for party, (code, _) in given.items()}
+        for party in sorted(first.keys() - given.keys()):
+            wanted, code = self.made_code(party, {}), self.made_code(party, taken)
+            if other := taken.get(wanted.lower()):
+                self.note_once(
+                    "other_code",
+                    value=first[party],
+                    wanted=wanted,
+                    other=first.get(other, other),
+                    code=code,
+                )
+            taken[code.lower()], given[party] = party, (code, None)
             self.codes_made[party] = code
         texts = {}
         for one in lists:
@@ -292,6 +324,18 @@ class Maker:
                 )
         for con in self.cons:
             self.check_codes(con)
+
+    def own_codes(self, parties):
+        """The codes of columns.toml, by the keys of parties: of the party that it writes, or else
+        of each party that has these letters and digits."""
+        found = {}
+        for text, code in self.columns.get("codes", {}).items():
+            if not limits.is_code(code):
+                self.faults.add("columns.toml", None, "not_code", value=code)
+            letters, keys = identity(text), {party_key(text)} & parties
+            for party in keys or {one for one in parties if letters and identity(one) == letters}:
+                found[party] = (code, None)
+        return found
 
     def take_code(self, one, given, owner):
         """Checks the code of a list in its table: its party has it everywhere, and no other."""
@@ -363,7 +407,8 @@ class Maker:
         for key in (
             lambda one: one.made["code"] == text,
             lambda one: one.text == text,
-            lambda one: one.party == (identity(text) or folded(text)),
+            lambda one: one.party == party_key(text),
+            lambda one: identity(text) and identity(one.text) == identity(text),
             lambda one: folded(one.made["name"]) == folded(text),
         ):
             found = [one for one in con.lists if key(one)]
@@ -415,42 +460,60 @@ class Maker:
             last = len(own)
 
     def check_persons(self):
-        """No name twice in a constituency, and no person twice at all."""
+        """No name twice in a constituency, and no identity twice at all. Rows that may be of one
+        person, under two names or in two constituencies, are noted."""
         known = {folded(name) for name in self.rules.get("namesakes", ())}
         persons, elsewhere = {}, {}
         for con in self.cons:
             here = {}
             for one in con.lists:
                 for candidate in one.candidates:
-                    self.check_person(con, one, candidate, known, persons, here, elsewhere)
+                    is_new = self.is_new_person(candidate, persons)
+                    if is_new and folded(candidate.name) not in known:
+                        self.check_name(candidate, here, elsewhere)
 
-    def check_person(self, con, one, candidate, known, persons, here, elsewhere):
+    def identity_of(self, candidate):
         row = candidate.row
-        person, name = identity(row.table.value(row, "person")).replace("-", ""), folded(
-            candidate.name
-        )
-        if person:
-            other = persons.setdefault(person, candidate)
-            if other is not candidate:
-                row.fault("person_twice", value=candidate.name, row=other.row.number)
-            return
-        if name in known:
-            return
-        other = here.setdefault(name, candidate)
+        return identity(row.table.value(row, "person")).replace("-", "")
+
+    def is_new_person(self, candidate, persons):
+        """Whether no other row has the identity of a candidate."""
+        row, person = candidate.row, self.identity_of(candidate)
+        other = persons.setdefault(person, candidate) if person else candidate
         if other is not candidate:
-            row.fault("person_twice", value=candidate.name, row=other.row.number)
+            row.fault(
+                "identity_twice",
+                field=self.column(row.table, "person"),
+                value=candidate.name,
+                other=other.name,
+                row=other.row.number,
+            )
+        return other is candidate
+
+    def check_name(self, candidate, here, elsewhere):
+        """Compares a name with those before it, unless both have identities, which differ."""
+        row, name, words = candidate.row, folded(candidate.name), words_of(candidate.name)
+        other = here.setdefault(name, candidate)
+        if other is not candidate and not self.have_identities(other, candidate):
+            key = "person_twice" if other.name == candidate.name else "person_twice_alike"
+            row.fault(key, value=candidate.name, other=other.name, row=other.row.number)
             return
-        other, at = elsewhere.setdefault(name, (candidate, con))
-        if at is not con:
+        other = elsewhere.setdefault(words, candidate)
+        if other is not candidate and not self.have_identities(other, candidate):
+            key = "namesake" if folded(other.name) == name else "namesake_alike"
             self.notes.append(
                 self.say(
-                    "namesake",
+                    key,
                     value=candidate.name,
+                    written=other.name,
                     row=row.number,
                     other=other.row.number,
                     file=row.table.file,
                 )
             )
+
+    def have_identities(self, *candidates):
+        return all(map(self.identity_of, candidates))
 
     # ---- stations
 
@@ -563,5 +626,19 @@ class Maker:
 
 
 def identity(text):
-    """The letters and digits of a party's name, which tell it from others; perhaps none."""
-    return re.sub("[^a-z0-9]+", "-", folded(text)).strip("-")
+    """The letters and digits of a text, of any alphabet, with dashes between them; perhaps none."""
+    return re.sub(r"[\W_]+", "-", plain(text)).strip("-")
+
+
+def code_letters(text):
+    """Those of them that a code may have, in small letters; perhaps none."""
+    return re.sub("[^a-z0-9]+", "-", plain(text)).strip("-")
+
+
+def words_of(name):
+    """The words of a name without accents, capitals and signs, in an order of their own."""
+    return " ".join(sorted(identity(name).split("-"))) or folded(name)
+
+
+def is_whole(value, most):
+    return type(value) is int and 0 <= value <= most

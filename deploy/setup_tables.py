@@ -39,6 +39,15 @@ OF_A_TABLE = {
     "candidates": ("file", "keep"),
     "stations": ("file", "drop"),
 }
+# Letters that are not a letter with a mark, and what codes and keys have in their place.
+LETTERS = str.maketrans(
+    {"œ": "oe", "æ": "ae", "ø": "o", "ł": "l", "đ": "d", "ð": "d", "þ": "th", "ß": "ss"}
+    | {"ı": "i", "ħ": "h", "ŧ": "t", "ŋ": "ng", "ĸ": "k", "ə": "e", "ſ": "s"}
+)
+# Signs that are written in several ways.
+SIGNS = str.maketrans(
+    dict.fromkeys("‐‑‒–—―−", "-") | dict.fromkeys("‘’´`ʼ", "'") | dict.fromkeys("“”«»", '"')
+)
 # UTF-8 that was read as Windows-1252: a capital letter of it, and one of the signs after 7F.
 GARBLED = re.compile("[ÃÂ][\x80-\xbfŒœŠšŸŽžƒˆ˜–—‘’‚“”„†‡•…‰‹›€™]")
 
@@ -54,10 +63,20 @@ class Texts:
         return self.found[key].format(**{name: shown(value) for name, value in given.items()})
 
 
+class Number(int):
+    """A number of a sentence. `{number:seat|seats}` is the word that goes with it."""
+
+    def __format__(self, words):
+        if "|" not in words:
+            return str(int(self))
+        one, more = words.split("|")
+        return one if self == 1 else more
+
+
 def shown(value):
     """A value as a terminal may show it: without control characters, and not too long."""
     if isinstance(value, int):
-        return str(value)
+        return Number(value)
     text = "".join(c if c.isprintable() else f"\\u{ord(c):04x}" for c in str(value))
     return text if len(text) <= 120 else text[:117] + "..."
 
@@ -67,6 +86,7 @@ class Faults:
 
     def __init__(self, texts):
         self.texts, self.found = texts, []
+        self.is_file_missing = False
 
     def add(self, file, row, key, /, **given):
         said = self.texts.say(key, **given)
@@ -131,6 +151,17 @@ def folded(text):
     return " ".join("".join(c for c in letters if not unicodedata.combining(c)).casefold().split())
 
 
+def plain(text):
+    """A text in small letters without accents, of the letters from a to z as far as it can be."""
+    return folded(text).translate(LETTERS)
+
+
+def party_key(text):
+    """All letters and signs of a party but for accents, capitals and the spaces around signs.
+    Parties whose keys differ are never taken for one."""
+    return re.sub(r" ?([^\w\s]) ?", r"\1", folded(text.translate(SIGNS)))
+
+
 def cleaned(cell):
     """A cell with one space for each row of spaces, line breaks among them."""
     if cell.isascii() and cell.isalnum():
@@ -150,15 +181,17 @@ def strange(cell):
     return ("garbled", cell) if GARBLED.search(cell) else None
 
 
-def decoded(table, data, asked):
-    """The text of a file, by the encoding that was asked for or else by a guess."""
+def decoded(table, data, asked, otherwise):
+    """The text of a file, by the encoding that was asked for, or else by a guess: UTF-8, and where
+    it is not, `otherwise`."""
     mark, encoding = next(((m, e) for m, e in MARKS if data.startswith(m)), (b"", asked or "utf-8"))
     try:
         text, name = data[len(mark) :].decode(encoding), encoding.upper()
         if not (mark or asked) and data.isascii():
             name = "ASCII"
     except UnicodeDecodeError as error:
-        text, name = second_guess(table, data, mark or asked, encoding, error), "Windows-1252"
+        text = second_guess(table, data, mark or asked, encoding, otherwise, error)
+        name = called(otherwise)
     if "\0" in text:
         row = 1 + text[: text.index("\0")].count("\n")
         table.faults.add(table.file, row, "nul")
@@ -167,18 +200,19 @@ def decoded(table, data, asked):
     return text
 
 
-def second_guess(table, data, is_known, encoding, error):
+def called(encoding):
+    return "Windows-1252" if encoding == "cp1252" else encoding.upper()
+
+
+def second_guess(table, data, is_known, encoding, otherwise, error):
     try:
         if not is_known:
-            encoding = "cp1252"
+            encoding = otherwise
             return data.decode(encoding)
     except UnicodeDecodeError as second:
         error = second
-    row = 1 + error.object[: error.start].count(b"\n")
-    name = "Windows-1252" if encoding == "cp1252" else encoding.upper()
-    table.faults.add(
-        table.file, row, "encoding", byte=f"{error.object[error.start]:02X}", encoding=name
-    )
+    row, byte = 1 + error.object[: error.start].count(b"\n"), f"{error.object[error.start]:02X}"
+    table.faults.add(table.file, row, "encoding", byte=byte, encoding=called(encoding))
     raise Stopped from None
 
 
@@ -207,16 +241,18 @@ def separator_of(text):
     return max(SEPARATORS, key=first.count)
 
 
-def read_table(name, folder, columns, encoding, faults, fields=None):
-    """A table of the folder: None where it cannot be read, with the fault."""
+def read_table(name, folder, columns, encoding, faults, fields=None, otherwise="cp1252"):
+    """A table of the folder: None where it cannot be read, with the fault. Without an encoding it
+    is guessed: UTF-8, or else `otherwise`."""
     table = Table(name, columns.get("file", f"{name}.csv"), columns, faults)
     try:
         data = (folder / table.file).read_bytes()
     except FileNotFoundError:
         faults.add(table.file, None, "no_file")
+        faults.is_file_missing = True
         return None
     try:
-        text = decoded(table, data, encoding)
+        text = decoded(table, data, encoding, otherwise)
         separator = separator_of(text)
         found = list(records(table, text, separator))
         if not found:
@@ -317,7 +353,7 @@ def other_columns(table):
             or not is_kept
         ):
             continue
-        words = re.sub("[^a-z0-9]+", "_", folded(column)).strip("_").removeprefix("x_")
+        words = re.sub("[^a-z0-9]+", "_", plain(column)).strip("_").removeprefix("x_")
         base = key = f"x_{words or f'column_{place + 1}'}"
         while key in keys:
             base, key = key, f"{base}_{place + 1}"
@@ -329,8 +365,9 @@ def other_columns(table):
 # ---- columns.toml
 
 
-def read_columns(folder, faults):
-    """The contents of `columns.toml`; without the file, nothing."""
+def read_columns(folder, faults, language=None):
+    """The contents of `columns.toml`; without the file, nothing. Faults are in its language, unless
+    another is asked for."""
     file = folder / "columns.toml"
     if not file.exists():
         return {}
@@ -339,6 +376,8 @@ def read_columns(folder, faults):
     except ValueError as error:
         faults.add("columns.toml", None, "not_toml", error=error)
         raise Stopped from None
+    if not language and found.get("language") in LANGUAGES:
+        faults.texts = Texts(found["language"])
     before = len(faults.found)
     for key, value in found.items():
         check_key(key, value, faults)

@@ -94,7 +94,7 @@ def spoken(seconds):
     for size, unit in ((DAY, "days"), (3600, "hours"), (60, "minutes")):
         if seconds >= 2 * size:
             return f"{seconds / size:.0f} {unit}"
-    return f"{seconds:.0f} seconds"
+    return f"{seconds:.0f} second{'' if round(seconds) == 1 else 's'}"
 
 
 def look_at_pages(folder, most):
@@ -173,15 +173,24 @@ def look_at_record(file, head, seen):
         # (where the recorder is away it is named itself)
         with suppress(OSError, ValueError):
             shown = json.loads(Path(head).read_text(encoding="utf-8"))
+            if not is_head(shown):
+                return Found("record", False, "its head cannot be read")
     before = seen.get("record", {"n": 0, "hash": FIRST, "at": 0})
     try:
         now = followed(file, before, shown)
     except (OSError, Broken, KeyError, TypeError) as error:
         return Found("record", False, str(error))
     seen["record"] = now
+    if shown and "fault" in shown:
+        return Found("record", False, f"the recorder does no command: {shown['fault']}")
     new = now["n"] - before["n"]
-    return Found("record", True, f"its {now['n']} lines are whole, {new} of them new",
+    whole = "its 1 line is" if now["n"] == 1 else f"its {now['n']} lines are"
+    return Found("record", True, f"{whole} whole, {new} of {'it' if now['n'] == 1 else 'them'} new",
                  numbers={"record_lines": now["n"]})
+
+
+def is_head(shown):
+    return isinstance(shown, dict) and isinstance(shown.get("n"), int) and "hash" in shown
 
 
 def followed(file, before, head):

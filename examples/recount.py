@@ -167,10 +167,18 @@ def read_lots(file, cons):
     return lots
 
 
+def address(file):
+    """The address at which SQLite reads a database. Where no log is beside it, or one without a byte,
+    nothing is made there either; an index of a log that is gone (-shm) is passed over."""
+    log = Path(f"{file}-wal")
+    how = "mode=ro" if log.exists() and log.stat().st_size else "mode=ro&immutable=1"
+    return f"{file.as_uri()}?{how}"
+
+
 def count_database(file):
-    # Where no log is beside the file, nothing is made there either.
-    how = "mode=ro" if Path(f"{file}-wal").exists() else "mode=ro&immutable=1"
-    select = sqlite3.connect(f"{file.as_uri()}?{how}", uri=True).execute
+    if not file.exists():
+        raise FileNotFoundError(f"{file} is not there")
+    select = sqlite3.connect(address(file), uri=True).execute
     [(setup,)] = select("SELECT text FROM setup")
     found = {con["code"]: recount(select, con) for con in read_setup(setup)}
     for code, wrong in found.items():

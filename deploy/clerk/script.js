@@ -8,13 +8,12 @@ const SENTENCES = {
   bad_counts: () => T.bad_counts,
   bad_note: () => T.bad_note,
   too_many_votes: () => T.too_many_votes,
-  differs: (a) => blind() ? T.differs_blind :
-    T.differs({ revision: a.rev, act: person.role === "station" ? T.tell_office : T.query_and_correct }),
+  differs: () => blind() ? T.differs_blind :
+    T.differs({ act: person.role === "station" ? T.tell_office : T.query_and_correct }),
   no_return: () => blind() ? T.no_return_blind : T.no_return,
   certified: () => T.certified_already,
   not_certified: () => T.not_certified,
-  stale: (a) => blind() ? T.stale_blind({ revision: a.now }) :
-    T.stale({ revision: a.now }),
+  stale: () => blind() ? T.stale_blind : T.stale,
   exhausted: () => T.exhausted,
   wrong_status: (a) => !blind() ? T.wrong_status({ status: stateOf(a.status) }) :
     a.status === "closed" ? T.closed_already :
@@ -79,7 +78,7 @@ const STATES = { received: T.status_received, queried: T.status_queried, correct
 const stateOf = (status) => STATES[status] || status;
 // Numbers, moments and plurals, as they are written in the language of the page.
 const LANGUAGE = document.documentElement.lang;
-const shownAs = (value) => typeof value === "number" ? new Intl.NumberFormat(LANGUAGE).format(value) : value;
+const shownAs = (value) => typeof value === "number" ? new Intl.NumberFormat(LANGUAGE, { useGrouping: "always" }).format(value) : value;
 const moment = (time) => new Intl.DateTimeFormat(LANGUAGE, { dateStyle: "long", timeStyle: "long" }).format(time);
 const plural = (many, forms) => forms[new Intl.PluralRules(LANGUAGE).select(many)] || forms.other;
 // The forms into which a slip is typed.
@@ -88,15 +87,34 @@ const SLIPS = ["lodge", "correct", "confirm"];
 const WRONG = { differs: "slip", bad_body: "slip", too_many_votes: "total", bad_note: "note" };
 
 // What is known, and what is shown: a command is made of what is shown, and of nothing else.
-let setup = [], setupHash = "", person = { name: "", role: "" }, shown = { con: null, view: null, station: null, found: null }, lot = null, busy = false, active = null;
-// The revision of returns that this page has not seen, as far as an answer named it; the stations that were listed.
+let setup = [], setupHash = "", known = { stations: {}, former: {} }, person = { name: "", role: "" }, shown = { con: null, view: null, station: null, found: null }, lot = null, busy = false, active = null;
+// The revision of returns that this page has not seen, as far as an answer named it; the stations
+// that were listed, and whether somebody asked for the list of this constituency.
 const revisions = {};
-let listed = [];
+let listed = [], isListed = false;
 
 const element = (id) => document.getElementById(id);
 const blind = () => person.role === "second";
 const constituency = () => setup.find((one) => one.code === shown.con);
 const homeOf = (code) => setup.find((one) => one.stations.some((station) => station.code === code));
+// A code without what is left out or written otherwise as it is typed; and the same of the part
+// from some place on, without the zeros before it.
+const plainCode = (code) => code.toUpperCase().replace(/[^A-Z0-9]/g, "");
+const partsOf = (code) => code.split(/[-_]/).map((_, place, all) => plainCode(all.slice(place).join("")).replace(/^0+(?=.)/, ""));
+
+// The codes of stations that somebody may mean by what was typed: that code; or the same in other
+// capitals and without hyphens; or those of the chosen constituency that end with it.
+function meant(typed) {
+  const all = setup.flatMap((one) => one.stations.map(({ code }) => code)), plain = plainCode(typed);
+  if (all.includes(typed) || !plain) return [typed];
+  const alike = all.filter((code) => plainCode(code) === plain);
+  if (alike.length) return alike;
+  const here = constituency().stations.map(({ code }) => code), short = plain.replace(/^0+(?=.)/, "");
+  const parts = here.filter((code) => partsOf(code).includes(short));
+  if (parts.length) return parts;
+  const ends = here.filter((code) => plainCode(code).endsWith(plain));
+  return ends.length ? ends : [typed];
+}
 const electors = () => constituency().stations.find((one) => one.code === shown.station).electors;
 const double = () => Boolean(shown.view && shown.view.entry === "double");
 const total = (numbers) => numbers.reduce((sum, one) => sum + one, 0);
@@ -113,7 +131,8 @@ function say(text, kind) {
   element("status").textContent = kind === "refused" ? "" : text;
   element("alert").textContent = kind === "refused" ? text : "";
   element("said").className = kind || "";
-  element("said").scrollIntoView({ block: "nearest" });
+  // What has the focus is not scrolled under this message, which stays at the top.
+  document.documentElement.style.scrollPaddingTop = `${element("said").offsetHeight}px`;
 }
 
 // ---- asking
@@ -130,13 +149,14 @@ async function ask(method, target, body) {
   }
 }
 
-// The SHA-256 of a text: the proxy refuses a command of a page that has another setup.json than it knows.
+// The SHA-256 of a text: the proxy refuses a command of a page that has another setup.json than it
+// knows.
 async function hashOf(text) {
   const bytes = await crypto.subtle.digest("SHA-256", new TextEncoder().encode(text));
   return [...new Uint8Array(bytes)].map((byte) => byte.toString(16).padStart(2, "0")).join("");
 }
 
-// A name or a note by itself: no letter in it turns round what stands beside it.
+// A name or a note by itself: no letter in it turns round what is beside it.
 function isolated(text) {
   const plain = text.replace(/[\u061c\u200e\u200f\u202a-\u202e\u2066-\u2069]/g, "");
   return /[\u0590-\u08ff\ufb1d-\ufdff\ufe70-\ufefc]/.test(plain) ? `\u2068${plain}\u2069` : plain;
@@ -148,9 +168,9 @@ function sentence(answer) {
   return STATUSES[answer.status] || T.other_status({ status: answer.status });
 }
 
-// What a form does, given as what returns an answer, or nothing where it was not sent. The form of a command that was
-// accepted is emptied, and so is one whose answer was lost, where what was typed is recorded now; of one that was refused
-// the field to look at gets the focus.
+// What a form does, given as what returns an answer, or nothing where it was not sent. The form of
+// a command that was accepted is emptied, and so is one whose answer was lost, where what was typed
+// is recorded now; of one that was refused the field to look at gets the focus.
 function onSubmit(id, act) {
   element(id).addEventListener("submit", async (event) => {
     event.preventDefault();
@@ -158,9 +178,58 @@ function onSubmit(id, act) {
     if (!answer) return;
     if (answer.ok || (!answer.value && isRecorded(form))) form.reset();
     if (answer.ok) goOn(true);
+    else if (SLIPS.includes(id) && answer.value && answer.value.word === "differs") stop(form);
     else focusOn(form, answer.value && answer.value.word);
   });
 }
+
+// ---- a slip that differs: nothing is typed until somebody says what to do
+
+let stopped = null;
+
+function stop(form) {
+  stopped = { form, typed: false };
+  element("stopped-said").textContent = element("alert").textContent;
+  element("stopped-typed").textContent = "";
+  element("stopped-next").hidden = !allowed(element("stopped-next"));
+  element("stopped").showModal();
+  element("stopped-compare").focus();
+}
+
+function leaveStopped(act) {
+  element("stopped").close();
+  const { form } = stopped;
+  stopped = null;
+  act(form);
+}
+
+const compareNow = () => leaveStopped((form) => {
+  // A first entry is hidden where somebody else's is recorded: that can be queried.
+  if (!form.hidden) focusOn(form, "differs");
+  else (element("query").hidden ? element("station") : element("query").elements.note).focus();
+});
+// The figures that differ are those of the paper that is put aside.
+const nextNow = () => person.role === "station" ? compareNow() : leaveStopped((form) => {
+  dropDraft(shown.station);
+  form.reset();
+  element("station").focus();
+  element("station").select();
+});
+
+// Who types on without looking up types nothing, and the end of what was typed presses no button.
+element("stopped").addEventListener("keydown", (event) => {
+  const isTyped = event.key.length === 1 && event.key !== " ";
+  if (!isTyped && !([" ", "Enter"].includes(event.key) && stopped.typed)) return;
+  event.preventDefault();
+  stopped.typed = isTyped;
+  element("stopped-typed").textContent = T.typed_for_nothing;
+});
+element("stopped").addEventListener("cancel", (event) => {
+  event.preventDefault();
+  nextNow();
+});
+element("stopped-compare").addEventListener("click", compareNow);
+element("stopped-next").addEventListener("click", nextNow);
 
 function isRecorded(form) {
   const typed = SLIPS.includes(form.id) ? figures(form) : null, found = shown.found;
@@ -175,8 +244,9 @@ function focusOn(form, word) {
   if (field.select) field.select();
 }
 
-// Sends a command, says what came of it, and asks again; its answer. The receipt has what it is given here.
-async function command(target, body, done, receipt) {
+// Sends a command, says what came of it, and asks again; its answer. The receipt has what it is
+// given here.
+async function command(target, body, done, receipt, isLook = () => false) {
   setBusy(true);
   say(T.sent);
   const answer = await ask("POST", target, body), value = answer.value || {};
@@ -186,10 +256,11 @@ async function command(target, body, done, receipt) {
   if (shown.station && (value.now || value.rev)) revisions[shown.station] = value.now || value.rev;
   if (answer.ok) shown.again = false;
   if (answer.ok && receipt.leaves) listed.filter((one) => one.code === receipt.station).forEach((one) => { one.status = receipt.leaves; });
+  if (answer.ok && receipt.station) dropDraft(receipt.station);
   showOpen();
   const trouble = await look();
-  say(`${waits ? waitsFor(value) : answer.ok ? done(value) : sentence(answer)}${trouble}`, waits ? "" : answer.ok ? "done" : "refused");
-  if (answer.ok && !waits) showReceipt(done(value), answer.text, receipt);
+  say(`${waits ? waitsFor(value) : answer.ok ? done(value) : sentence(answer)}${trouble}`, waits || (answer.ok && isLook(value)) ? "look" : answer.ok ? "done" : "refused");
+  if (answer.ok && !waits) showReceipt(done(value), receipt);
   setBusy(false);
   return answer;
 }
@@ -214,7 +285,8 @@ function setBusy(now) {
   if (!now && active) active.focus();
 }
 
-// Goes to where somebody types on: the slip of a return that is to be entered, or else the next station.
+// Goes to where somebody types on: the slip of a return that is to be entered, or else the next
+// station.
 function goOn(accepted) {
   if (!shown.station) return;
   const form = blind() ? !accepted && "confirm" : { none: "lodge", queried: "correct" }[shown.found ? shown.found.status : ""];
@@ -225,29 +297,35 @@ function goOn(accepted) {
 
 // ---- looking: what the office has now
 
-// Asks for what is chosen and shows it; what went wrong with that, in words. Who enters a slip a second time sees nothing
-// of the return: it is not asked for.
+// Asks for what is chosen and shows it; what went wrong with that, in words. Who enters a slip a
+// second time sees nothing of the return: it is not asked for.
 async function look() {
   const con = shown.con, station = shown.station;
   shown.view = shown.found = null;
-  const [view, progress, found] = await Promise.all([
-    ask("GET", `/now/con/${con}`), ask("GET", "/now/progress"),
-    !station ? null : blind() ? unseen(station) : ask("GET", `/now/station/${encodeURIComponent(station)}`)]);
-  if (view.ok) shown.view = view.value;
-  const holders = shown.view && shown.view.certified && !blind() ? await ask("GET", `/now/con/${con}/holders`) : null;
+  const [result, seen] = await Promise.all([
+    ask("GET", `/now/con/${con}/result`), station && !blind() ? ask("GET", `/now/station/${encodeURIComponent(station)}`) : null]);
+  const view = shown.view = result.ok ? viewOf(result.value) : null;
+  // Who does not see a return learns its revision from the list, where some were corrected.
+  const isOld = view && (isListed || (station && blind() && view.queried + view.corrected)), open = isOld ? await listStations() : null;
+  const found = station && blind() ? unseen(station) : seen;
+  if (view && !view.certified && view.closed === view.stations && person.role === "board") lot = lotNeeded(view);
   const there = found && (found.ok ? found.value :
     found.value && found.value.word === "no_return" ? { station, rev: 0, status: "none" } : null);
-  // Its votes are in the order of the lists that are shown only where it is a station of this constituency.
+  // Its votes are in the order of the lists that are shown only where it is a station of this
+  // constituency.
   if (constituency().stations.some((one) => one.code === station)) shown.found = there;
-  showProgress(progress);
+  showProgress(view);
+  if (open) showOpen();
+  learn();
   showReturn();
-  showView(holders && holders.ok ? readHolders(holders.text) : []);
+  showView(view && !blind() ? view.holders : []);
   // Before the hour from which results are public a station sees its own return alone.
-  const isClosed = view.status === 403 && person.role === "station";
-  return (view.ok || isClosed ? "" : ` ${sentence(view)}`) + (!found || shown.found ? "" : there ? ` ${UNKNOWN}` : ` ${sentence(found)}`);
+  const isClosed = result.status === 403 && person.role === "station";
+  return (result.ok || isClosed ? "" : ` ${sentence(result)}`) + (!found || shown.found ? "" : there ? ` ${UNKNOWN}` : ` ${sentence(found)}`);
 }
 
-// In place of an answer: the revision that a lodged return has, or a later one that an answer named.
+// In place of an answer: the revision that a lodged return has, or a later one that an answer
+// named.
 function unseen(station) {
   return homeOf(station) ? { ok: true, value: { station, rev: revisions[station] || 1, status: "" } } : { ok: false, value: { word: "no_station" } };
 }
@@ -259,19 +337,28 @@ async function refresh() {
   setBusy(false);
 }
 
-function readHolders(text) {
-  const rows = text.split("\n").slice(1).map((line) => /^(\S+) +(\d+) (.*)$/.exec(line)).filter(Boolean);
-  return rows.map(([, list, place, name]) => ({ list, place: Number(place), name: isolated(name) }));
+// A result of the office, with votes and seats in the order of the lists, who is gone, who holds a
+// seat, and how many stations have no return.
+function viewOf(result) {
+  const { lists, stations, received, queried, corrected, closed } = result;
+  return { ...result, votes: lists.map(({ votes }) => votes), seats: lists.map(({ seats }) => seats),
+    missing: stations - received - queried - corrected - closed, gone: result.gone.map(([list, place, note]) => ({ list, place, note })),
+    holders: result.holders.filter(([, place]) => place).map(([list, place, name]) => ({ list, place, name: isolated(name) })) };
+}
+
+// The lot that the closed votes need and that is not recorded: among whom, and for how many seats.
+function lotNeeded({ status, con, edition, question, group }) {
+  return status === "lot" ? { con, edition, seats: question, group } : null;
 }
 
 // ---- showing
 
-function showProgress(answer) {
-  const row = answer.ok && answer.text.split("\n").map((line) => line.trim().split(/ +/)).find((one) => one[0] === shown.con);
-  const waiting = row && double() ? T.waiting({ number: Number(row[3]) + Number(row[5]) }) : "";
+function showProgress(row) {
+  closings = [...closings.filter(({ con }) => con === shown.con), ...(row ? [{ con: shown.con, time: Date.now(), closed: row.closed }] : [])];
+  const waiting = row && double() ? T.waiting({ number: row.received + row.corrected }) : "";
   element("progress-line").textContent = !row ? "" :
-    T.progress({ closed: Number(row[6]), stations: Number(row[1]), missing: Number(row[2]), received: Number(row[3]), queried: Number(row[4]),
-      corrected: Number(row[5]), waiting });
+    T.progress({ closed: row.closed, stations: row.stations, missing: row.missing, received: row.received, queried: row.queried,
+      corrected: row.corrected, waiting });
 }
 
 function rowsOf(pairs) {
@@ -300,9 +387,10 @@ function shows(id, condition) {
 
 function showReturn() {
   const found = shown.found, status = found ? found.status : "", again = shown.again;
-  const parts = !found ? [] : blind() ? [made("p", T.station_electors({ station: found.station, electors: electors() }))] :
+  showPlace();
+  const parts = !found || blind() ? [] :
     status === "none" ? [made("p", T.station_none({ station: found.station }))] : [
-      made("p", T.station_status({ station: found.station, status: stateOf(status), revision: found.rev }) + (found.note ? T.station_note({ note: isolated(found.note) }) : "")),
+      made("p", T.station_status({ station: found.station, status: stateOf(status) }) + (found.note ? T.station_note({ note: isolated(found.note) }) : "")),
       ...(again ? [] : [rowsOf(slipRows(found))])];
   const open = shown.view && !shown.view.certified, entered = status === "received" || status === "corrected";
   if (open && entered && double()) parts.push(made("p", T.waits_for_second));
@@ -317,20 +405,31 @@ function showReturn() {
   // (the others have this button above)
   shows("retry", !found);
   element("history").replaceChildren();
+  bringDraft();
   element("compare").hidden = blind() || double() || !(entered || status === "closed");
   element("compare").textContent = again ? T.show_recorded : T.compare_button;
   element("lodge-title").textContent = again ? T.enter_again : T.lodge_title;
   element("lodge-help").textContent = again ? T.compare_help : "";
   element("lodge").querySelector("button").textContent = again ? T.compare_send : T.lodge_button;
-  element("confirm-rev").textContent = found ? T.compared_with({ revision: found.rev }) : "";
+  element("confirm-rev").textContent = !found ? "" : found.rev > 1 ? T.compared_later : T.compared_first;
+}
+
+// The station in large letters, by what the paper says of it beside its code.
+function showPlace() {
+  const { name, place } = known.stations[shown.station] || {}, home = homeOf(shown.station);
+  const own = home && home.stations.find((one) => one.code === shown.station);
+  const lines = !own ? [] : [made("strong", shown.station), ...[name, place].filter(Boolean).map((one) => made("span", one)),
+    made("span", own.agents ? T.electors_agents({ electors: own.electors, agents: own.agents }) : T.electors({ electors: own.electors }))];
+  element("place").replaceChildren(...lines);
 }
 
 function showView(holders) {
   const view = shown.view;
   element("view").replaceChildren(...(view ? viewParts(view) : []));
   element("find").hidden = !view || view.closed === view.stations;
+  shows("list-waiting", view && !view.certified);
   shows("certify", view && !view.certified);
-  shows("draw", view && !view.certified && lot && lot.con === shown.con && lot.edition === view.edition && !view.lot.length);
+  shows("draw", view && lotOpen(view));
   shows("vacate", view && view.certified && holders.length);
   shows("reopen", view && view.certified);
   shows("import", view);
@@ -342,14 +441,18 @@ function showView(holders) {
   }));
 }
 
+// Whether a lot is known to be needed.
+const lotOpen = (view) => Boolean(!view.certified && lot && lot.con === shown.con && lot.edition === view.edition && !view.lot.length);
+
 function viewParts(view) {
   const state = view.certified ? T.state_certified : T.state_open, missing = view.stations - view.closed;
-  const words = [T.con_state({ con: constituency().name, state, edition: view.edition })];
+  const words = [T.con_state({ con: constituency().name, state })];
   if (!view.certified) words.push(missing ? T.still_to_close({ number: missing, stations: view.stations }) : T.all_closed);
+  const needs = lotOpen(view) && lot.seats ? [Object.assign(made("p", T.lot_missing({ lists: lot.group.join(", "), seats: T.seats({ number: lot.seats }) })), { className: "look" })] : [];
   if (view.lot.length) words.push(T.lot_line({ lists: view.lot.join(", ") }));
   if (view.note) words.push(T.reopening_note({ note: isolated(view.note) }));
   const gone = view.gone.map((one) => made("p", T.gone_line({ list: one.list, place: one.place, note: isolated(one.note) })));
-  return [made("p", words.join(" ")), ...gone, rowsOf([...listRows(view), [T.blank, T.votes({ number: view.blank })], [T.spoiled, T.votes({ number: view.spoiled })]])];
+  return [made("p", words.join(" ")), ...needs, ...gone, rowsOf([...listRows(view), [T.blank, T.votes({ number: view.blank })], [T.spoiled, T.votes({ number: view.spoiled })]])];
 }
 
 function listRows(view) {
@@ -369,15 +472,15 @@ function showDraw() {
   }));
 }
 
-// What was done, for the file of papers. That of a first entry has no figures: it may go with the slip to whoever enters
-// it a second time.
-function showReceipt(done, answer, { title, station, open, rows }) {
+// What was done, for the file of papers. That of a first entry has no figures: it may go with the
+// slip to whoever enters it a second time.
+function showReceipt(done, { title, station, open, rows }) {
   element("receipt").hidden = false;
   element("receipt").open = Boolean(open);
   element("receipt").querySelector("summary").textContent = T.receipt({ title });
   element("receipt").querySelector("div").replaceChildren(rowsOf([
     ...(station ? [[T.station, station]] : []), [T.constituency, `${constituency().name} (${shown.con})`], [T.done, done], ...rows(),
-    [T.by_label, `${person.name}, ${ROLES[person.role] || person.role}`], [T.at_label, moment(new Date())], [T.answer_label, answer]]));
+    [T.by_label, `${person.name}, ${ROLES[person.role] || person.role}`], [T.at_label, moment(new Date())]]));
 }
 
 // ---- a slip, and what is looked at before it is sent
@@ -410,21 +513,91 @@ function figures(form) {
   return { slip: form.elements.slip.value, votes: of("votes"), blank: of("blank")[0], spoiled: of("spoiled")[0] };
 }
 
-// What is unusual in a slip, each with its field: it is a reason to look at the paper once more, and refuses nothing. What
-// is more than the electors is left to the office, which refuses it.
+// Of the logarithm of a list's share in a return, over its share in the constituency: the standard
+// deviation that is assumed over closed returns and over a former result, as if it had been seen in
+// this many returns; and the least one.
+const SPREAD = 0.5, FORMER_SPREAD = 0.6, ASSUMED = 8, LEAST_SPREAD = 0.1;
+// A figure is far off from this many deviations on; two are exchanged where that is likelier by
+// this factor (its logarithm, twice).
+const FAR = 3.3, EXCHANGED = 10;
+// This many closed returns say more than the former result, and of this many the spread is learned
+// well enough.
+const FEW = 3, ENOUGH = 300;
+// The lists' votes of closed returns of a constituency, as published; how many were closed when
+// that was asked for.
+let learned = { con: null, closed: 0, spreads: [] };
+
+// The shares that are expected of a return, a list each, with the variance of the logarithm; null
+// where nothing is known.
+function expectation(votes, closed, former, spreads) {
+  const isFormer = closed < FEW && former.some((many) => many > 0), sums = isFormer ? former : votes;
+  const all = total(sums.map((many) => many || 0));
+  if (!all || (!isFormer && !closed)) return null;
+  const variance = (place) => isFormer ? FORMER_SPREAD ** 2 : (spreads[place] || SPREAD) ** 2 * (1 + 1 / closed);
+  return { isFormer, lists: sums.map((many, place) => many === null ? null : { share: many / all, variance: variance(place) }) };
+}
+
+// The spread of each list over returns, without what is chance in small numbers.
+function spreadsOf(returns) {
+  const sums = (returns[0] || []).map((_, place) => total(returns.map((votes) => votes[place]))), all = total(sums);
+  return sums.map((sum, place) => {
+    const squares = returns.map((votes) => [votes[place] + 0.5, (sum / all) * total(votes) + 0.5])
+      .map(([many, wanted]) => Math.min(4, Math.log(many / wanted) ** 2) - 1 / wanted);
+    return Math.sqrt(Math.max(LEAST_SPREAD ** 2, (total(squares) + ASSUMED * SPREAD ** 2) / (squares.length + ASSUMED)));
+  });
+}
+
+// The figures of a slip that are far from what is expected, each with its list, whether it is more,
+// and the list beside it with whose figure it would fit.
+function farOff(votes, wanted) {
+  // The size of the return by the list in the middle, so that one wrong figure spoils no other.
+  const sizes = votes.map((many, place) => [many, wanted[place]]).filter(([, one]) => one && one.share * total(votes) >= 5)
+    .map(([many, { share }]) => many / share).sort((one, other) => one - other);
+  const size = sizes.length < 3 ? total(votes) : (sizes[(sizes.length - 1) >> 1] + sizes[sizes.length >> 1]) / 2;
+  const far = (many, one) => {
+    const mean = one.share * size + 0.5;
+    return Math.log((many + 0.5) / mean) / Math.sqrt(one.variance + 1 / mean);
+  };
+  const found = [];
+  votes.forEach((many, place) => {
+    if (!wanted[place]) return;
+    const off = far(many, wanted[place]);
+    const other = [place - 1, place + 1].find((one) => {
+      if (!wanted[one]) return false;
+      const here = far(votes[one], wanted[place]), there = far(many, wanted[one]);
+      const gain = off ** 2 + far(votes[one], wanted[one]) ** 2 - here ** 2 - there ** 2;
+      return gain > EXCHANGED && Math.abs(here) < FAR && Math.abs(there) < FAR;
+    });
+    if (Math.abs(off) > FAR || other !== undefined) found.push({ place, isMore: off > 0, other });
+  });
+  return found;
+}
+
+// Asks for the closed returns of the constituency once there are twice as many as before, and
+// learns how far they are apart.
+async function learn() {
+  const { con, view } = shown, before = learned.con === con ? learned.closed : 0;
+  if (!view || view.certified || person.role === "station" || before >= ENOUGH || view.closed < Math.max(10, 2 * before)) return;
+  learned = { con, closed: view.closed, spreads: learned.con === con ? learned.spreads : [] };
+  const answer = await ask("GET", `/stations-${con}-open.csv`), lists = constituency().lists.length;
+  if (!answer.ok || con !== shown.con) return;
+  const rows = answer.text.split("\n").slice(1).filter(Boolean).map((line) => line.split(",").slice(4).map(Number));
+  const returns = rows.filter((votes) => votes.length === lists && votes.every((many) => many >= 0) && total(votes));
+  learned = { con, closed: returns.length, spreads: returns.length ? spreadsOf(returns) : [] };
+}
+
+// What is unusual in a slip, each with its field: it is a reason to look at the paper once more,
+// and refuses nothing. What is more than the electors is left to the office, which refuses it.
 function unusual(form) {
   const { votes, blank, spoiled } = figures(form), all = total([...votes, blank, spoiled]), found = [];
   const warn = (name, place, text) => found.push({ field: fields(form, name)[place], text });
-  const soFar = shown.view ? shown.view.votes : [], expected = soFar.map((many) => many * total(votes) / total(soFar));
-  // Small differences are chance.
-  const fits = (many, wanted) => Math.abs(many - wanted) < 10 || (many <= 2 * wanted && many >= wanted / 2);
-  votes.forEach((many, place) => {
-    if (!total(soFar) || fits(many, expected[place])) return;
-    const other = [place - 1, place + 1].find((one) => one in votes && fits(many, expected[one]) && fits(votes[one], expected[place]));
-    warn("votes", place, (many > expected[place] ? T.more_than_twice :
-      T.less_than_half) +
-      (other === undefined ? "" : T.exchanged({ list: constituency().lists[other].code })));
-  });
+  const { lists } = constituency(), before = known.former[shown.con] || {}, { view } = shown;
+  const former = lists.map(({ code }) => Object.hasOwn(before, code) ? before[code] : null);
+  const wanted = expectation(view ? view.votes : [], view ? view.closed : 0, former, learned.con === shown.con ? learned.spreads : []);
+  for (const { place, isMore, other } of wanted ? farOff(votes, wanted.lists) : []) {
+    const text = wanted.isFormer ? (isMore ? T.more_than_before : T.less_than_before) : isMore ? T.more_than_usual : T.less_than_usual;
+    warn("votes", place, text + (other === undefined ? "" : T.exchanged({ list: lists[other].code })));
+  }
   if (blank > all * 0.05) warn("blank", 0, T.many_blank);
   if (spoiled > all * 0.05) warn("spoiled", 0, T.many_spoiled);
   if (all > electors() * 0.95 && all <= electors()) warn("total", 0, T.nearly_all({ electors: electors() }));
@@ -434,7 +607,8 @@ function unusual(form) {
 
 const warningOf = (field) => field.closest(".counts > div").querySelector(".warning");
 
-// Shows what is unusual beside its figure; the fields of which nobody has said yet that the paper says so.
+// Shows what is unusual beside its figure; the fields of which nobody has said yet that the paper
+// says so.
 function warned(form) {
   const found = unusual(form);
   for (const box of form.querySelectorAll(".warning")) {
@@ -452,11 +626,32 @@ function warned(form) {
   return found.map(({ field }) => field).filter((field) => !warningOf(field).querySelector("input").checked);
 }
 
-// Whether a slip may be sent: its figures have the total that was typed, and somebody looked at what is unusual.
+// Whether what was typed as a slip is the code of another station, as where the next paper is typed
+// too early.
+function isStation(slip) {
+  const plain = plainCode(slip);
+  return plain !== plainCode(shown.station || "") && setup.some((one) => one.stations.some(({ code }) => plainCode(code) === plain));
+}
+
+// Whether a slip may be sent: its code is no station's, its figures have the total that was typed,
+// and somebody looked at what is unusual.
 function checked(form) {
+  if (isStation(form.elements.slip.value)) {
+    say(T.slip_is_station({ slip: form.elements.slip.value, station: shown.station }), "refused");
+    form.elements.slip.select();
+    return false;
+  }
   const { votes, blank, spoiled } = figures(form), sum = total([...votes, blank, spoiled]), typed = fields(form, "total")[0];
   const wrong = Number(typed.value) !== sum;
   typed.setAttribute("aria-invalid", wrong);
+  const beside = form.querySelector(".fault");
+  if (beside) beside.remove();
+  typed.removeAttribute("aria-errormessage");
+  if (wrong) {
+    const fault = Object.assign(made("p", T.adds_up_to({ sum })), { className: "fault", id: `${form.id}-fault` });
+    typed.closest("div").append(fault);
+    typed.setAttribute("aria-errormessage", fault.id);
+  }
   const open = wrong ? [] : warned(form);
   if (!wrong && !open.length) return true;
   say(wrong ? T.wrong_total({ sum, typed: Number(typed.value) }) :
@@ -473,14 +668,51 @@ function unsent() {
 // Whether it may go.
 function leave() {
   if (unsent() && !confirm(T.not_sent({ name: shown.station || constituency().name }))) return false;
+  dropDraft(shown.station);
   for (const form of document.forms) form.reset();
   return true;
 }
 
+// ---- what was typed and not sent, kept by the browser for its name
+
+const DRAFTS = ["lodge", "correct"], DAY = 86_400_000;
+const draftKey = (form, station) => `office ${setupHash.slice(0, 16)} ${person.name} ${station} ${form}`;
+
+// A slip that is typed to be compared is kept nowhere, nor is a second entry: nobody is to find it.
+function keepDraft({ currentTarget: form }) {
+  if (!DRAFTS.includes(form.id) || shown.again) return;
+  const typed = [...form.querySelectorAll(".slip input, .counts input:not([type=checkbox])")].map((field) => field.value);
+  kept((storage) => storage.setItem(draftKey(form.id, shown.station), JSON.stringify({ time: Date.now(), typed })));
+}
+
+// Reads or writes what the browser keeps; null where it stores nothing.
+function kept(act) {
+  try {
+    return act(localStorage);
+  } catch {
+    return null;
+  }
+}
+
+// Puts into the form that is shown what was typed there before this page was closed.
+function bringDraft() {
+  for (const form of DRAFTS.map(element)) {
+    const fields = [...form.querySelectorAll(".slip input, .counts input:not([type=checkbox])")];
+    if (form.hidden || shown.again || fields.some((field) => field.value)) continue;
+    const { time, typed } = read(kept((storage) => storage.getItem(draftKey(form.id, shown.station))));
+    if (!Array.isArray(typed) || typed.length !== fields.length || Date.now() - time > DAY) continue;
+    fields.forEach((field, place) => { field.value = typed[place]; });
+    element("return").append(Object.assign(made("p", T.draft({ time: moment(new Date(time)) })), { className: "look" }));
+  }
+}
+
+function dropDraft(station) {
+  for (const form of DRAFTS) kept((storage) => storage.removeItem(draftKey(form, station)));
+}
+
 // ---- forms
 
-const rev = (value) => T.done_revision({ revision: value.rev });
-const edition = (value) => T.done_edition({ edition: value.edition });
+const isDone = () => T.is_done;
 // What a command leaves a return as.
 const LEAVES = { lodge: "received", query: "queried", correct: "corrected", close: "closed", confirm: "closed" };
 const toStation = (name, body, done, title, rows) => command(`/station/${shown.found.station}/${name}`, JSON.stringify(body), done,
@@ -488,31 +720,31 @@ const toStation = (name, body, done, title, rows) => command(`/station/${shown.f
 const toCon = (name, body, done, title, rows) => command(`/con/${shown.con}/${name}`, JSON.stringify(body), done, { title, rows, open: true });
 
 onSubmit("lodge", (form) => checked(form) && toStation("lodge", figures(form), (value) =>
-  value.ok === "same" ? T.same_recorded({ revision: value.rev }) : T.lodged({ revision: value.rev }),
+  value.ok === "same" ? T.same_recorded : T.lodged,
   T.receipt_lodge, () => [[T.slip, shown.found.slip]]));
 onSubmit("confirm", (form) => {
   const typed = figures(form);
-  return checked(form) && toStation("confirm", { rev: shown.found.rev, ...typed }, (value) =>
-    T.same_closed({ revision: value.rev }), T.receipt_confirm, () => slipRows(typed));
+  return checked(form) && toStation("confirm", { rev: shown.found.rev, ...typed }, () => T.same_closed,
+    T.receipt_confirm, () => slipRows(typed));
 });
-onSubmit("close", () => confirm(T.close_question({ station: shown.station, revision: shown.found.rev })) &&
-  toStation("close", { rev: shown.found.rev }, rev, T.receipt_close, () => shown.found ? slipRows(shown.found) : []));
+onSubmit("close", () => confirm(T.close_question({ station: shown.station })) &&
+  toStation("close", { rev: shown.found.rev }, isDone, T.receipt_close, () => shown.found ? slipRows(shown.found) : []));
 onSubmit("query", (form) => {
   const note = form.elements.note.value;
-  return toStation("query", { rev: shown.found.rev, note }, rev, T.receipt_query, () => [[T.note, note]]);
+  return toStation("query", { rev: shown.found.rev, note }, isDone, T.receipt_query, () => [[T.note, note]]);
 });
-onSubmit("correct", (form) => checked(form) && toStation("correct", { rev: shown.found.rev, ...figures(form) }, rev,
+onSubmit("correct", (form) => checked(form) && toStation("correct", { rev: shown.found.rev, ...figures(form) }, isDone,
   T.receipt_correct, () => [[T.slip, form.elements.slip.value]]));
-onSubmit("certify", () => confirm(T.certify_question({ con: constituency().name, edition: shown.view.edition })) &&
-  toCon("certify", { edition: shown.view.edition }, edition, T.receipt_certify, () => shown.view ? listRows(shown.view) : []));
+onSubmit("certify", () => confirm(T.certify_question({ con: constituency().name })) &&
+  toCon("certify", { edition: shown.view.edition }, isDone, T.receipt_certify, () => shown.view ? listRows(shown.view) : []));
 onSubmit("draw", () => {
   const order = [...element("order").querySelectorAll("select")].map((choice) => choice.value);
-  return toCon("draw", { edition: shown.view.edition, order }, edition, T.receipt_draw, () => [[T.order_label, order.join(", ")]]);
+  return toCon("draw", { edition: shown.view.edition, order }, isDone, T.receipt_draw, () => [[T.order_label, order.join(", ")]]);
 });
 onSubmit("reopen", (form) => {
   const note = form.elements.note.value;
   return confirm(T.reopen_question({ con: constituency().name })) &&
-    toCon("reopen", { edition: shown.view.edition, note }, edition, T.receipt_reopen, () => [[T.note, note]]);
+    toCon("reopen", { edition: shown.view.edition, note }, isDone, T.receipt_reopen, () => [[T.note, note]]);
 });
 onSubmit("vacate", (form) => {
   const holder = JSON.parse(form.elements.holder.value), list = constituency().lists.find((one) => one.code === holder.list);
@@ -524,15 +756,46 @@ onSubmit("vacate", (form) => {
 
 // ---- files
 
-// What the trial of a file came to, with a line for each row that would not be accepted. The file is imported once this is
-// shown, and asks for that; with another file there is nothing to import.
+// The rows of a file that the trial would not accept, each with its line of the file and how that
+// begins; and a list of them.
+let refusedLines = [], fileRows = [];
+const lineOf = (row) => (fileRows[row] || { line: row + 1 }).line;
+const refusedRows = () => made("ul", null, ...refusedLines.map(({ line, reason, text }) => {
+  const item = made("li", T.trial_row({ line, reason }));
+  if (text) item.append(" ", made("code", text));
+  return item;
+}));
+
+// Where each row of a file begins, by its line, and its text. A field in quotes may go over several
+// lines.
+function rowsOfFile(text) {
+  const rows = [];
+  let quotes = 0;
+  text.split("\n").forEach((line, place) => {
+    if (quotes % 2) rows.at(-1).text += ` ${line}`;
+    else if (line.trim()) rows.push({ line: place + 1, text: line });
+    quotes += line.split('"').length - 1;
+  });
+  return rows;
+}
+
+async function readRefused(form, answer) {
+  fileRows = rowsOfFile(await form.elements.file.files[0].text().catch(() => ""));
+  refusedLines = answer.split("\n").filter(Boolean).slice(6).map((one) => one.split(" ")).map(([, row, , word, of]) => {
+    const { text } = fileRows[Number(row)] || { text: "" };
+    return { line: lineOf(Number(row)), reason: CAUSES[word](of), text: isolated(text.trim().slice(0, 60)) };
+  });
+}
+
+// What the trial of a file came to, with a line for each row that would not be accepted. The file
+// is imported once this is shown, and asks for that; with another file there is nothing to import.
 function showTrial(text) {
   const lines = text.split("\n").filter(Boolean).map((line) => line.split(" "));
   const names = [T.trial_lodged, T.trial_same, T.trial_differs, T.trial_refused, T.trial_unread];
   element("trial").hidden = !text;
   element("trial").replaceChildren(...(text ? [
     rowsOf(names.map((name, place) => [name, Number(lines[place][1])])),
-    made("ul", null, ...lines.slice(6).map(([, row, , word, of]) => made("li", T.trial_row({ row, reason: CAUSES[word](of) })))),
+    refusedRows(),
     made("p", T.import_question({ con: constituency().name })),
   ] : []));
   element("import").querySelector("button").textContent = text ? T.import_button : T.try_file;
@@ -542,17 +805,25 @@ async function tryFile(form) {
   setBusy(true);
   say(T.sent);
   const answer = await ask("POST", `/con/${shown.con}/trial${form.elements.separator.value}`, form.elements.file.files[0]);
-  if (answer.ok) showTrial(answer.text);
+  if (answer.ok) {
+    await readRefused(form, answer.text);
+    showTrial(answer.text);
+  }
   say(answer.ok ? T.trial_said : sentence(answer), answer.ok ? "" : "refused");
   setBusy(false);
 }
 
 function importFile(form) {
-  const file = form.elements.file.files[0];
-  return command(`/con/${shown.con}/import${form.elements.separator.value}`, file,
-    (value) => T.imported({ lodged: value.lodged, same: value.same, differs: value.differs, refused: value.refused, bad: value.bad }) +
-      (value.first ? T.imported_first({ row: value.first[0], reason: REASONS[value.first[1]] || T.other_reason({ number: value.first[1] }) }) : ""),
-    { title: T.receipt_import, open: true, rows: () => [[T.file_label, T.file_value({ name: file.name, size: file.size })]] });
+  const file = form.elements.file.files[0], notAccepted = ({ differs, refused, bad }) => differs + refused + bad;
+  const done = (value) => T.imported({ lodged: value.lodged, same: value.same, differs: value.differs, refused: value.refused, bad: value.bad }) +
+    (value.first ? T.imported_first({ line: lineOf(value.first[0]), reason: REASONS[value.first[1]] || T.other_reason({ number: value.first[1] }) }) : "");
+  const rows = () => {
+    // The list of the trial stays: these rows are to be found in the file yet.
+    element("not-accepted").replaceChildren(...(refusedLines.length ? [made("h3", T.not_accepted({ name: file.name })), refusedRows()] : []));
+    return [[T.file_label, T.file_value({ name: file.name, size: file.size })], ...refusedLines.map(({ line, reason }) => [T.line_label({ line }), reason])];
+  };
+  return command(`/con/${shown.con}/import${form.elements.separator.value}`, file, done, { title: T.receipt_import, open: true, rows },
+    (value) => notAccepted(value) > 0);
 }
 
 onSubmit("import", (form) => element("trial").hidden ? tryFile(form) : importFile(form));
@@ -581,9 +852,9 @@ function saidOf({ slip, votes, blank, spoiled, note, order }) {
 function outcome(status, answer) {
   if ([null, 502, 503, 504].includes(status)) return T.nobody_knows;
   if (status === 403) return T.refused_name;
-  if (status !== 200) return answer.word ? T.refused_word({ word: answer.word }) : T.refused;
+  if (status !== 200) return answer.word ? T.refused_because({ reason: sentence({ status, value: answer }) }) : T.refused;
   if (answer.ok === "import") return T.it_lodged({ lodged: answer.lodged, same: answer.same, differs: answer.differs, refused: answer.refused });
-  return (answer.ok === "same" ? T.same_before : T.done) + (answer.rev ? T.of_revision({ revision: answer.rev }) : ".");
+  return answer.ok === "same" ? T.same_before : T.is_done;
 }
 
 async function showHistory() {
@@ -599,6 +870,7 @@ async function showHistory() {
         at.dateTime = time;
         return made("li", null, at, ` ${name} (${ROLES[role] || role}) ${ACTS[act] || act}${saidOf(read(body))}. ${outcome(status, read(given))}`);
       })));
+    element("history").scrollIntoView({ block: "nearest" });
   }
   say(answer.ok ? T.history_shown({ station }) : sentence(answer), answer.ok ? "" : "refused");
   setBusy(false);
@@ -606,32 +878,41 @@ async function showHistory() {
 
 // ---- the stations that are not closed
 
-// The stations of a constituency with what each has, from a line of the table each. To whoever enters slips a second time
-// the line ends with the revision.
+// The stations of a constituency with what each has, from a line of the table each: its first
+// columns are the code, the electors, the status and the revision. Others may follow, and none has
+// a blank in it.
 function readStations(text) {
-  const rows = text.split("\n").slice(2).map((line) => /^(\S+) +\d+ (?:-|([a-z]+) +(\d+)( .*)?)$/.exec(line)).filter(Boolean);
-  return rows.map(([, code, status, rev]) => ({ code, status: status || "none", rev: Number(rev || 0) }));
+  const rows = text.split("\n").slice(2).map((line) => line.split(" ").filter(Boolean)).filter((row) => row.length > 2);
+  return rows.map(([code, , status, rev]) => status === "-" ? { code, status: "none", rev: 0 } : { code, status, rev: Number(rev) });
+}
+
+// Asks which stations have what; what was answered.
+async function listStations() {
+  const con = shown.con, answer = await ask("GET", `/now/con/${con}/stations`);
+  if (answer.ok && con === shown.con) {
+    listed = readStations(answer.text);
+    for (const one of listed) revisions[one.code] = one.rev || revisions[one.code];
+  }
+  return answer;
 }
 
 async function findOpen() {
   setBusy(true);
-  const answer = await ask("GET", `/now/con/${shown.con}/stations`);
-  if (answer.ok) {
-    listed = readStations(answer.text);
-    for (const one of listed) revisions[one.code] = one.rev;
-    showOpen();
-  }
+  const answer = await listStations();
+  isListed = isListed || answer.ok;
+  showOpen();
   const open = listed.filter((one) => one.status !== "closed").length;
   say(answer.ok ? T.open_listed({ number: open }) : sentence(answer), answer.ok ? "" : "refused");
   setBusy(false);
 }
 
-// A group of many is folded up, so that nobody has to go through its links; one that somebody opened or folded up stays so.
+// A group of many is folded up, so that nobody has to go through its links; one that somebody
+// opened or folded up stays so.
 function showOpen() {
   const before = Object.fromEntries([...element("open-stations").children].map((one) => [one.dataset.status, one.open]));
   const next = double() ? T.next_second : T.next_close;
   const titles = { none: T.open_none, received: T.open_received({ next }), queried: T.open_queried, corrected: T.open_corrected({ next }) };
-  element("open-stations").replaceChildren(...Object.entries(titles).flatMap(([status, title]) => {
+  element("open-stations").replaceChildren(...(isListed ? Object.entries(titles) : []).flatMap(([status, title]) => {
     const some = listed.filter((one) => one.status === status);
     const list = made("ul", null, ...some.map(({ code }) => made("li", null, Object.assign(made("a", code), { href: `#${code}` }))));
     const group = made("details", null, made("summary", `${title}: ${some.length}`), list);
@@ -642,10 +923,58 @@ function showOpen() {
   }));
 }
 
+// ---- what waits, for whoever sees to it that all is closed
+
+// The histories of this many stations are asked for; and how many returns were closed when, since
+// this page is open.
+const MOST_WAITING = 60, MINUTE = 60_000;
+let closings = [];
+const hourOf = (time) => new Intl.DateTimeFormat(LANGUAGE, { hour: "2-digit", minute: "2-digit" }).format(new Date(time));
+
+function pace() {
+  const [first, last] = [closings[0], closings.at(-1)], minutes = first ? (last.time - first.time) / MINUTE : 0;
+  if (minutes < 1) return [];
+  const number = last.closed - first.closed;
+  return [made("p", T.pace({ minutes: Math.round(minutes), number, rate: Math.round(number / minutes * 60) }))];
+}
+
+// The last command that changed a return, and whether a second entry after it was another one.
+function lastOf(commands) {
+  const last = commands.filter(({ status, answer }) => status === 200 && read(answer).ok !== "same").at(-1);
+  const isOther = commands.some(({ n, act, answer }) => act === "confirm" && read(answer).word === "differs" && (!last || n > last.n));
+  return { last, isOther };
+}
+
+async function showWaiting() {
+  setBusy(true);
+  const answer = await listStations(), found = [];
+  const waiting = listed.filter(({ status }) => status !== "none" && status !== "closed");
+  for (const one of answer.ok ? waiting.slice(0, MOST_WAITING) : []) {
+    const history = await ask("GET", `/now/station/${one.code}/history`);
+    found.push({ ...one, ...lastOf((history.value && history.value.commands) || []) });
+  }
+  found.sort((one, other) => other.isOther - one.isOther || (one.last && other.last ? one.last.n - other.last.n : 0));
+  const rows = found.map(({ code, status, last, isOther }) => {
+    const since = last ? T.waits_since({ name: last.name, time: hourOf(last.time) }) : "";
+    return made("li", null, Object.assign(made("a", code), { href: `#${code}` }), `: ${isOther ? T.differs_now : ""}${stateOf(status)}${since}`);
+  });
+  if (answer.ok) {
+    const more = waiting.length - found.length;
+    element("waiting").replaceChildren(made("h3", T.list_waiting), ...pace(), made("ol", null, ...rows), ...(more ? [made("p", T.more_wait({ number: more }))] : []));
+    element("waiting").scrollIntoView({ block: "nearest" });
+  }
+  say(answer.ok ? T.waiting_shown({ number: waiting.length }) : sentence(answer), answer.ok ? "" : "refused");
+  setBusy(false);
+}
+
 // ---- the beginning
 
 async function choose(con, station) {
-  if (con !== shown.con) listed = [];
+  if (con !== shown.con) {
+    [listed, isListed] = [[], false];
+    element("not-accepted").replaceChildren();
+    element("waiting").replaceChildren();
+  }
   showOpen();
   shown = { con, view: null, station: station || null, found: null, again: false };
   element("con").value = con;
@@ -656,7 +985,9 @@ async function choose(con, station) {
 }
 
 async function begin() {
-  const [own, file] = await Promise.all([ask("HEAD", "/clerk.html"), ask("GET", "/setup.json")]);
+  const [own, file, beside] = await Promise.all([ask("HEAD", "/clerk.html"), ask("GET", "/setup.json"), ask("GET", "/site.json")]);
+  if (beside.ok && beside.value) known = { stations: beside.value.stations || {}, former: beside.value.former || {} };
+  for (const one of Object.values(known.stations)) for (const part of ["name", "place"]) one[part] = isolated(one[part] || "");
   person = { name: own.headers.get("X-Office-Name") || "", role: own.headers.get("X-Office-Role") || "" };
   const bound = own.headers.get("X-Office-Bound-To");
   element("person").textContent = person.name ? `${person.name}, ${ROLES[person.role] || person.role}` : "";
@@ -686,28 +1017,46 @@ async function begin() {
   if (station && !home) element("station").value = station;
   if (!home) return say(UNKNOWN, "refused");
   await choose(home.code, station);
+  if (!station && ["clerk", "second"].includes(person.role)) element("station").focus();
 }
 
-// Goes to another constituency or station, where what was typed is not to be kept; else the choice is as it was.
+// Goes to another constituency or station, where what was typed is not to be kept; else the choice
+// is as it was.
 function goTo(con, station) {
   if (leave()) choose(con, station);
   else [element("con").value, element("station").value] = [shown.con, shown.station || ""];
 }
 
 element("con").addEventListener("change", (event) => goTo(event.target.value, null));
-element("station").addEventListener("change", (event) => {
-  const code = event.target.value.trim(), home = homeOf(code);
-  goTo(home ? home.code : shown.con, code);
+// A code counts once it is typed, also where it is that of the station which is shown: it may be
+// another return by now.
+function pick() {
+  const typed = element("station").value.trim(), [code, ...others] = meant(typed), home = homeOf(code);
+  if (busy) return;
+  if (others.length) {
+    say(T.several_stations({ typed, stations: [code, ...others].slice(0, 5).join(", ") }), "refused");
+    element("station").select();
+  } else goTo(home ? home.code : shown.con, code);
+}
+
+element("station").addEventListener("change", pick);
+element("station").addEventListener("keydown", (event) => {
+  if (event.key !== "Enter" || element("station").readOnly) return;
+  event.preventDefault();
+  pick();
 });
 element("again").addEventListener("click", refresh);
 element("retry").addEventListener("click", refresh);
 element("find").addEventListener("click", findOpen);
-element("open-stations").addEventListener("click", (event) => {
-  // In another window the link is the page with this station.
-  if (event.target.tagName !== "A" || event.ctrlKey || event.metaKey || event.shiftKey) return;
-  event.preventDefault();
-  if (!busy) goTo(shown.con, event.target.textContent);
-});
+element("list-waiting").addEventListener("click", showWaiting);
+for (const list of ["open-stations", "waiting"]) {
+  element(list).addEventListener("click", (event) => {
+    // In another window the link is the page with this station.
+    if (event.target.tagName !== "A" || event.ctrlKey || event.metaKey || event.shiftKey) return;
+    event.preventDefault();
+    if (!busy) goTo(shown.con, event.target.textContent);
+  });
+}
 element("print").addEventListener("click", () => print());
 element("who").addEventListener("click", showHistory);
 element("logout").addEventListener("click", () => {
@@ -727,16 +1076,33 @@ element("compare").addEventListener("click", () => {
   showReturn();
   if (shown.again) element("lodge").elements.slip.focus();
 });
+// Enter and the arrows lead from field to field, as on the paper; after the total Enter sends.
+function onKey(event) {
+  const { target, key, currentTarget: form } = event;
+  const all = [...form.querySelectorAll(".slip input, .counts input:not([type=checkbox])")], at = all.indexOf(target);
+  const step = { Enter: 1, ArrowDown: 1, ArrowUp: -1 }[key];
+  if (at < 0 || !step || (key === "Enter" && at === all.length - 1)) return;
+  event.preventDefault();
+  if (key === "Enter" && target.name === "slip" && isStation(target.value)) checked(form);
+  else if (key !== "Enter" || target.reportValidity()) {
+    const next = all[at + step] || target;
+    next.focus();
+    next.select();
+  }
+}
+
 for (const form of SLIPS.map(element)) {
+  form.addEventListener("keydown", onKey);
   // A figure that is typed again is looked at again.
   form.addEventListener("input", ({ target }) => {
     const box = target.type !== "checkbox" && target.name !== "slip" && warningOf(target);
     if (box) box.remove();
   });
-  form.addEventListener("reset", () => form.querySelectorAll(".warning").forEach((box) => box.remove()));
+  form.addEventListener("reset", () => form.querySelectorAll(".warning, .fault").forEach((box) => box.remove()));
+  form.addEventListener("input", keepDraft);
 }
-// Sentences of this page in place of those of the browser, which may be in another language. A field that is looked at again
-// says nothing of before.
+// Sentences of this page in place of those of the browser, which may be in another language. A
+// field that is looked at again says nothing of before.
 addEventListener("invalid", ({ target }) => {
   target.setCustomValidity("");
   const { valueMissing, patternMismatch } = target.validity;

@@ -4,7 +4,7 @@
     python3 -m unittest tests.deploy.test_roles -k each_role
 
 Each test has a folder of its own, ports that are free and, where it needs one, an nginx of its own.
-So suites run side by side. A test that needs nginx, Chromium, openssl, rsync or systemd-analyze is
+So suites run side by side. A test that needs nginx, Chromium, openssl or systemd-analyze is
 skipped where that is missing. Clients and attackers are processes and threads of this machine, at
 addresses of its own (127.0.0.0/8).
 
@@ -14,18 +14,20 @@ addresses of its own (127.0.0.0/8).
 - The record of commands: test_record, test_recorder, test_replay, test_entries, test_history,
   test_acts_and_record, test_known_setup, test_record_at_its_edges, test_two_of_the_board,
   test_files_in_turn.
-- The machine: test_backup, test_room_for_copies, test_services, test_ports_and_units, test_status.
+- The machine: test_backup, test_room_for_copies, test_copies_elsewhere, test_services,
+  test_ports_and_units, test_status.
 - An office on one computer: test_desk, test_desk_roles.
 - The package and the sites of a computer: test_package, test_office_site, for which root gets a
   machine of its own in memory.
 - Setups and the words of tools: test_setup_from_tables, test_setup_table_faults,
-  test_large_setups, test_setups_as_saved, test_words_of_tools.
+  test_large_setups, test_setups_as_saved, test_words_of_tools, test_files_of_tools.
 - The papers that a board signs: test_papers, test_papers_of_an_evening.
 - The press pages: test_press_pages, test_country_page, test_first_election, test_site_files,
-  test_weights, test_country, test_templates, test_names, test_published_of_one_moment. In a
-  browser: test_shown_pages, test_pictures.
+  test_weights, test_country, test_templates, test_names, test_published_of_one_moment,
+  test_another_column. In a browser: test_shown_pages, test_pictures.
 - The published data: test_data, test_station_files, test_published, test_feed, test_site_openapi.
-- The clerks' page: test_clerks_page, test_clerk_page, test_slips, test_second_entry.
+- The clerks' page: test_clerks_page, test_clerk_page, test_slips, test_typed_slips,
+  test_second_entry.
 - The audit: test_audit_rule, test_audit_commands, test_audit_at_its_limits.
 
 These variables of the environment change a run:

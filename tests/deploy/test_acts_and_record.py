@@ -226,7 +226,7 @@ class Shown(Safeguards):
                 Path("pages/record.csv").write_text(text, encoding="utf-8")
                 Path("head").write_text(json.dumps(record), encoding="utf-8")
                 head_of = press.put_head(Path("pages"), Path("head"))
-                [found] = press_pages.count_pages(site_of, [], "", {}, {}, MOMENT, None, head_of)
+                [found] = press_pages.count_pages(site_of, {}, MOMENT, None, head_of)
                 self.assertEqual(
                     ("no line can be changed" in found, "not the record that was shown" in found),
                     (wanted, not wanted),

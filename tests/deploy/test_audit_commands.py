@@ -45,7 +45,7 @@ s1,3,0,0,60,-1 => papers.csv, line 2: '-1' of station s1 is not a number
 s1,3,0,0,60, => papers.csv, line 2: '' of station s1 is not a number
 s1,3,0,0,60,2.0 => papers.csv, line 2: '2.0' of station s1 is not a number
 s1,three,0,0,60,20 => papers.csv: 'three' is not a number (drawn of station s1)
-s3,1,0,0,10,30 => papers.csv: station s3 is drawn 0 times in 1 draws, and the file says 1
+s3,1,0,0,10,30 => papers.csv: station s3 is drawn 0 times in 1 draw, and the file says 1
 s2,2,0,0,50,30 => papers.csv: station s2 is drawn 0 times in 2 draws, and the file says 2
 s1,2,0,0,60,20/s2,2,0,0,50,30 => papers.csv: station s1 is drawn 3 times \
 in 4 draws, and the file says 2

@@ -75,8 +75,8 @@ class Building(Case):
                 ('note = "Motivo"\n', "", "it lacks note"),
                 ('note = "Motivo"\n', 'note = "Motivo"\nmore = "x"\n', "it has no use for more"),
                 ('note = "Motivo"', 'note = "Motivo {note}"', "note has other places than none"),
-                ("versión {revision}.", "versión {version}.", "other places than ['revision'"),
-                ("(versión {revision})", "", "differs has other places than ['act', 'revision']"),
+                ("con la mesa {station}.", "con la mesa {mesa}.", "other places than ['station']"),
+                ("está mal, {act}.", "está mal.", "differs has other places than ['act']"),
                 ('note = "Motivo"', "note = 3", "note is no text"),
                 ('note = "Motivo"', 'note = "Motivo {"', "note has a brace that is no place"),
                 ('note = "Motivo"', 'note = { other = "a", one = "b" }',
@@ -142,7 +142,7 @@ class Building(Case):
         """No text of a language is the same in the other, but for those that are."""
         english, spanish = tomllib.loads(ENGLISH), tomllib.loads(SPANISH)
         self.assertEqual({key for key in english if english[key] == spanish[key]},
-                         {"total", "file_value", "votes_and_seats"})
+                         {"total", "file_value", "votes_and_seats", "con_state"})
 
 
 class InABrowser(Case):
@@ -182,9 +182,9 @@ class InABrowser(Case):
                              "tilde, cifras, - y _.")
             slip = {"slip": "p1", "votes": [12_345 - 8_000, 1], "blank": 0, "spoiled": 0}
             enter(it, "lodge", slip | {"total": 1})
-            said(it, "las cifras suman 4346 y el total tecleado es 1.")
+            said(it, "las cifras suman 4.346 y el total tecleado es 1.")
             enter(it, "lodge", slip)
-            said(it, "Grabada, versión 1.")
+            said(it, "Grabada.")
             self.assertIn("0 votos", it.text("#view"))
             self.assertEqual(it.run("return document.getElementById('receipt').textContent"
                                     ".includes('Justificante: acta grabada')"), True)

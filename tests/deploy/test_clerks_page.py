@@ -8,7 +8,9 @@ import sys
 from pathlib import Path
 
 from tests.support.case import ROOT, needs
-from tests.support.clerks import choose_con, choose_station, clerks_browser, confirmed, enter, said
+from tests.support.clerks import (
+    choose_con, choose_station, clerks_browser, compare, confirmed, enter, said,
+)
 from tests.support.office import with_stations
 from tests.support.pages import page_of, press
 from tests.support.proxy import office_and_proxy
@@ -16,10 +18,9 @@ from tests.support.shown import shows_well
 from tests.support.site import BOTH, DEPLOY, LATE, STATIONS, SiteCase, plain, ran
 
 
-def close_shown(it, code, revision):
+def close_shown(it, code):
     choose_station(it, code)
-    confirmed(it, "#close button", f"Close the return of {code}, revision {revision - 1}?",
-              f"Done: revision {revision}.")
+    confirmed(it, "#close button", f"Close the return of {code}?", "Done.")
 
 
 def draw(it, *order):
@@ -66,35 +67,39 @@ class ClerksPage(SiteCase):
         it.click("#import button")
         said(it,
              "Lodged 13, the same 1, differing 2, refused 2, unreadable 2. The first that was not "
-             "accepted is row 11, below the header: "
+             "accepted is line 12 of the file: "
              "another return of its station is recorded.")
+        # It is no plain success, and the lines that are to be looked at stay on the page.
+        self.assertEqual(it.run("return [document.getElementById('said').className, "
+                                "document.querySelectorAll('#not-accepted li').length]"),
+                         ["look", 6])
         for station, lodged in LATE.items():
             choose_station(it, station)
             self.assertEqual(it.text("#return"), f"Station {station} has no return yet.")
             self.assertEqual(it.run("return document.activeElement.name"), "slip")
             enter(it, "lodge", lodged)
-            said(it, "Lodged, revision 1.")
+            said(it, "Lodged.")
             it.wait("return document.activeElement.id === 'station'")
         # The slip a second time, wrong and right: what is recorded is not shown meanwhile.
         it.click("#compare")
-        self.assertEqual(it.text("#return"), "Station 04-002-A: received, revision 1.")
+        self.assertEqual(it.text("#return"), "Station 04-002-A: received.")
         enter(it, "lodge", LATE["04-002-A"] | {"votes": [40, 40, 21, 0, 0]})
-        said(it, "Another return of this station is recorded, in revision 1.")
+        compare(it, "Another return of this station is recorded.")
         enter(it, "lodge", LATE["04-002-A"] | {"votes": [400, 40, 21, 0, 0]})
         said(it, "more than the station has electors and agents")
         enter(it, "lodge", LATE["04-002-A"])
-        said(it, "Both entries are the same; recorded in revision 1.")
+        said(it, "Both entries are the same.")
         for station in STATIONS:
-            close_shown(it, station, 2)
+            close_shown(it, station)
         self.stale_part(it, desk)
         it.type("#query input[name=note]", "88 or 38?")
         it.click("#query button")
-        said(it, "Done: revision 3.")
+        said(it, "Done.")
         self.assertEqual((it.visible("#correct"), it.visible("#close")), (True, False))
         enter(it, "correct",
               {"slip": "r315", "votes": [91, 83, 47, 28, 0], "blank": 5, "spoiled": 2})
-        said(it, "Done: revision 4.")
-        close_shown(it, STATIONS[-1], 5)
+        said(it, "Done.")
+        close_shown(it, STATIONS[-1])
         shows_well(it, "clerk")
         self.assertFalse(it.visible("#find"))
         choose_con(it, "c1")
@@ -109,7 +114,7 @@ class ClerksPage(SiteCase):
             self.assertEqual(
                 it.run("return document.querySelector('#lodge .counts span').textContent"), first)
         enter(it, "lodge", {"slip": "p1", "votes": [100, 100], "blank": 0, "spoiled": 0})
-        said(it, "Lodged, revision 1.")
+        said(it, "Lodged.")
 
     def stale_part(self, it, desk):
         """Another clerk queries the return that is shown: what the page sends is of the revision
@@ -119,27 +124,32 @@ class ClerksPage(SiteCase):
                                '{"rev":2,"note":"elsewhere"}').status, 200)
         it.type("#query input[name=note]", "here")
         it.click("#query button")
-        said(it, "Somebody was here before you: it is now at 3.")
+        said(it, "Somebody was here before you.")
         self.assertEqual(it.text("#return p"),
-                         f"Station {STATIONS[0]}: queried, revision 3. Note: elsewhere")
+                         f"Station {STATIONS[0]}: queried. Note: elsewhere")
         it.run("document.getElementById('query').reset()")
         enter(it, "correct",
               {"slip": "r101", "votes": [120, 85, 40, 22, 5], "blank": 4, "spoiled": 2})
-        said(it, "Done: revision 4.")
-        close_shown(it, STATIONS[0], 5)
+        said(it, "Done.")
+        close_shown(it, STATIONS[0])
         choose_station(it, STATIONS[-1])
 
     def boards_part(self, it, desk):
         self.assertEqual(it.text("#person"), "berta, board")
-        confirmed(it, "#certify button", "Certify Montehondo, edition 1?", "Done: edition 2.")
+        confirmed(it, "#certify button", "Certify Montehondo?", "Done.")
         self.assertEqual((it.visible("#reopen"), it.visible("#certify"), it.visible("#import")),
                          (True, False, False))
         choose_con(it, "c1")
-        confirmed(it, "#certify button", "Certify Twin Town, edition 1?",
+        confirmed(it, "#certify button", "Certify Twin Town?",
                   "Stations whose return is not closed: 1. Close them first.")
         # A clerk closes it elsewhere: the page shows what is there once it asks again.
         self.assertEqual(plain(desk.port, "POST", "/station/s1/close", '{"rev":1}').status, 200)
-        confirmed(it, "#certify button", "Certify Twin Town, edition 1?",
+        # Whoever looks at it reads that a lot is needed, and so does whoever certifies.
+        it.click("#again")
+        said(it, "This is what the office has now.")
+        self.assertIn("A lot is needed among A, B, for one seat.", it.text("#view .look"))
+        self.assertTrue(it.visible("#draw"))
+        confirmed(it, "#certify button", "Certify Twin Town?",
                   "A lot is needed among A, B, for one seat.")
         draw(it, "B", "B")
         said(it, "The lot has to name each of these lists once and no other: A, B.")
@@ -148,9 +158,9 @@ class ClerksPage(SiteCase):
                                 "return [...all.map((e) => e.value), "
                                 "all.indexOf(document.activeElement)]"), ["B", "B", 0])
         draw(it, "B", "A")
-        said(it, "Done: edition 2.")
+        said(it, "Done.")
         self.assertFalse(it.visible("#draw"))
-        confirmed(it, "#certify button", "Certify Twin Town, edition 2?", "Done: edition 3.")
+        confirmed(it, "#certify button", "Certify Twin Town?", "Done.")
         it.run("document.querySelector('#vacate select').selectedIndex = 0")
         it.type("#vacate input[name=note]", "moved")
         confirmed(it, "#vacate button", "Ana (A) is gone?", "Done: Abel moves in, place 2.")
@@ -179,10 +189,10 @@ class ClerksPage(SiteCase):
                                  ["s1", True])
                 lodged = {"slip": "p1", "votes": [20, 30], "blank": 1, "spoiled": 0}
                 enter(it, "lodge", lodged)
-                said(it, "Lodged, revision 1.")
+                said(it, "Lodged.")
                 it.click("#compare")
                 enter(it, "lodge", lodged | {"votes": [20, 31]})
-                said(it, "if the recorded one is wrong, tell the office: a clerk corrects it.")
+                compare(it, "if the recorded one is wrong, tell the office: a clerk corrects it.")
                 self.assertEqual([it.visible(f"#{part}")
                                   for part in ("of-con", "choice", "lodge", "close", "query")],
                                  [False, False, True, False, False])
@@ -217,19 +227,19 @@ class ClerksPage(SiteCase):
         """It is short, has a sentence for each refusal, nothing of another site, and its policy
         names its script."""
         text = (DEPLOY / "www/clerk.html").read_text(encoding="utf-8")
-        self.assertLess(len(text.encode()), 51_000)
+        self.assertLess(len(text.encode()), 70_000)
         formats = (ROOT / "docs/FORMATS.md").read_text(encoding="utf-8")
-        answers = formats[formats.index("A refused command has its number"):formats.index(
-            "### What GET shows")]
+        begin = formats.index("The answer to a refused command has the number")
+        answers = formats[begin:formats.index("### What GET shows")]
         words = set(re.findall(r"^\| (?:\d+ \| )?`(\w+)` \|", answers, re.M))
         self.assertEqual(len(words), 35)
         lost = [word for word in words
-                if not re.search(rf"^  {word}: \(a?\)? ?=> [\"`]|^  {word}: \(a?\) => ", text,
+                if not re.search(rf"^{word}: \(a?\) => ", text,
                                  re.M)]
         self.assertEqual(lost, [])
-        self.assertTrue(re.search("^  unavailable: .*it may have been done", text, re.M))
+        self.assertTrue(re.search("^unavailable: .*it may have been done", text, re.M))
         # So do those of requests whose answer is lost.
-        self.assertEqual(re.findall(r'^  (\d+): "[^"]*\bIt may have been done\b', text, re.M),
+        self.assertEqual(re.findall(r'^(\d+): "[^"]*\bIt may have been done\b', text, re.M),
                          ["0", "502", "504"])
         script = re.search("<script>(.*?)</script>", text, re.S)[1]
         wanted = base64.b64encode(hashlib.sha256(script.encode()).digest()).decode()

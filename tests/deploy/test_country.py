@@ -22,8 +22,8 @@ from tests.support.site import DEPLOY, SiteCase, plain, ran, serving
 # takes some minutes.
 COUNTRY_STATIONS = int(os.environ.get("COUNTRY_STATIONS", 20))
 # The limits of the cost of a round of pages to the office, however many stations there are. With
-# --every: seconds of a usual processor. Without the returns: one request of the round, in requests
-# for a return.
+# --every: seconds of a usual processor. Without the returns: the result of one constituency, in
+# requests for a return.
 ROUND_SECONDS = 1.05
 BESIDE_A_RETURN = 10
 # The limit of the cost of a round to press.py, also where it writes every page and file.
@@ -158,7 +158,7 @@ class Country(SiteCase):
             until(lambda: os.path.exists("fresh/setup.json") or process.poll() is not None)
             ends, gets = [spent(process)], []
             # The last round is the third after which nothing changed.
-            while gets.count(53) < 4:
+            while gets.count(1) < 4:
                 found = re.search(r" pages 53 failed 0 GETs (\d+) ",
                                   line := process.stdout.readline())
                 self.assertTrue(found, (line, gets))
@@ -169,7 +169,7 @@ class Country(SiteCase):
             process.terminate()
             process.wait(timeout=PATIENCE)
             process.stdout.close()
-        self.assertEqual(gets[-4:], [53] * 4)
+        self.assertEqual(gets[-4:], [1] * 4)
         return ends[0], max(after - before for before, after in zip(ends, ends[1:-4])), (
             ends[-1] - ends[-4]) / 3
 
@@ -181,15 +181,15 @@ class Country(SiteCase):
         self.assertLess(max(of_all, of_none), PAGES_SECONDS * slow, f"{of_all} s, {of_none} s")
 
     def round_beside_returns(self, desk, stations):
-        """A round of a certified country, beside as many requests for a return."""
-        took, slow = self.round_of(desk, 2 + 52 * 9, "certified"), slowness()
+        """A round of a certified country, beside requests for a return."""
+        took, slow = self.round_of(desk, 1, "certified"), slowness()
         self.assertLess(took, ROUND_SECONDS * slow, slow)
         began = spent(desk.process)
         for name in stations:
             plain(desk.port, "GET", f"/station/{name}")
         of_return = (spent(desk.process) - began) / len(stations)
-        print(f"a GET {took / 470 * 1e3:.2f} ms, that of a return {of_return * 1e3:.2f} ms")
-        self.assertLess(took, 470 * BESIDE_A_RETURN * of_return, of_return)
+        print(f"a result {took / 52 * 1e3:.2f} ms, a return {of_return * 1e3:.2f} ms")
+        self.assertLess(took, 52 * BESIDE_A_RETURN * of_return, of_return)
 
     def test_a_country_of_52(self):
         """An office of 52 constituencies, counted and then certified: its pages have the sums of
@@ -197,9 +197,8 @@ class Country(SiteCase):
         setup, returns = country(COUNTRY_STATIONS)
         files, sums = files_of(returns), summed(returns)
         with without_a_disk(), self.closed_country(setup, files, sums) as desk:
-            # Of each the view, two reports and the view again, and of its stations the table and
-            # the returns.
-            self.round_of(desk, 2 + 52 * 6, "without a certificate, each return published",
+            # The results, and of the stations of each the table and the returns.
+            self.round_of(desk, 1 + 52 * 2, "without a certificate, each return published",
                           "--setup", "setup.toml")
             self.assertEqual({con: read(f"stations-{con}-open.csv") for con in files}, files)
             self.assertEqual(sorted(stations_on_pages()),
@@ -209,12 +208,11 @@ class Country(SiteCase):
             tries(lambda: self.dearest_round(desk, "certified", 2))
             self.assertEqual({con: read(f"stations-{con}-2.csv", "certified") for con in files},
                              files)
-            # Of each the view, seven reports and the view again.
             tries(lambda: self.round_beside_returns(desk, list(returns["c1"])[:20] * 5))
             self.look_at_country(returns, sums)
-            # With the setup every return is published too: the returns of each, and its view once
-            # more.
-            self.round_of(desk, 2 + 52 * 11, "certified, each return published", "--setup",
+            # With the setup every return is published too: the returns of each, and the edition
+            # that they are of.
+            self.round_of(desk, 1 + 52 * 2, "certified, each return published", "--setup",
                           "setup.toml")
             self.assertEqual({con: read(f"stations-{con}-2.csv") for con in files}, files)
             tries(lambda: self.pages_cost_little(desk.port))

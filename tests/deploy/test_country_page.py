@@ -1,5 +1,6 @@
 """The press page of a country."""
 
+import json
 import os
 import re
 import subprocess
@@ -13,21 +14,22 @@ from tests.support import model
 from tests.support.countries import FOUR_BEFORE, count_four, four, setup_of_four, sixty_lists
 from tests.support.desks import answer_of, answering_desk, desk_with, done, modelled
 from tests.support.office import constituency, party_list, profile, station
-from tests.support.pages import TWIN, page_of, press, read, shown_text, site_folder
+from tests.support.pages import page_of, press, read, shown_text, site_folder
 from tests.support.scripts import module
 from tests.support.site import DEPLOY, SiteCase
 
 press_site = module("press_site")
 
-# The sentences of the country's page on the office's own sums.
-SAME = "The office adds up the same seats and votes itself, at one moment."
-OTHER = ("The office was asked for one constituency after the other, and had other sums at the "
-         "end: returns came meanwhile.")
-
 
 def htmls(folder="pages"):
     """The pages of a folder."""
     return sorted(name for name in os.listdir(folder) if name.endswith(".html"))
+
+
+def drawn(name="index.html"):
+    """The groups of dots of a half circle: of whom, how many, and whether they are hollow."""
+    groups = re.findall(r'<g class="([\w-]+)"><path d="([^"]*)"/>(<path class="hole")?', read(name))
+    return [(of, path.count("h0"), bool(hole)) for of, path, hole in groups]
 
 
 class CountryPage(SiteCase):
@@ -40,7 +42,11 @@ class CountryPage(SiteCase):
             page, text = page_of("index.html"), shown_text(read("index.html"))
             for sentence in (
                 "Certified: 5 of 10 seats, in 2 of 4 constituencies. Open: 5 seats.",
-                "Certificate withdrawn: Sur. No seat of theirs is counted here.",
+                "Certificate withdrawn: Sur. No certified seat of theirs is counted here.",
+                # In Sur A 10 (5), B 20 (10); in Oeste D 90 (45, 30), A 7, B 3.
+                "Provisional, with 83.33% of the polling stations counted: 5 more seats, as if the "
+                "votes counted so far were all the votes. They are not the result, and may still "
+                "change. Open constituencies: 2.",
                 "The line marks the majority: 6 of 10 seats.",
                 "5 of 6 returns are closed, 83.33 per cent",
                 # Norte 203 of 1,000, Este 120 of 400, Sur 30 of 300.
@@ -49,14 +55,19 @@ class CountryPage(SiteCase):
                 with self.subTest(sentence=sentence):
                     self.assertIn(sentence, text)
             self.assertEqual(page.tables["Seats and votes of each list"], [
-                ["List", "seats", "votes", "share"], ["B Beta", "3", "193", "42.88 %"],
-                ["A Alpha", "2", "147", "32.66 %"], ["D Delta", "0", "90", "20.00 %"],
-                ["C Gamma", "0", "15", "3.33 %"], ["Total", "5", "445", ""]])
-            self.assertIn('aria-label="Seats as a half circle of dots: B 3, A 2, open 5.',
-                          read("index.html"))
-            dots = re.findall(r'<g class="([\w-]+)"><path d="([^"]*)"', read("index.html"))
-            self.assertEqual([(of, path.count("h0")) for of, path in dots],
-                             [("list-B", 3), ("list-A", 2), ("open-seats", 5)])
+                ["List", "certified seats", "provisional seats", "votes", "share"],
+                ["B Beta", "3", "2 provisional", "193", "42.89 %"],
+                ["D Delta", "0", "3 provisional", "90", "20.00 %"],
+                ["A Alpha", "2", "–", "147", "32.67 %"], ["C Gamma", "0", "–", "15", "3.33 %"],
+                ["Total", "5", "5 provisional", "445", ""]])
+            self.assertIn('aria-label="Seats as a half circle of dots: B 3 and 2 provisional, '
+                          'D 3 provisional, A 2.', read("index.html"))
+            # Those of D and two of B are hollow, and the labels of both have no number.
+            self.assertEqual(drawn(), [("list-B", 3, False), ("list-B", 2, True),
+                                       ("list-D", 3, True), ("list-A", 2, False)])
+            self.assertEqual(sorted(re.findall("<text [^>]*>([^<]*)</text>", read("index.html"))),
+                             ["10", "A 2", "B", "D"])
+            self.assertIn("Hollow dots are provisional seats, which are not the result.", text)
             self.assertEqual([shown_text(item) for item
                               in re.findall("<li>(.*? one more seat .*?)</li>",
                                             read("index.html"))], [
@@ -66,19 +77,16 @@ class CountryPage(SiteCase):
             self.assertEqual(page.tables["Constituencies in the order of their names"][1:], [
                 ["Este certified", "B", "B 2", "100.00 %"],
                 ["Norte certified", "A", "A 2 B 1", "100.00 %"],
-                ["Óeste <3> no certificate yet", "D", "–", "50.00 %"],
-                ["Sur certificate withdrawn", "B", "–", "100.00 %"]])
+                ["Óeste <3> no certificate yet", "D", "provisional: D 3", "50.00 %"],
+                ["Sur certificate withdrawn", "B", "provisional: B 2", "100.00 %"]])
             self.assertEqual([row[0] for row
                               in page_of("count.html").tables["Progress of the constituencies"][
                                   1:]], ["Norte", "Este", "Sur", "Óeste <3>"])
-            self.assertEqual(text.count(SAME), 1)
-            self.assertNotIn(OTHER, text)
             # Without the setup the office says how many seats there are, but nobody knows the
             # electors.
             press(port, folder="without")
             text = shown_text(read("index.html", "without"))
             self.assertIn("Certified: 5 of 10 seats, in 2 of 4 constituencies.", text)
-            self.assertIn(SAME, text)
             self.assertNotIn("Turnout", text)
             # Once everything is certified nothing is open.
             done(office, "/con/sur/certify", {"edition": 3})
@@ -92,7 +100,7 @@ class CountryPage(SiteCase):
                              "Turnout: 18.16 per cent, 454 of 2,500 electors.", "D 3"):
                 with self.subTest(sentence=sentence):
                     self.assertIn(sentence, text)
-            self.assertNotIn("Certificate withdrawn", text)
+            self.assertEqual(re.findall("(?i)withdrawn|provisional|hollow", text), [])
             self.assertNotIn('<g class="open-seats">', read("index.html"))
             # D has three seats of few votes: lists are by seats, and in Oeste by votes.
             lists = page_of("index.html").tables["Seats and votes of each list"]
@@ -105,32 +113,65 @@ class CountryPage(SiteCase):
                     self.assertEqual([row[0][0] for row in page.tables[table][1:4]],
                                      ["D", "A", "B"])
 
-    def test_what_the_office_adds_up(self):
-        """Where it says other sums than the constituencies have, which are asked one after the
-        other, or none, the page says so, or nothing; a text that is none is a failure."""
-        said = ("COUNTRY\nconstituencies 1 certified 1\nstations 1 closed 1\n"
-                "A                     1           100 Alpha\n"
-                "B                     2           100 Beta\n"
-                "total                 3           200\nseats 3 majority 2\n")
-        for country, words, status in ((said, SAME, 0), (404, None, 0), (503, None, 1),
-                                       ("no such text\n", None, 1), (said[:-19], None, 1)):
-            with self.subTest(country=country, words=words, status=status):
-                with answering_desk(TWIN | {"/country": country}) as (port, _):
-                    self.assertIn(f" failed {status} ", press(port, status=status))
-                self.assertEqual(
-                    [one for one in (SAME, OTHER) if one in shown_text(read("index.html"))],
-                    [words] if words else [])
-        for old, new in (("certified 1", "certified 0"), ("closed 1", "closed 0"),
-                         ("  1           100 Alpha", "  2           100 Alpha"),
-                         ("100 Beta", "101 Beta"), ("B   ", "C   "), ("stations 1", "stations 2"),
-                         ("constituencies 1", "constituencies 2")):
-            with self.subTest(old=old, new=new):
-                self.assertIn(old, said)
-                with answering_desk(TWIN | {"/country": said.replace(old, new)}) as (port, _):
-                    press(port)
-                self.assertEqual(
-                    [one for one in (SAME, OTHER) if one in shown_text(read("index.html"))],
-                    [OTHER])
+    def test_provisional_seats(self):
+        """They are on the pages from the first closed return until the certificate, with the word
+        and with how much is counted; seats that a lot would decide are nobody's. Where the folder
+        of the site forbids them they are in no file."""
+        setup = setup_of_four()
+        Path("setup.toml").write_text(setup, encoding="utf-8")
+        with modelled(setup) as (office, port):
+            def pages(folder="pages", **site):
+                press(port, "--setup", "setup.toml", *(site_folder(**site) if site else ()),
+                      folder=folder)
+                return shown_text(read("con-norte.html", folder))
+
+            # Of two votes each the third seat is a matter of a lot.
+            for code in ("n1", "n2"):
+                done(office, f"/station/{code}/lodge",
+                     {"slip": "p1", "votes": [1, 1, 0], "blank": 0, "spoiled": 0})
+            self.assertNotIn("rovisional", pages())
+            self.assertEqual(read("con-norte.csv").splitlines()[1], "A,Alpha,0,0.00,no,,")
+            done(office, "/station/n1/close", {"rev": 1})
+            text = pages()
+            self.assertIn("No certificate yet. A certificate needs every return closed. "
+                          "Provisional, with 50.00% of the polling stations counted (1 of 2): how "
+                          "the 3 seats would go if the votes counted so far were all the votes. "
+                          "They are not the result, and may still change. A lot among A, B would "
+                          "decide 1 of these seats.", text)
+            self.assertEqual(page_of("con-norte.html").tables[
+                "Provisional seats of each list, with 50.00% of the polling stations counted"], [
+                    ["List", "provisional seats"], ["A Alpha", "1 provisional"],
+                    ["B Beta", "1 provisional"], ["C Gamma", "0 provisional"],
+                    ["By lot", "1 provisional"], ["Total", "3 provisional"]])
+            self.assertEqual(drawn("con-norte.html"), [
+                ("list-A", 1, True), ("list-B", 1, True), ("open-seats", 1, True)])
+            self.assertIn("Seats that a lot would decide: 1.", shown_text(read("index.html")))
+            self.assertEqual(read("con-norte.csv").splitlines()[1], "A,Alpha,1,50.00,yes,,1")
+            self.assertEqual(json.loads(read("con-norte.json"))["provisional"], {
+                "status": "lot", "question": 1, "group": ["A", "B"],
+                "seats": {"A": 1, "B": 1, "C": 0}})
+            # In Spanish, and where the law allows none.
+            text = pages("es", site='language = "es"\n')
+            self.assertIn("con el 50,00 % de las mesas escrutado (1 de 2)", text)
+            text = pages("none", site="provisional = false\n")
+            self.assertIn("A certificate needs every return closed. No seat is given.", text)
+            for name in os.listdir("none"):
+                if not name.endswith((".gz", ".schema.json", ".csv")) and name not in (
+                        "datapackage.json", "openapi.json"):
+                    with self.subTest(name=name):
+                        self.assertNotIn("rovisional", read(name, "none"))
+            self.assertEqual(read("con-norte.csv", "none").splitlines()[1], "A,Alpha,1,50.00,yes,,")
+            # The lot decides, and then the board certifies.
+            done(office, "/station/n2/close", {"rev": 1})
+            done(office, "/con/norte/draw", {"edition": 1, "order": ["B", "A"]})
+            text = pages()
+            self.assertIn("Every return is closed; the board has not certified. Provisional, with "
+                          "100.00% of the polling stations counted (2 of 2)", text)
+            self.assertNotIn("would decide", text)
+            self.assertEqual(drawn("con-norte.html"), [("list-B", 2, True), ("list-A", 1, True)])
+            done(office, "/con/norte/certify", {"edition": 2})
+            self.assertNotIn("rovisional", pages())
+            self.assertEqual(drawn("con-norte.html"), [("list-B", 2, False), ("list-A", 1, False)])
 
     def test_a_country_of_many_lists(self):
         """Of lists without a seat the twenty with the most votes have a row each, and the others
@@ -205,11 +246,12 @@ class CountryPage(SiteCase):
                         self.assertRegex(header,
                                          r'<p class="moment">(As the office had it|Changed last) '
                                          r'on <time datetime="\d{4}-')
-                for target, old in (("/con/norte", ["con-norte.html", "stations-norte-1.html"]),
-                                    ("/con/oeste", ["con-oeste.html", "stations-oeste-1.html"]),
-                                    ("/progress", list(first))):
+                for target, old in (("/con/norte/returns", ["con-norte.html",
+                                                            "stations-norte-1.html"]),
+                                    ("/results", list(first))):
                     with self.subTest(target=target, old=old):
                         broken.add(target)
+                        Path("pages/stations-norte-2.csv").unlink()  # it is asked for again
                         process.stdout.readline()
                         self.assertIn(" failed 1 ", process.stdout.readline())
                         self.assertEqual([name for name in htmls()
@@ -231,8 +273,8 @@ class CountryPage(SiteCase):
             press(port, "--setup", "setup.toml", *site_folder(before=FOUR_BEFORE))
         lists = page_of("index.html").tables["Seats and votes of each list"]
         self.assertEqual([row[:2] for row in lists], [
-            ["List", "seats change"], ["B Beta", "3 +1"], ["A Alpha", "2 −1"],
-            ["D Delta", "0 ±0"], ["C Gamma", "0 ±0"], ["Total", "5"]])
+            ["List", "certified seats change"], ["B Beta", "3 +1"], ["D Delta", "0 ±0"],
+            ["A Alpha", "2 −1"], ["C Gamma", "0 ±0"], ["Total", "5"]])
         self.assertEqual(page_of("con-norte.html").tables["Votes of each list"], [
             ["List", "votes", "share change", "takes part"],
             ["A Alpha", "100", "50.00 % +30.00", "yes"], ["B Beta", "90", "45.00 % +15.00", "yes"],
@@ -255,4 +297,4 @@ class CountryPage(SiteCase):
         self.assertEqual(page_of("con-norte.html", "lists").tables["Votes of each list"][0],
                          without)
         self.assertEqual(page_of("index.html", "north").tables["Seats and votes of each list"][0],
-                         ["List", "seats", "votes", "share"])
+                         ["List", "certified seats", "provisional seats", "votes", "share"])

@@ -12,7 +12,9 @@ from pathlib import Path
 
 from tests.support.desks import modelled
 from tests.support.office import constituency, party_list, profile, station, with_stations
-from tests.support.pages import REOPENED, TWIN, page_of, press, read
+from tests.support.pages import (
+    REOPENED, TWIN, page_of, press, read, results_of, with_lists,
+)
 from tests.support.published import (
     AGAIN, ATOM, CERTIFIED, HARE, OPEN, VACATED, a_head, beside, checked, entries, faults,
     json_files, jsonschema, package_faults, publish, rows_of, schema_of,
@@ -47,8 +49,9 @@ def changed(value, path, to):
 def may_be_missing(name, path):
     """Reports of a certificate, what the setup may leave out, and what has names of its own: lists
     and files."""
-    return (path[-1] in IF_CERTIFIED and len(path) <= 2 and path[0] in (*IF_CERTIFIED, "texts")
-            or path == ("view", "entry") or len(path) > 2 and path[:2] == ("seats", "seats")
+    return (path[0] in (*IF_CERTIFIED, "provisional") and len(path) == 1
+            or path == ("view", "entry")
+            or len(path) > 2 and path[1] == "seats" and path[0] in ("seats", "provisional")
             or name == "manifest.json"
             and (path == ("record",) or path[0] == "files" and len(path) > 1))
 
@@ -152,26 +155,25 @@ class Data(SiteCase):
         """results.csv has the electors, where the setup is known, and the votes that shares are
         of."""
         Path("setup.toml").write_text(with_stations(4, 250), encoding="utf-8")
-        lines = TWIN["/con/c1/stations"].splitlines(True)
-        spoiled = OPEN | {
-            "/con/c1/stations": "".join(lines)
-            + "".join(f"s{n}                   300 -\n" for n in (2, 3, 4)),
-            "/con/c1": OPEN["/con/c1"]
-            | {"blank": 8, "spoiled": 5, "closed": 1, "votes": [90, 2], "stations": 4},
-            "/con/c1/tally": ("TALLY c1 Twin Town\nstations 4 closed 1\n"
-                              "valid 100 blank 8 spoiled 5\n"
-                              "A                         90   90.00 in  Alpha\n"
-                              "B                          2    2.00 out Beta\n")}
+        spoiled = OPEN | results_of(with_lists(
+            OPEN["/results"][0], votes=[90, 2], eligible=[True, False], provisional=[3, 0]) | {
+                "status": "open",
+                "blank": 8, "spoiled": 5, "closed": 1, "received": 0, "stations": 4,
+                "threshold": 300}) | {
+            "/con/c1/stations": TWIN["/con/c1/stations"]
+            + "".join(f"s{n}                   300 -\n" for n in (2, 3, 4))}
         for words, electors in ((("--setup", "setup.toml"), "1000"), ((), "")):
             with self.subTest(words=words, electors=electors):
                 publish(spoiled, *words)
                 head, first, second = rows_of("results.csv")
                 self.assertEqual(head, ["con", "con_name", "stations", "closed", "edition",
                                         "certified", "electors", "valid", "blank", "spoiled",
-                                        "list", "name", "votes", "share", "takes_part", "seats"])
+                                        "list", "name", "votes", "share", "takes_part", "seats",
+                                        "provisional"])
                 self.assertEqual(first, ["c1", "Twin Town", "4", "1", "1", "false", electors, "100",
-                                         "8", "5", "A", "Alpha", "90", "90.00", "yes", ""])
-                self.assertEqual(second[6:10] + second[-2:], [electors, "100", "8", "5", "no", ""])
+                                         "8", "5", "A", "Alpha", "90", "90.00", "yes", "", "3"])
+                self.assertEqual(second[6:10] + second[-3:],
+                                 [electors, "100", "8", "5", "no", "", "0"])
 
     def test_names_that_a_spreadsheet_would_compute(self):
         """In the CSV files, and nowhere else, they have an apostrophe in front; the package says

@@ -514,7 +514,7 @@ class TheLifeOfADesk(unittest.TestCase):
 
     def test_a_wrong_command_line_has_status_2(self):
         table = ((("--name", "king:ana"), "the roles are clerk, second, board, station"),
-                 (("--name", "clerk:Ana María"), "is not ROLE:NAME"),
+                 (("--name", "clerk:Ana María"), "Ana María is no name: 1 to 32 letters"),
                  (("--port", "70000"), "'70000' is no port"),
                  (("--name", "clerk:ana", "--name", "board:ANA"), "two have the name ana"),
                  (("--nothing",), "unrecognized arguments: --nothing"))

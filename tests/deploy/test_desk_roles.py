@@ -18,14 +18,15 @@ sys.path.insert(0, str(DEPLOY))
 import desk_roles
 
 REPORTS = ("tally", "seats", "quotients", "awards", "quota", "short", "holders", "past",
-           "provisional", "stations", "returns")
+           "provisional", "result", "stations", "returns")
 OF_STATION = ("lodge", "query", "correct", "close", "confirm")
 OF_CON = ("draw", "certify", "reopen", "vacate", "import", "import/semicolon", "trial",
           "trial/semicolon")
 LONGEST, TOO_LONG = "c" * 16, "c" * 17
 TARGETS = [
-    "/progress", "/country", "/station/s1", "/con/c1", *(f"/con/c1/{name}" for name in REPORTS),
-    "/now/progress", "/now/country", "/now/station/s1", "/now/con/c1",
+    "/progress", "/country", "/results", "/station/s1", "/con/c1",
+    *(f"/con/c1/{name}" for name in REPORTS),
+    "/now/progress", "/now/country", "/now/results", "/now/station/s1", "/now/con/c1",
     *(f"/now/con/c1/{name}" for name in REPORTS), "/now/station/s1/history",
     *(f"/station/s1/{act}" for act in OF_STATION), *(f"/con/c1/{act}" for act in OF_CON),
     "/clerk.html", "/logout", "/setup.json", "/", "/index.html", "/con-c1.json", "/feed.atom",

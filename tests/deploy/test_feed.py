@@ -8,7 +8,7 @@ from pathlib import Path
 
 from tests.support.desks import answering_desk
 from tests.support.office import with_stations
-from tests.support.pages import REOPENED, TWIN, press, read
+from tests.support.pages import REOPENED, RESULT, TWIN, press, read, results_of
 from tests.support.published import (
     AGAIN, CERTIFIED, OPEN, VACATED, a_head, beside, checked, entries, json_files, package_faults,
     publish, schema_of,
@@ -18,6 +18,10 @@ from tests.support.site import DEPLOY, EXAMPLES, SiteCase, plain, ran, readme_el
 
 WITHDRAWN = ("reopening", "Twin Town: the certificate of edition 3 is withdrawn", "a <recount>")
 GONE = ("vacancy", "Twin Town: A, place 1 (Ana), is gone", "resigned <today>")
+# Of the seats until they are others, or certified.
+PROVISIONAL = ("provisional",
+               "Twin Town: provisional seats, with 100.00% of the polling stations counted",
+               "Provisional, not the result: B 2, A 1")
 ANOTHER = ("certificate", "Twin Town: certified in edition 5", "A 2, B 1")
 
 
@@ -26,39 +30,40 @@ class Feed(SiteCase):
         """Certified, vacated, reopened, certified again: an entry each, which keeps its moment,
         though press.py is started each time."""
         Path("setup.toml").write_text(with_stations(1), encoding="utf-8")
-        gone = {"gone": VACATED["/con/c1"]["gone"]}
+        gone = {"gone": VACATED["/results"][0]["gone"]}
         seen, wanted = {}, []
         for answers, new in ((OPEN, []), (TWIN, [CERTIFIED]), (TWIN, []), (VACATED, [GONE]),
-                             (REOPENED | {"/con/c1": REOPENED["/con/c1"] | gone}, [WITHDRAWN]),
-                             (AGAIN | {"/con/c1": AGAIN["/con/c1"] | gone}, [ANOTHER])):
+                             (REOPENED | results_of(REOPENED["/results"][0] | gone),
+                              [PROVISIONAL, WITHDRAWN]),
+                             (AGAIN | results_of(AGAIN["/results"][0] | gone), [ANOTHER])):
             with self.subTest(answers=answers, new=new):
                 publish(answers, "--setup", "setup.toml")
-                wanted = new + wanted
+                wanted = new + [one for one in wanted if one != PROVISIONAL]
                 found = entries()
                 self.assertEqual([one[1:4] for one in found], wanted)
                 for of_entry, *_, moment in found:
                     self.assertEqual(seen.setdefault(of_entry, moment), moment)
                 time.sleep(1.1)
-        self.assertEqual(len(seen), 4)
+        self.assertEqual(len(seen), 5)
         # The folder was emptied: the same again under the same names, and of now.
         last = max(seen.values())
         shutil.rmtree("pages")
         publish(answers, "--setup", "setup.toml")
         found = entries()
-        self.assertEqual({one[0] for one in found}, set(seen))
+        seen = {one[0] for one in found} & set(seen)
+        self.assertEqual((len(found), len(seen)), (4, 4))
         self.assertEqual([one[1:4] for one in found], [GONE, ANOTHER, WITHDRAWN, CERTIFIED])
         self.assertTrue(all(one[4] > last for one in found))
         # A feed that cannot be read is one that is not there.
         Path("pages/feed.atom").write_text("<feed", encoding="utf-8")
         publish(answers, "--setup", "setup.toml")
-        self.assertEqual({one[0] for one in entries()}, set(seen))
+        self.assertEqual({one[0] for one in entries()}, seen)
 
     def test_texts_in_the_feed(self):
         """Whatever is in a name or in a note, the feed is XML, and keeps its moments."""
-        texts = TWIN | {target: said.replace("Twin Town", "A & <B> \uffff")
-                        for target, said in TWIN.items() if isinstance(said, str)}
-        texts["/con/c1"] = TWIN["/con/c1"] | {"gone": [{
-            "list": "A", "note": "]]></summary> \ufffe \x7f \U0001f5f3", "place": 1}]}
+        texts = TWIN | results_of(RESULT | {
+            "name": "A & <B> \uffff",
+            "gone": [["A", 1, "]]></summary> \ufffe \x7f \U0001f5f3"]]})
         publish(texts)
         first = entries()
         self.assertEqual([one[1:4] for one in first], [
@@ -76,21 +81,19 @@ class Feed(SiteCase):
         [first] = entries()
         publish(OPEN)
         self.assertEqual(entries(), [])
-        other = TWIN | {target: said.replace("edition 5", "edition 3") if isinstance(said, str)
-                        else said | {"edition": 3, "note": ""} for target, said in AGAIN.items()
-                        if target.startswith("/con/c1") and target != "/con/c1/past"}
+        other = TWIN | results_of(AGAIN["/results"][0] | {"edition": 3, "note": "", "past": []})
         publish(other)
         [second] = entries()
         self.assertEqual((second[1:3], second[3]), (CERTIFIED[:2], "A 2, B 1"))
         self.assertNotEqual(second[0], first[0])
-        # Two constituencies, of which one is not answered for, and then none.
+        # Two constituencies, of which nobody answers for one, and then for none.
         two = beside(TWIN)
         publish(two)
         both = entries()
         self.assertEqual([one[2] for one in both], [CERTIFIED[1]] * 2)
-        for broken in ({"/con/c2": 503}, {"/con/c1/tally": "no such text\n"}, {"/progress": 503}):
+        for broken in (503, "no such text\n", [RESULT, {"con": "c2"}]):
             with self.subTest(broken=broken):
-                publish(two | broken, status=1)
+                publish(two | {"/results": broken}, status=1)
                 self.assertEqual(entries(), both)
         # The second of two offices is silent.
         with answering_desk(TWIN) as (port, _):
@@ -128,5 +131,5 @@ class Feed(SiteCase):
                     for name in json_files():
                         self.assertEqual(checked(schema_of(name), json.loads(read(name))), [], name)
                     self.assertEqual(package_faults(), [])
-                    self.assertEqual([one[1:4] for one in entries()],
+                    self.assertEqual([one[1:4] for one in entries() if one[1] != "provisional"],
                                      [said for *_, said in reversed(steps[:n])])

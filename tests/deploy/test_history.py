@@ -182,11 +182,13 @@ class History(SiteCase):
             shown_there = ("return [...document.querySelectorAll('#history li')].map((e) => "
                            "e.textContent)")
             seen = {"clara": ["clara (clerk) entered it: slip p1, A 120, B 17, blank 2, spoiled 1. "
-                              "Done: revision 1.",
+                              "Done.",
                               "sara (second entry) entered it a second time: slip p1, A 120, B 71, "
-                              "blank 2, spoiled 1. It was refused: differs.",
+                              "blank 2, spoiled 1. It was refused: Another return of this station "
+                              "is recorded. Compare both with the slip; if the recorded one is "
+                              "wrong, query and correct it.",
                               "sara (second entry) queried it: “<b>71</b> for B”. "
-                              "Done: revision 2.",
+                              "Done.",
                               "berta (board) closed it. It was refused: the name may not do it."],
                     "sara": ["clara (clerk) entered it. Done.",
                              "sara (second entry) entered it a second time. It was refused.",

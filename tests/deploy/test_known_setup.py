@@ -72,7 +72,7 @@ class Proxy(Safeguards):
         text = (DEPLOY / "www/clerk.html").read_text(encoding="utf-8")
         self.assertIn('{ "Office-Setup": setupHash }', text)
         self.assertIn("setupHash = crypto.subtle ? await hashOf(file.text)", text)
-        self.assertRegex(text, '(?m)^  409: "Nothing was done: the setup is another one')
+        self.assertRegex(text, '(?m)^ *409: "Nothing was done: the setup is another one')
 
 
 class Record(Safeguards):

@@ -186,7 +186,7 @@ class Divided(Case):
                 self.write(PROFILE + text)
                 self.assertIn(said, self.split(1, status=1))
         self.write(PROFILE + constituency("c1", *stations, more='size = "large"\n'))
-        self.assertEqual(self.split(1), "office 1: 1 constituencies, 5001 stations\n")
+        self.assertEqual(self.split(1), "office 1: 1 constituency, 5001 stations\n")
 
     def test_the_sum_of_a_large_constituency(self):
         """5,000 times a million is the limit."""
@@ -266,7 +266,7 @@ class Divided(Case):
         self.assertIn("setup-2.toml of another division", done.stderr)
         self.assertEqual(
             self.split(2),
-            "office 1: 1 constituencies, 2 stations\noffice 2: 1 constituencies, 1 stations\n",
+            "office 1: 1 constituency, 2 stations\noffice 2: 1 constituency, 1 station\n",
         )
         self.assertFalse(
             [name for name in os.listdir(self.folder / "parts") if name.startswith(".")]

@@ -4,7 +4,7 @@ feed.
 
 import re
 
-from tests.support.pages import REOPENED, TWIN, Page, read
+from tests.support.pages import REOPENED, TWIN, Page, read, renamed, results_of
 from tests.support.rounds import OfPages
 
 from press_names import closed, isolated  # isort: skip
@@ -29,21 +29,14 @@ class Names(OfPages):
         """Names of a constituency, a list, a candidate, a station, and notes."""
         names = {"Twin Town": f"{TURNED}\u2069 <Town>", "Alpha": f"{TURNED}A", "Beta": f"{TURNED}B",
                  "Ana": f"{TURNED}C", "Bea": f"{TURNED}D"}
-
-        def renamed(text):
-            return re.sub("|".join(names), lambda found: names[found[0]], text)
-
-        gone = [{"list": "A", "note": f"{TURNED}E", "place": 1}]
-        for answers, view in ((TWIN, {"gone": gone}),
+        gone = [["A", 1, f"{TURNED}E"]]
+        for answers, more in ((TWIN, {"gone": gone}),
                               (REOPENED, {"gone": gone, "note": f"{TURNED}F"})):
-            answers = {target: renamed(said) if isinstance(said, str) else said
-                       for target, said in answers.items()}
-            answers["/con/c1"] = answers["/con/c1"] | view
-            self.publish(answers, {"stations.csv": f"station,name\ns1,{TURNED}G\n",
-                                   "map.svg": '<svg viewBox="0 0 1 1"><path id="c1" d=""/></svg>'})
+            [result] = answers["/results"]
+            site = {"stations.csv": f"station,name\ns1,{TURNED}G\n",
+                    "map.svg": '<svg viewBox="0 0 1 1"><path id="c1" d=""/></svg>'}
+            self.publish(renamed(answers | results_of(result | more), names), site)
             for page, text in self.pages().items():
-                # (each line of the office's own texts is a paragraph, which a name ends)
-                text = re.sub("<pre .*?</pre>", "", text, flags=re.S)
                 alone = re.sub("<bdi>[^<]*</bdi>|\u2068[^<\u2069]*\u2069", "", text)
                 with self.subTest(page=page, certified=answers is not REOPENED):
                     self.assertNotEqual(text.count("\u202e"), 0)

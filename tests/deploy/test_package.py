@@ -1,5 +1,6 @@
 """The Debian package: its bytes, what it says of itself, its units, and what lintian says."""
 
+import gzip
 import hashlib
 import json
 import os
@@ -78,7 +79,7 @@ class Package(Case):
         """Nothing is written then."""
         Path("text").write_text("no program", encoding="utf-8")
         for words, status, fault in (
-                (["text", "--to", "to"], 1, "text is no program for amd64 or arm64"),
+                (["text", "--to", "to"], 1, "text is no program for amd64"),
                 (["nonesuch", "--to", "to"], 1, "nonesuch: No such file"),
                 ([], 2, "name a program"), ([PROGRAM, "--show", "x"], 2, "name a program"),
                 (["--show", "text"], 1, "dpkg-deb")):
@@ -98,6 +99,51 @@ class Package(Case):
         self.assertIn("M deploy/press.css", done.stderr)
         self.assertFalse(Path("to").exists())
 
+    @needs("dpkg-deb", "git")
+    def test_the_manual_pages(self):
+        """They have what the program and office-site print of themselves, and no line is lost."""
+        root = unpacked(made_once(), "all") / "usr/share/man"
+        # (the program calls itself as its file is called)
+        Path("office").symlink_to(PROGRAM)
+        program = Path.cwd() / "office"
+        of_program = [program, "--help"], [program, "allot", "--help"]
+        for name, section, words in (("office", 1, of_program),
+                                     ("office-site", 8, ([DEPLOY / "office-site", "--help"],))):
+            with self.subTest(name=name):
+                text = gzip.decompress(
+                    (root / f"man{section}/{name}.{section}.gz").read_bytes()).decode()
+                self.assertRegex(text, rf'^\.TH {name.upper()} {section} \d{{4}}-\d\d-\d\d ')
+                plain = re.sub(r"^\\&", "", text, flags=re.M)
+                plain = plain.replace("\\-", "-").replace("\\e", "\\")
+                for each in words:
+                    done = subprocess.run(each, capture_output=True, text=True, timeout=PATIENCE,
+                                          env={**os.environ, "COLUMNS": "80"})
+                    self.assertIn((done.stdout or done.stderr).strip("\n"), plain)
+
+    @needs("dpkg-deb", "git")
+    def test_where_the_documents_say_that_tools_are(self):
+        """Each tool and example that GUIDE and deploy/README.md name is where README.Debian and
+        GUIDE say that the package has it."""
+        root = unpacked(made_once(), "all")
+        documents = root / "usr/share/doc/office"
+        said = (documents / "README.Debian").read_text(encoding="utf-8")
+        for place in ("/usr/lib/office/NAME", "/usr/share/doc/office/examples/NAME"):
+            self.assertIn(place, said)
+        guide = (documents / "docs/GUIDE.md").read_text(encoding="utf-8")
+        self.assertIn("`/usr/lib/office/NAME` in that of `deploy/NAME`", guide)
+        text = guide + (documents / "deploy/README.md").read_text(encoding="utf-8")
+        code = "\n".join(re.findall(r"^    .*|`[^`\n]+`", text, re.M))
+        named = set(re.findall(r"(?<![\w./])deploy/([a-z][\w.-]*)", code))
+        self.assertLess({"desk", "setup-from-tables", "audit.py", "papers"}, named)
+        self.assertEqual({name for name in named if not (root / "usr/lib/office" / name).exists()},
+                         {"make-deb"})
+        examples = set(re.findall(r"(?<![\w./])(examples/[\w./-]*\w)", code))
+        self.assertGreater(len(examples), 4)
+        self.assertEqual({name for name in examples if not (documents / name).exists()}, set())
+        installed = set(re.findall(r"/usr/lib/office/[\w.-]*\w", code))
+        self.assertEqual({name for name in installed if not (root / name[1:]).exists()},
+                         {"/usr/lib/office/NAME"} & installed)
+
     @needs("dpkg-deb", "git", "lintian")
     def test_lintian_finds_no_error(self):
         done = subprocess.run(
@@ -112,7 +158,7 @@ class Package(Case):
         said = ran("dpkg-deb", "--field", made_once(), "Depends")
         names = set(re.findall(r"(?:^|[,|] )([a-z0-9.-]+)", said.strip()))
         self.assertEqual(names, {"libc6", "nginx-light", "nginx", "nftables", "openssl", "python3",
-                                 "python3-jinja2", "rsync", "systemd"})
+                                 "python3-jinja2", "systemd"})
         root = unpacked(made_once(), "all")
         have = {file.name for file in (root / "usr/lib/office").iterdir()}
         tools = {file.name for file in DEPLOY.iterdir()

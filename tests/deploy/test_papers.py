@@ -257,8 +257,8 @@ class Refusals(OfPapers):
             copy_of(statement)
             for kind in ("count", "proclamation", "acts", "doubles"):
                 with self.subTest(said=said, kind=kind):
-                    self.refuses("refused: montehondo: what is recorded differs when it is counted "
-                                 f"again ({said}", kind)
+                    self.refuses("refused: constituency montehondo: what is recorded differs when "
+                                 f"it is counted again ({said}", kind)
         copy_of("DELETE FROM counts WHERE station = '04-002-A' AND item = 0")
         self.refuses("rows that no office has", "doubles")
         self.refuses("(seats)", "acts", "--language", "es",
@@ -266,8 +266,8 @@ class Refusals(OfPapers):
 
     def test_a_constituency_that_is_not_ready(self):
         copy_of(*taken_out("04-001-B"))
-        self.refuses("montehondo: 1 of 15 stations are not closed, and an act needs all", "count")
-        self.refuses("montehondo: 1 of 15 stations are not closed", "acts")
+        self.refuses("montehondo: stations that are not closed: 1 of 15; an act needs", "count")
+        self.refuses("montehondo: stations that are not closed: 1 of 15", "acts")
         self.refuses("montehondo: it is not certified", "proclamation")
         self.refuses("04-001-B: its return is not closed", "doubles", "--station", "04-001-B")
         self.refuses("no está proclamado", "proclamation", "--language", "es")
@@ -280,8 +280,8 @@ class Refusals(OfPapers):
 
     def test_what_is_no_copy(self):
         copy_of()
-        Path(f"{COPY}-wal").write_bytes(b"")
-        self.refuses(f"refused: {COPY}-wal is beside {COPY}: ", "acts")
+        Path(f"{COPY}-wal").write_bytes(bytes(32))
+        self.refuses(f"refused: {COPY}-wal is beside {COPY}, and may have acts", "acts")
         Path(f"{COPY}-wal").unlink()
         self.refuses("failed: nonesuch.db is not there", "acts", copy="nonesuch.db", status=2)
         Path("text.db").write_text("no database", encoding="utf-8")
@@ -318,7 +318,7 @@ class Refusals(OfPapers):
         copy_of()
         Path("site").mkdir()
         for text in ("board = 3", "board = [3]", 'board = [{name = "Ana"}]', "place = 3",
-                     'board = [{name = "Ana", role = ""}]', 'date = "2026-11-29"',
+                     'board = [{name = "Ana", role = ""}]', 'date = "29 November"',
                      'board = [{name = "Ana", role = "member", age = 3}]'):
             Path("site/site.toml").write_text(text, encoding="utf-8")
             with self.subTest(text=text):
@@ -436,7 +436,7 @@ class OfTheRecord(OfPapers):
     def test_records_that_are_refused(self):
         copy_of()
         recorded(also=self.AGAIN[:1])
-        self.refuses("refused: montehondo: the record has later acts on montehondo than the copy",
+        self.refuses("refused: constituency montehondo: the record has later acts on montehondo",
                      "acts", "--record", "commands.log")
         recorded(also=self.AGAIN)
         self.refuses("the record has later acts on 04-002-A than the copy", "doubles", "--record",

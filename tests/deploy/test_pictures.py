@@ -154,16 +154,17 @@ class Pictures(Case):
             with clerks_site(office, "clara", "clerk") as address:
                 opened(it, address)
                 it.size(1280, 900)
-                self.tabbed(it, "station")
+                # It is where somebody types first.
+                self.assertEqual(it.run("return document.activeElement.id"), "station")
                 keys(it, "s1", TAB)
                 it.wait("return document.activeElement.name === 'slip'")
                 keys(it, "p1", TAB, "100", TAB, "99", TAB, "1", TAB, "0", TAB, "200", ENTER)
-                it.wait(READY, "Lodged, revision 1.")
+                it.wait(READY, "Lodged.")
                 it.wait("return document.activeElement.id === 'station'")
                 self.tabbed(it, "Close this return")
                 keys(it, ENTER)
-                self.assertEqual(it.accept(), "Close the return of s1, revision 1?")
-                it.wait(READY, "Done: revision 2.")
+                self.assertEqual(it.accept(), "Close the return of s1?")
+                it.wait(READY, "Done.")
                 it.wait("return document.activeElement.id === 'station'")
                 self.tabbed(it, "logout")
                 keys(it, ENTER)
@@ -178,8 +179,8 @@ class Pictures(Case):
                 it.wait(READY, "This is what the office has now.")
                 self.tabbed(it, "Certify this constituency")
                 keys(it, ENTER)
-                self.assertEqual(it.accept(), "Certify Twin Town, edition 1?")
-                it.wait(READY, "Done: edition 2.")
+                self.assertEqual(it.accept(), "Certify Twin Town?")
+                it.wait(READY, "Done.")
         self.assertEqual((json.loads(office.ask("GET", "/station/s1")[1])["votes"],
                           json.loads(office.ask("GET", "/con/c1")[1])["seats"]),
                          ([100, 99], [2, 1]))

@@ -1,7 +1,9 @@
 """Who reaches the office on its computer, by nftables and the units; the proxy as a service; its
 ciphers."""
 
+import contextlib
 import ctypes
+import io
 import os
 import re
 import socket
@@ -13,6 +15,7 @@ from tests.support.case import needs
 from tests.support.desks import recording_desk
 from tests.support.running import PATIENCE
 from tests.support.safeguards import Safeguards, site
+from tests.support.scripts import loaded, module
 from tests.support.site import DEPLOY
 
 STEPS = (DEPLOY / "BY_HAND.md").read_text(encoding="utf-8")
@@ -114,6 +117,64 @@ class Ports(Safeguards):
         print(found, file=sys.stderr) if found != wanted else None
         for listener in listeners:
             listener.close()
+        return int(found != wanted)
+
+    @needs("nft", "ip", "grep")
+    def test_open_port_of_office_site(self):
+        """The rules of office-site, loaded by its unit in a network of its own: nobody but root
+        reaches a desk, and with --open-port everybody, in either order."""
+        if os.geteuid():
+            self.skipTest("it needs root")
+        child = os.fork()
+        if not child:
+            try:
+                os._exit(self.with_an_open_port())
+            except BaseException as error:  # whatever it is, the child ends here
+                print(repr(error), file=sys.stderr)
+                os._exit(99)
+        status = os.waitstatus_to_exitcode(os.waitpid(child, 0)[1])
+        if status == 77:
+            self.skipTest("no network of its own, or no nftables, on this machine")
+        self.assertEqual(status, 0)
+
+    @staticmethod
+    def with_an_open_port():
+        if ctypes.CDLL(None, use_errno=True).unshare(NEW_NETWORK):
+            return 77
+        subprocess.run(["ip", "link", "set", "lo", "up"], check=True, timeout=PATIENCE)
+        probe = subprocess.run(["nft", "list", "tables"], capture_output=True, timeout=PATIENCE)
+        if probe.returncode:
+            return 77
+        # (a user who may not read Python's own files has loaded what it needs)
+        "127.0.0.1".encode("idna")
+        tool, machine = loaded("office-site"), module("site_machine").Machine(Path.cwd())
+        tool.SHARE = DEPLOY / "package"
+        site = machine.at("/etc/office/one")
+        site.mkdir(parents=True)
+        (site / "ports").write_text("DESK=8080\nREAD=8180\n", encoding="utf-8")
+        unit = (DEPLOY / "package/office-ports.service").read_text(encoding="utf-8")
+        acts = dict(re.findall(r"^(ExecStart|ExecReload)=/bin/sh -c '(.*)'$", unit, re.M))
+        found = []
+        with (socket.create_server(("127.0.0.1", 8080), backlog=64),
+              socket.create_server(("127.0.0.1", 8180), backlog=64)):
+            # None asks for nothing: what was asked for before stays.
+            for act, asked in (("ExecStart", True), ("ExecReload", None), ("ExecReload", "again"),
+                               ("ExecReload", True), ("ExecStart", "again")):
+                if asked == "again":
+                    machine.at(tool.RULES).unlink()
+                with contextlib.redirect_stdout(io.StringIO()):
+                    tool.write_rules(machine, None if asked == "again" else asked)
+                rules = machine.at(tool.RULES).read_text(encoding="utf-8")
+                for user in ("office-recorder", "office-press"):
+                    rules = rules.replace(user, str(USERS[user]))
+                Path("rules").write_text(rules, encoding="utf-8")
+                words = acts[act].replace(tool.RULES, "rules").replace("/usr/sbin/nft", "nft")
+                done = subprocess.run(["/bin/sh", "-c", words], timeout=PATIENCE)
+                found.append((done.returncode, reaches(8080, 0), reaches(8080, USERS["nobody"]),
+                              reaches(8180, USERS["nobody"])))
+        is_open, is_closed = (0, True, True, True), (0, True, False, False)
+        wanted = [is_open, is_open, is_closed, is_open, is_closed]
+        print(found, file=sys.stderr) if found != wanted else None
         return int(found != wanted)
 
     def test_what_the_units_and_the_proxy_ask(self):

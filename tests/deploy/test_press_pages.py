@@ -11,7 +11,8 @@ from tests.support.case import ROOT
 from tests.support.desks import answering_desk, done, modelled
 from tests.support.office import PROFILE, profile, with_stations
 from tests.support.pages import (
-    OF_STATIONS, REOPENED, TWIN, page_of, press, read, shown_text, site_folder,
+    REOPENED, RESULT, TWIN, WITHDRAWN, page_of, press, read, renamed, results_of,
+    shown_text, site_folder,
 )
 from tests.support.record import LODGED
 from tests.support.running import PATIENCE, until
@@ -25,15 +26,14 @@ LOTS = (("dhondt", "fixed", [1, 2], False), ("dhondt", "alternating", [2, 1], Tr
 
 class PressPages(SiteCase):
     def test_a_page_of_the_press(self):
-        """Twin Town: every number of the office's texts is in a table, and the texts are there word
-        for word."""
+        """Twin Town: every number of its result is in a table. The office is asked for the results,
+        the returns, and once more for the edition that these are of."""
         Path("setup.toml").write_text(with_stations(1), encoding="utf-8")
         with answering_desk(TWIN) as (port, asked):
             last = press(port, "--setup", "setup.toml")
             self.assertTrue(
-                re.fullmatch(r"\d\d:\d\d:\d\d pages 2 failed 0 GETs 13 in \d+\.\d s", last), last)
-            self.assertEqual((len(asked), [target for target in asked if target in OF_STATIONS]),
-                             (13, ["/con/c1/returns"]))
+                re.fullmatch(r"\d\d:\d\d:\d\d pages 2 failed 0 GETs 3 in \d+\.\d s", last), last)
+            self.assertEqual(asked, ["/results", "/con/c1/returns", "/con/c1"])
         page = page_of("con-c1.html")
         self.assertEqual(page.figures, 2)
         self.assertEqual(page.tables["Seats of each list"],
@@ -56,27 +56,23 @@ class PressPages(SiteCase):
         text = read("con-c1.html")
         self.assertIn("A lot was drawn: first B, then A.", text)
         self.assertIn("No certificate was withdrawn.", text)
-        for target, said in TWIN.items():
-            with self.subTest(target=target, said=said):
-                if target.startswith("/con/c1/") and target not in OF_STATIONS:
-                    self.assertIn(f">{said}</pre>", text)
         self.assertEqual(text.count("h0"), 3)
         self.assertEqual(read("con-c1.csv"),
-                         "list,name,votes,share,takes_part,seats\nA,Alpha,100,50.00,yes,1\n"
-                         "B,Beta,100,50.00,yes,2\n")
+                         "list,name,votes,share,takes_part,seats,provisional\n"
+                         "A,Alpha,100,50.00,yes,1,1\nB,Beta,100,50.00,yes,2,2\n")
         self.assertEqual(read("results.csv"),
                          "con,con_name,stations,closed,edition,certified,electors,valid,blank,"
-                         "spoiled,list,name,votes,share,takes_part,seats\n"
-                         "c1,Twin Town,1,1,3,true,300,200,0,0,A,Alpha,100,50.00,yes,1\n"
-                         "c1,Twin Town,1,1,3,true,300,200,0,0,B,Beta,100,50.00,yes,2\n")
+                         "spoiled,list,name,votes,share,takes_part,seats,provisional\n"
+                         "c1,Twin Town,1,1,3,true,300,200,0,0,A,Alpha,100,50.00,yes,1,1\n"
+                         "c1,Twin Town,1,1,3,true,300,200,0,0,B,Beta,100,50.00,yes,2,2\n")
         self.assertEqual(read("stations-c1-3.csv"),
                          "station,slip,blank,spoiled,A,B\ns1,p1,0,0,100,100\n")
         self.assertEqual(read("index.csv"),
                          "con,stations,missing,received,queried,corrected,closed,edition,"
                          "certified\nc1,1,0,0,0,0,1,3,true\n")
         found = json.loads(read("con-c1.json"))
-        self.assertEqual((found["view"], found["texts"]["seats"]),
-                         (TWIN["/con/c1"], TWIN["/con/c1/seats"]))
+        self.assertEqual((found["view"], found["seats"]["seats"]),
+                         (TWIN["/con/c1"], {"A": 1, "B": 2}))
         self.assertEqual(json.loads(read("setup.json")), [{
             "code": "c1", "name": "Twin Town", "seats": 3, "method": "dhondt", "threshold": 0,
             "base": "valid", "lot": "fixed",
@@ -136,9 +132,7 @@ class PressPages(SiteCase):
 
     def test_a_code_in_capitals(self):
         """Codes differ by the case of their letters: each file has them as they are."""
-        answers = {target.replace("c1", "C1"): said.replace("c1", "C1") if isinstance(said, str)
-                   else said | {"con": "C1"}
-                   for target, said in TWIN.items()}
+        answers = results_of(RESULT | {"con": "C1"})
         with answering_desk(answers) as (port, _):
             press(port)
         self.assertEqual(read("index.csv").splitlines()[1:], ["C1,1,0,0,0,0,1,3,true"])
@@ -149,7 +143,7 @@ class PressPages(SiteCase):
     def test_a_page_without_a_certificate(self):
         """A reopened constituency: the certificate is shown as withdrawn, on top and with its note,
         and no seat as given. One that never had a certificate has none yet."""
-        never = REOPENED | {"/con/c1/past": TWIN["/con/c1/past"]}
+        never = REOPENED | results_of(WITHDRAWN | {"past": []})
         for desk, state in ((REOPENED, "Certificate withdrawn"), (never, "No certificate yet")):
             with self.subTest(desk=desk, state=state):
                 with answering_desk(desk) as (port, _):
@@ -158,13 +152,13 @@ class PressPages(SiteCase):
                 self.assertIn(f">{state}, edition 4</p>\n<h1><bdi>Twin Town</bdi></h1>", text)
                 self.assertIn(f"<b>{state}.</b>", text)
                 self.assertNotIn("Seats of each list", page.tables)
-                self.assertEqual((page.figures, text.count("h0")), (1, 0))
+                self.assertEqual((page.figures, text.count('class="hole"')), (2, 2))
                 self.assertEqual(
                     page_of("count.html").tables["Progress of the constituencies"][1][:2],
                     ["Twin Town", state.lower()])
                 self.assertEqual(
                     page_of("index.html").tables["Constituencies in the order of their names"][1],
-                    [f"Twin Town {state.lower()}", "–", "–", "100.00 %"])
+                    [f"Twin Town {state.lower()}", "–", "provisional: B 2 A 1", "100.00 %"])
                 withdrawn = ('<b>Certificate withdrawn:</b> '
                              '<a href="con-c1.html"><bdi>Twin Town</bdi></a>.')
                 self.assertEqual(withdrawn in read("index.html"), desk is REOPENED)
@@ -173,15 +167,12 @@ class PressPages(SiteCase):
                     self.assertEqual(page.tables["Certificate of edition 3, withdrawn"][1:],
                                      [["A Alpha", "1"], ["B Beta", "2"]])
         self.assertEqual(read("con-c1.csv").splitlines()[1:],
-                         ["A,Alpha,100,50.00,yes,", "B,Beta,100,50.00,yes,"])
+                         ["A,Alpha,100,50.00,yes,,1", "B,Beta,100,50.00,yes,,2"])
 
     def test_a_page_of_a_part_of_the_votes(self):
         """While returns are open the page says so where the votes are, and not once all are
         closed."""
-        answers = REOPENED | {
-            "/progress": "c1                    3      2      0      0      0      1      4 open\n",
-            "/con/c1": REOPENED["/con/c1"] | {"stations": 3},
-            "/con/c1/tally": TWIN["/con/c1/tally"].replace("stations 1", "stations 3")}
+        answers = REOPENED | results_of(WITHDRAWN | {"stations": 3})
         for desk, partly in ((answers, True), (REOPENED, False)):
             with self.subTest(desk=desk, partly=partly):
                 with answering_desk(desk) as (port, _):
@@ -194,24 +185,17 @@ class PressPages(SiteCase):
     def test_a_page_by_quotas(self):
         """Hare's rule, which has no quotients: LOREG's numbers of A and E, as in
         docs/FORMATS.md."""
-        quota = ("QUOTA c1 Twin Town\nvotes 208000 seats 3\n"
-                 "A                     168000    2          384000    3\n"
-                 "E                      40000    0          320000    0\n")
-        tally = ("TALLY c1 Twin Town\nstations 1 closed 1\nvalid 208000 blank 0 spoiled 0\n"
-                 "A                     168000   80.76 in  Alpha\n"
-                 "E                      40000   19.23 in  Beta\n")
-        other = (409, '{"word":"other_method"}')
-        answers = TWIN | {
-            "/con/c1": TWIN["/con/c1"] | {"seats": [3, 0], "votes": [168000, 40000], "lot": []},
-            "/con/c1/quota": quota, "/con/c1/tally": tally, "/con/c1/quotients": other,
-            "/con/c1/awards": other, "/con/c1/short": other,
-            "/con/c1/seats": ("SEATS c1 Twin Town\nedition 3\nA                   3 Alpha\n"
-                              "E                   0 Beta\ntotal               3\n"),
-            "/con/c1/holders": ("HOLDERS c1 Twin Town\nA                   1 Ana\n"
-                                "A                   2 Abel\nA                   - empty\n")}
+        lists = [{"code": code, "name": name, "votes": votes, "eligible": True, "seats": seats,
+                  "provisional": seats, "short": None}
+                 for code, name, votes, seats in (("A", "Alpha", 168000, 3),
+                                                  ("E", "Beta", 40000, 0))]
+        answers = TWIN | results_of(RESULT | {
+            "method": "hare", "lists": lists, "awards": [], "lot": [],
+            "quota": [["A", 2, 384000, 3], ["E", 0, 320000, 0]],
+            "holders": [["A", 1, "Ana"], ["A", 2, "Abel"], ["A", None, None]]})
         with answering_desk(answers) as (port, asked):
             press(port)
-            self.assertEqual(len(asked), 10)
+            self.assertEqual(asked, ["/results"])
         page = page_of("con-c1.html")
         self.assertEqual(
             page.tables["Quotas of each list"][1:],
@@ -226,12 +210,10 @@ class PressPages(SiteCase):
         setup = with_stations(1).replace('"Alpha"', json.dumps(name))
         setup = setup.replace('"Ana"', '"<i>Ana</i>"')
         Path("setup.toml").write_text(setup, encoding="utf-8")
-        answers = {
-            target: said.replace("Alpha", name).replace("Twin Town", "A & <B>")
-            .replace("1 Ana", "2 Abel") if isinstance(said, str) else said
-            for target, said in TWIN.items()}
-        answers["/con/c1"] = answers["/con/c1"] | {
-            "gone": [{"list": "A", "note": "<b>ill</b>", "place": 1}]}
+        answers = renamed(TWIN | results_of(RESULT | {
+            "gone": [["A", 1, "<b>ill</b>"]],
+            "holders": [["A", 2, "Abel"], ["B", 1, "Bea"], ["B", None, None]]}),
+            {"Alpha": name, "Twin Town": "A & <B>"})
         with answering_desk(answers) as (port, _):
             press(port, "--setup", "setup.toml")
         page, text = page_of("con-c1.html"), read("con-c1.html")
@@ -243,18 +225,22 @@ class PressPages(SiteCase):
 
     def test_a_page_that_gets_old(self):
         """The page that was there stays, with its age; its numbers do not change, and the line goes
-        once the office answers."""
-        answers = dict(TWIN)
+        once the office answers. Of one constituency whose returns are none its own pages say so."""
+        Path("setup.toml").write_text(with_stations(1), encoding="utf-8")
+        words = ("--setup", "setup.toml")
+        answers = dict(REOPENED)
         with answering_desk(answers) as (port, _):
-            press(port)
+            press(port, *words)
             first = {name: read(name) for name in ("con-c1.html", "con-c1.csv")}
-            for broken, target in ((503, "/con/c1/seats"), ("no such text\n", "/con/c1/tally"),
-                                   (404, "/con/c1"), ("{", "/con/c1")):
+            for broken, target, pages in (
+                (503, "/results", 0), ("no such text\n", "/results", 0), ("{", "/results", 0),
+                ([{"con": "c1"}], "/results", 0), (503, "/con/c1/stations", 1),
+                ("no such text\n", "/con/c1/returns", 1)):
                 with self.subTest(broken=broken, target=target):
                     answers[target] = broken
-                    said = press(port, status=1)
-                    self.assertIn(" pages 1 failed 1 ", said)
-                    answers[target] = TWIN[target]
+                    said = press(port, *words, status=1)
+                    self.assertIn(f" pages {pages} failed 1 ", said)
+                    answers[target] = REOPENED[target]
                     old = read("con-c1.html")
                     self.assertRegex(old,
                                      r'<!--age--><p class="old" role="status"><b>The office gave '
@@ -262,15 +248,13 @@ class PressPages(SiteCase):
                                      r"[\d:]{8}\.</b> This page stays as it is until there is one; "
                                      r"it was changed last \d+ (second|minute)s? before\.</p>",
                                      old[:9000])
-                    # The page of the country says of which constituency it has no numbers of now.
-                    self.assertIn("<b>No answer that could be used:</b> <a href=\"con-c1.html\">",
-                                  read("index.html"))
+                    self.assertEqual('class="old"' in read("index.html"), target == "/results")
                     self.assertEqual(
                         re.sub("<!--age-->.*<!--/age-->", "<!--age--><!--/age-->", old),
                         first["con-c1.html"])
                     self.assertEqual(read("con-c1.csv"), first["con-c1.csv"])
                     page_of("con-c1.html")
-            press(port)
+            press(port, *words)
             # Nothing has changed meanwhile: the page is as it was first written.
             self.assertEqual(read("con-c1.html"), first["con-c1.html"])
         # Nobody listens now: every page says so, and a page that is not there is not made.
@@ -281,8 +265,9 @@ class PressPages(SiteCase):
         self.assertEqual(os.listdir("others"), [])
 
     def test_a_page_that_gets_old_and_is_written_again(self):
-        """While a constituency gives no answer, the country goes on with what it said before, and
-        says so; later its page has no age."""
+        """While the office gives no answer each page says so, and later none has an age. While the
+        returns of a constituency cannot be read, its own page says so, and the country goes on."""
+        Path("setup.toml").write_text(with_stations(1), encoding="utf-8")
         answers = dict(TWIN)
 
         def round_with(words):
@@ -291,15 +276,17 @@ class PressPages(SiteCase):
 
         with answering_desk(answers) as (port, _):
             process = subprocess.Popen([sys.executable, DEPLOY / "press.py",
-                                        f"http://127.0.0.1:{port}", "pages", "--every", "0.1"],
+                                        f"http://127.0.0.1:{port}", "pages", "--setup",
+                                        "setup.toml", "--every", "0.1"],
                                        stdout=subprocess.PIPE, stderr=subprocess.DEVNULL, text=True)
             try:
                 self.assertIn(" pages 2 failed 0 ", process.stdout.readline())
                 first = read("con-c1.html")
-                for broken, old in (("/con/c1", ("con-c1.html",)),
-                                    ("/progress", ("con-c1.html", "index.html", "count.html"))):
+                for broken, old in (("/con/c1/returns", ("con-c1.html",)),
+                                    ("/results", ("con-c1.html", "index.html", "count.html"))):
                     with self.subTest(broken=broken, old=old):
                         answers[broken] = 503
+                        Path("pages/stations-c1-3.csv").unlink()  # it is asked for again
                         round_with(" failed 1 ")
                         self.assertEqual([name
                                           for name in ("con-c1.html", "index.html", "count.html")
@@ -307,52 +294,31 @@ class PressPages(SiteCase):
                         self.assertEqual(
                             page_of("index.html").tables["Seats and votes of each list"][1:3],
                             [["B Beta", "2", "100", "50.00 %"], ["A Alpha", "1", "100", "50.00 %"]])
-                        self.assertEqual(
-                            "<b>No answer that could be used:</b>" in read("index.html"),
-                            broken == "/con/c1")
                         answers[broken] = TWIN[broken]
                         round_with(" pages 2 failed 0 ")
                         self.assertEqual(read("con-c1.html"), first)
                         self.assertNotIn('class="old"', read("index.html"))
-                        self.assertNotIn("No answer", read("index.html"))
                 # A change of the progress alone changes the page too.
-                answers["/progress"] = (
-                    "c1                    1      0      1      0      0      1      3 certified\n")
+                answers["/results"] = [RESULT | {"stations": 2, "received": 1}]
                 until(lambda: page_of("con-c1.html").tables["Returns of the stations"][1]
-                      == ["1", "0", "1", "0", "0", "1"])
+                      == ["2", "0", "1", "0", "0", "1"])
             finally:
                 process.terminate()
                 process.wait(timeout=PATIENCE)
                 process.stdout.close()
 
-    def test_a_page_of_one_moment(self):
-        """Reports of two moments are not shown together: they are asked for again."""
-        answers = dict(TWIN)
-        later = ("TALLY c1 Twin Town\nstations 1 closed 1\nvalid 201 blank 0 spoiled 0\n"
-                 "A                        101   50.24 in  Alpha\n"
-                 "B                        100   49.75 in  Beta\n")
-        first = iter([later])
-        answers["/con/c1/tally"] = lambda: next(first, TWIN["/con/c1/tally"])
-        with answering_desk(answers) as (port, asked):
-            press(port)
-            self.assertEqual(asked.count("/con/c1/tally"), 2)
-            self.assertEqual(page_of("con-c1.html").tables["Votes of each list"][1][1], "100")
-            answers["/con/c1/tally"] = later
-            self.assertIn(" failed 1 ", press(port, status=1))
-            self.assertEqual(page_of("con-c1.html").tables["Votes of each list"][1][1], "100")
-
     def test_pages_through_a_proxy_that_limits(self):
         """It answers 429 for a while: what it did not answer is asked again, and the page is
         written."""
         first = iter([429, 429])
-        with answering_desk(TWIN
-                            | {"/con/c1/tally": lambda: next(first, TWIN["/con/c1/tally"])}) as (
+        with answering_desk(TWIN | {"/results": lambda: next(first, TWIN["/results"])}) as (
             port, asked):
-            self.assertIn(" pages 2 failed 0 GETs 13 ", press(port), asked)
-            self.assertEqual(asked.count("/con/c1/tally"), 3)
+            self.assertIn(" pages 2 failed 0 GETs 3 ", press(port), asked)
+            self.assertEqual(asked, ["/results"] * 3)
 
     def test_pages_that_are_written_again_and_again(self):
-        """Where nothing has changed a round takes two GETs; a file is whole whenever it is read."""
+        """A round takes one GET, where no returns are asked for; a file is whole whenever it is
+        read."""
         with answering_desk(TWIN) as (port, asked):
             process = subprocess.Popen([sys.executable, DEPLOY / "press.py",
                                         f"http://127.0.0.1:{port}", "pages", "--every", "0.1"],
@@ -367,7 +333,7 @@ class PressPages(SiteCase):
                 process.wait(timeout=PATIENCE)
                 process.stdout.close()
         self.assertEqual([int(re.search(r"GETs (\d+)", line)[1]) for line in lines],
-                         [11, 2, 2, 2, 2, 2])
+                         [1] * 6)
 
     def test_returns_of_a_former_certificate(self):
         """A copy from before takes the office's place, and edition 2 is certified once more: its

@@ -1,6 +1,5 @@
-"""All that is published of a certificate is of one moment: returns, reports and the feed."""
+"""All that is published of a certificate is of one moment: its returns and the feed."""
 
-import copy
 from pathlib import Path
 
 from tests.support.case import Case
@@ -50,37 +49,6 @@ class Feed(Case):
         con = {"past": [], "view": {"note": "", "gone": gone}}
         names = [event[2]["name"] for event in data.events(con, self.CANDIDATES)]
         self.assertEqual(names, [" (\u2068Abel\u2069)", " (\u2068Bea\u2069)", ""])
-
-
-class Reports(Case):
-    """Reports of Twin Town with 100 votes each, of which B has two seats by a lot."""
-
-    VIEW = {"stations": 1, "closed": 1, "blank": 0, "spoiled": 0, "votes": [100, 100],
-            "certified": True, "edition": 3, "seats": [1, 2]}
-    KNOWN = {
-        "tally": {"stations": 1, "closed": 1, "blank": 0, "spoiled": 0,
-                  "lists": [{"code": "A", "votes": 100}, {"code": "B", "votes": 100}]},
-        "seats": {"edition": 3, "seats": {"A": 1, "B": 2}},
-        "holders": [{"list": "A"}, {"list": "B"}, {"list": "B"}],
-        "quotients": [("A", [(100, True), (50, False)]), ("B", [(100, True), (50, True)])],
-        "awards": [{}, {}, {}],
-    }
-
-    def test_reports_of_one_moment(self):
-        self.assertTrue(press.agree(self.VIEW, self.KNOWN))
-
-    def test_a_report_of_another_moment(self):
-        """One report alone is of a certificate that gave other seats."""
-        for name, other in (
-            ("holders", [{"list": "A"}, {"list": "A"}, {"list": "B"}]),
-            ("holders", [{"list": "A"}, {"list": "B"}]),
-            ("seats", {"edition": 3, "seats": {"A": 2, "B": 1}}),
-            ("seats", {"edition": 5, "seats": {"A": 1, "B": 2}}),
-            ("awards", [{}, {}]),
-            ("quotients", [("A", [(100, True)]), ("B", [(100, True), (50, False)])]),
-        ):
-            with self.subTest(name=name, other=other):
-                self.assertFalse(press.agree(self.VIEW, copy.deepcopy(self.KNOWN) | {name: other}))
 
 
 class Electors(Case):

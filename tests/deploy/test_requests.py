@@ -115,7 +115,8 @@ class Requests(SiteCase):
     @needs("nginx", "openssl")
     def test_other_letters_of_a_target(self):
         """A table has one name: another way to write it does not get to the desk."""
-        with answering_desk(TWIN) as (port, asked), proxy(port) as front:
+        with answering_desk(TWIN | {"/con/c1/tally": "a table"}) as (port, asked), proxy(
+                port) as front:
             odd = ["/con/c1/%74ally", "/con/c%31/tally", "//con/c1/tally", "/con//c1/tally",
                    "/./con/c1/tally", "/con/x/../c1/tally", "/station/%731", "/%70rogress",
                    "//progress", "/con/c1/tally?", "/con/c1/tally?x", "/station/" + "x" * 17,

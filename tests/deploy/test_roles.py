@@ -10,11 +10,11 @@ from tests.support.proxy import office_and_proxy, with_a_second
 from tests.support.running import tries, until
 from tests.support.site import SiteCase
 
-GETS = ("/progress", "/country", "/station/s1", "/con/c1",
+GETS = ("/progress", "/country", "/results", "/station/s1", "/con/c1",
         *(f"/con/c1/{name}"
           for name in (
               "tally", "seats", "quotients", "awards", "quota", "short", "holders", "past",
-              "provisional", "stations", "returns")))
+              "provisional", "result", "stations", "returns")))
 # The texts of slips, for who may see them.
 OF_SLIPS = ("/station/s1", "/con/c1/stations", "/con/c1/returns")
 OF_CLERKS = ("/station/s1/query", "/station/s1/correct", "/station/s1/close", "/con/c1/import",

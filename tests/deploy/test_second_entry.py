@@ -6,7 +6,7 @@ from tests.support import browser
 from tests.support.case import needs
 from tests.support.clerks import (
     SLIP, TWICE, choose_con, choose_station, choose_station_again, claras_page, clerks_browser,
-    enter, focused, forms, office_with_a_second, post, receipt, said, shown, unspoken,
+    compare, enter, focused, forms, office_with_a_second, post, receipt, said, shown, unspoken,
 )
 from tests.support.office import with_stations
 from tests.support.shown import shows_well
@@ -40,13 +40,13 @@ class SecondEntry(SiteCase):
                 self.assertEqual((it.text("#person"), forms(it), it.visible("#of-con")),
                                  ("sara, second entry", [], False))
                 choose_station(it, "s1")
-                self.assertEqual((forms(it), it.text("#return"), focused(it)[0]),
-                                 (["confirm", "query"], "Station s1: 300 electors.", "slip"))
+                self.assertEqual((forms(it), it.text("#return"), it.text("#place"), focused(it)[0]),
+                                 (["confirm", "query"], "", "s1\n300 electors", "slip"))
                 self.assertEqual(unspoken(it), [])
                 for wrong in ({"votes": [120, 17]}, {"slip": "p2"}, {"blank": 1, "spoiled": 2}):
                     with self.subTest(wrong=wrong):
                         enter(it, "confirm", SLIP | wrong)
-                        said(it, DIFFERS)
+                        compare(it, DIFFERS)
                         # The figures that were typed are there, the office has what it had, and
                         # there is no receipt.
                         self.assertEqual(
@@ -58,7 +58,7 @@ class SecondEntry(SiteCase):
                             shown(desk, "s1"),
                             {"station": "s1", **SLIP, "rev": 1, "status": "received", "note": ""})
                 enter(it, "confirm", SLIP)
-                said(it, "Both entries are the same: closed, revision 2.")
+                said(it, "Both entries are the same: the return is closed.")
                 self.assertEqual((shown(desk, "s1")["status"], it.text("#alert"), focused(it)[0]),
                                  ("closed", "", "station"))
                 it.click("#receipt summary")
@@ -74,9 +74,9 @@ class SecondEntry(SiteCase):
                 said(it, "This is what the office has now.")
                 choose_station(it, "s1")
                 enter(it, "confirm", SLIP)
-                said(it, "it is now at revision 2. If this is the slip that counts, send it again")
+                said(it, "If this is the slip that counts, send it again")
                 self.assertEqual(it.text("#confirm-rev"),
-                                 "It is compared with revision 2 of the return.")
+                                 "It is compared with the return as it was changed last.")
                 it.click("#confirm button")
                 said(it, "The return is closed already")
                 choose_station_again(it, "s2")
@@ -104,10 +104,10 @@ class SecondEntry(SiteCase):
             with clerks_browser(front, "sara") as it:
                 choose_station(it, "s1")
                 enter(it, "confirm", SLIP)
-                said(it, DIFFERS)
+                compare(it, DIFFERS)
                 it.type("#query input[name=note]", "second entry: the slip says 71 for B")
                 it.click("#query button")
-                said(it, "Done: revision 2.")
+                said(it, "Done.")
                 self.assertEqual((shown(desk, "s1")["status"], shown(desk, "s1")["note"]),
                                  ("queried", "second entry: the slip says 71 for B"))
                 enter(it, "confirm", SLIP)
@@ -116,9 +116,9 @@ class SecondEntry(SiteCase):
                      "from the paper.")
                 post(desk, "/station/s1/correct", {"rev": 2, **SLIP})
                 it.click("#confirm button")
-                said(it, "it is now at revision 3.")
+                said(it, "it is compared with what is recorded now.")
                 it.click("#confirm button")
-                said(it, "Both entries are the same: closed, revision 4.")
+                said(it, "Both entries are the same: the return is closed.")
             self.assertEqual((shown(desk, "s1")["status"], shown(desk, "s1")["rev"]), ("closed", 4))
 
     @needs("chromium", "nginx", "openssl")
@@ -139,12 +139,12 @@ class SecondEntry(SiteCase):
                     (it.run("return document.getElementById('con').value"), it.run(heads)),
                     ("c2", ["B Beta", "C Gamma", "D Delta", *last]))
                 enter(it, "confirm", port_slip | {"votes": [10, 30, 5]})
-                said(it, DIFFERS)
+                compare(it, DIFFERS)
                 enter(it, "confirm", port_slip)
-                said(it, "closed, revision 2.")
+                said(it, "the return is closed.")
                 choose_station(it, "u1")
                 enter(it, "confirm", SLIP)
-                said(it, "closed, revision 2.")
+                said(it, "the return is closed.")
             self.assertEqual([shown(desk, code)["status"] for code in ("t1", "u1")], ["closed"] * 2)
 
     @needs("chromium", "nginx", "openssl")
@@ -198,9 +198,9 @@ class SecondEntry(SiteCase):
                             # The list said which revision it has.
                             self.assertEqual(
                                 (it.text("#confirm-rev"), focused(it)[0]),
-                                ("It is compared with revision 3 of the return.", "slip"))
+                                ("It is compared with the return as it was changed last.", "slip"))
                             enter(it, "confirm", SLIP)
-                            said(it, "closed, revision 4.")
+                            said(it, "the return is closed.")
                             self.assertEqual(it.run(OPEN), wanted[:3])
                             shows_well(it, "second")
                             # They are not those of another constituency.
@@ -223,7 +223,7 @@ class SecondEntry(SiteCase):
             it.click("#open-stations a")
             said(it, "This is what the office has now.")
             enter(it, "lodge", SLIP)
-            said(it, "Lodged, revision 1.")
+            said(it, "Lodged.")
             self.assertEqual(it.run(OPEN), [["Without a return: 51", many[1:], True],
                                             ["Received, to be closed: 1", ["s1"], True]])
             it.click("#open-stations summary")

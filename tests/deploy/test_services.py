@@ -294,11 +294,10 @@ class Services(SiteCase):
         self.assertEqual(set(first[1:]),
                          {unit for words in then for unit in words[1:]} | {"office-backup"})
 
-    @needs("rsync")
     def test_where_copies_are_sent(self):
-        """To the machine and the folder that backup.env names, with a key and to a host that
-        BY_HAND.md has made; without it nowhere. A longer record there is not replaced, and one that
-        differs is."""
+        """To the machine that backup.env names, with a key and to a host that BY_HAND.md has made;
+        without it nowhere. What is kept there stays: a longer record there is not replaced, and one
+        that differs is kept beside it."""
         lines, page = lines_of("office-backup.service"), (DEPLOY / "BY_HAND.md").read_text(
             encoding="utf-8")
         for folder in ("log", "lib/backup", "elsewhere", "bin"):
@@ -308,30 +307,34 @@ class Services(SiteCase):
         [environment] = [shlex.split(line)[0].split("=", 1) for line in lines["Environment"]]
         send = shlex.split(placed(
             lines["ExecStopPost"][0],
-            {"/var/lib/office": Path.cwd() / "lib", "/var/log/office": Path.cwd() / "log"}))
+            {"/var/lib/office": Path.cwd() / "lib", "/var/log/office": Path.cwd() / "log",
+             "/usr/local/lib/office": DEPLOY}))
+        forced = f"{sys.executable} {DEPLOY / 'keep-copies'} {Path.cwd() / 'elsewhere'}"
 
         def sent(record, **more):
             Path("log/commands.log").write_bytes(record)
             Path("asked").unlink(missing_ok=True)
             path = f"{Path.cwd()}/bin:{os.environ['PATH']}"
-            return subprocess.run(send, env={"PATH": path, **dict([environment]), **more},
-                                  timeout=PATIENCE, stderr=subprocess.DEVNULL).returncode
+            words = {"PATH": path, "FORCED": forced, **dict([environment]), **more}
+            return subprocess.run(send, env=words, timeout=PATIENCE,
+                                  stderr=subprocess.DEVNULL).returncode
 
         self.assertEqual((sent(b"one\n"), os.listdir("elsewhere"), Path("asked").exists()),
                          (0, [], False))
-        there = {"ELSEWHERE": f"keeper@host.example:{Path.cwd()}/elsewhere"}
-        for record, kept in ((b"one\n", b"one\n"), (b"one\ntwo\n", b"one\ntwo\n"),
-                             (b"ONE\ntwo\nthree\n", b"ONE\ntwo\nthree\n"),
-                             (b"one\n", b"ONE\ntwo\nthree\n")):
-            with self.subTest(record=record, kept=kept):
-                self.assertEqual(
-                    (sent(record, **there), Path("elsewhere/commands.log").read_bytes()), (0, kept))
-        self.assertEqual(Path("elsewhere/backup/office-20261126T221400Z.db").read_bytes(),
-                         b"a copy")
+        there = {"ELSEWHERE": "keeper@host.example"}
+        kept = []
+        for record, records in ((b"one\n", [b"one\n"]), (b"one\ntwo\n", [b"one\ntwo\n"]),
+                                (b"one\n", [b"one\n", b"one\ntwo\n"])):
+            with self.subTest(record=record):
+                self.assertEqual(sent(record, **there), 0)
+                kept = sorted(Path("elsewhere").glob("commands-*.log"))
+                self.assertEqual(sorted(file.read_bytes() for file in kept), records)
+        self.assertEqual(len(os.listdir("elsewhere")), len(kept) + 1)
+        self.assertEqual(Path("elsewhere/office-20261126T221400Z.db").read_bytes(), b"a copy")
         asked = Path("asked").read_text(encoding="utf-8")
-        files = re.findall(r"/etc/office/backup-\w+", asked)
-        self.assertIn("-l keeper host.example rsync --server", asked)
+        files = re.findall(r"/etc/office/backup-\w+", asked.splitlines()[0])
+        self.assertIn("keeper@host.example list", asked)
         self.assertIn("-o BatchMode=yes", asked)
         self.assertEqual(len(files), 2, asked)
         self.assertTrue(all(f"{file}\n" in page for file in files), files)
-        self.assertTrue(sent(b"x", ELSEWHERE="/nonesuch/nonesuch"))
+        self.assertTrue(sent(b"x", FORCED="false", **there))

@@ -174,21 +174,43 @@ class Setups(Case):
         self.assertEqual(
             self.refused()[4],
             (
-                "candidates.csv, row 13: Carl Coy is a candidate in row 2 too; if these are two "
-                "people, name them in namesakes of columns.toml"
+                "candidates.csv, row 13: Carl Coy has the DNI of Ana Arce in row 2: one person"
+                " comes twice, or one of the two is wrong"
             ),
         )
+        # Without an identity the name counts, beside those of rows that have one.
+        self.write(TABLES | {"candidates.csv": tables.replace("Arce,5\n", "Arce,\n")}, columns)
+        self.assertIn("row 6: Ana Arce is a candidate in row 2 too; if", self.refused()[4])
 
     def test_namesakes(self):
         candidates = TABLES["candidates.csv"].replace("Bea Bas", "Ana Arce")
         self.write(TABLES | {"candidates.csv": candidates}, COLUMNS + 'namesakes = ["ana arce"]\n')
         self.assertIn('"Ana Arce", "Ben Boj"', self.made())
-        # In another constituency a name may come again. It is said.
-        self.write(
-            TABLES | {"candidates.csv": TABLES["candidates.csv"].replace("Carl Coy", "Ana Arce")}
-        )
-        said = self.run_tool("--rule", "loreg", self.folder)[1]
-        self.assertIn("Ana Arce is in two constituencies: candidates.csv, rows 2 and 13\n", said)
+        for other, said in (
+            ("ANÁ  ARCE", "ANÁ ARCE is a candidate in row 2 too, as Ana Arce; if these are two"),
+            ("Ana Arce", "Ana Arce is a candidate in row 2 too; if these are two people, write"),
+        ):
+            self.write(
+                TABLES | {"candidates.csv": TABLES["candidates.csv"].replace("Bea Bas", other)}
+            )
+            self.assertIn(f"candidates.csv, row 6: {said}", "\n".join(self.refused()))
+
+    def test_what_may_be_one_person_is_noted(self):
+        """The tables do not say whether it is: two constituencies, or another order of words."""
+        for old, new, said in (
+            ("Carl Coy", "Ana Arce", "2 and 13: both have the name Ana Arce, in two constit"),
+            ("Carl Coy", '"Arce, Ana"', "2 and 13: Ana Arce and Arce, Ana may be one person:"),
+            ("Bea Bas", "ARCE-ANA", "2 and 6: Ana Arce and ARCE-ANA may be one person:"),
+            ("Carl Coy", "Ana Arcé", "2 and 13: both have the name Ana Arcé, in two"),
+            ("Carl Coy", "Ana Arco", None),
+        ):
+            with self.subTest(new=new):
+                self.write(
+                    TABLES | {"candidates.csv": TABLES["candidates.csv"].replace(old, new)}
+                )
+                noted = self.run_tool("--rule", "loreg", self.folder)[1]
+                self.assertEqual("Look at these" in noted, said is not None, noted)
+                self.assertIn(f"candidates.csv, rows {said}" if said else "", noted)
 
 
 class Codes(Case):
@@ -214,6 +236,8 @@ class Codes(Case):
             ("P.S.O.E.", "P-S-O-E"),
             ("Més per Mallorca – Illes", "MES-PER-MALLORCA"),
             ("àèï  ß", "AEI-SS"),
+            ("Œuvre Ø Łódź", "OEUVRE-O-LODZ"),
+            ("Þjóð Æska đ", "THJOD-AESKA-D"),
             ("ΣΥΡΙΖΑ", "X"),
             ("7", "7"),
         ):
@@ -227,6 +251,51 @@ class Codes(Case):
             {"PB": "Agrupación vecinal de Arriba", "PC": "Agrupación vecinal de Abajo"}
         )[0]
         self.assertEqual(found, [["PA", "AGRUPACION-VEC-2"], ["PA", "AGRUPACION-VECIN"]])
+
+    def test_two_parties_that_differ_in_a_letter_or_a_sign_stay_two(self):
+        """Each gets a code of its own, and it is said; in one constituency and in two."""
+        for one, other, code, another in (
+            ("Łan", "Lan", "LAN-2", "LAN"),
+            ("PP", "PP+", "PP", "PP-2"),
+            ("Ø", "O", "O-2", "O"),
+            ("ΑΒΓ 7", "ΔΕΖ 7", "7", "7-2"),
+        ):
+            with self.subTest(one=one):
+                found, said = self.lists({"PA": one, "PC": other})
+                self.assertEqual(found, [[code, "PB"], [code, another]])
+                first, second = (one, other) if code < another else (other, one)
+                wanted, made = sorted((code, another))
+                self.assertIn(
+                    f"\n{second} would have the code {wanted} of {first}, and gets {made}; ", said
+                )
+                self.assertEqual(
+                    self.lists({"PA": one, "PB": other})[0], [[code, another], [code, "PC"]]
+                )
+
+    def test_one_party_with_other_spaces_dashes_and_quotes(self):
+        for one, other in (("UPN-PP", "UPN – PP"), ("L'U", "L’U"), ("A+B", "a + b")):
+            with self.subTest(other=other):
+                lists = TABLES["lists.csv"].replace("c1,1,PA", f"c1,1,{one}")
+                lists = lists.replace("c2,1,PA", f"c2,1,{other}")
+                candidates = TABLES["candidates.csv"].replace(",PA,", f",{one},")
+                self.write(TABLES | {"lists.csv": lists, "candidates.csv": candidates})
+                text, said = self.run_tool("--rule", "loreg", self.folder)
+                codes = [con["list"][0]["code"] for con in tomllib.loads(text)["constituency"]]
+                self.assertEqual(len(set(codes)), 1)
+                self.assertIn(f"{other} and {one} are taken for one party, {codes[0]}", said)
+
+    def test_a_code_that_another_party_has_in_the_table(self):
+        lists = (
+            "constituency,order,party,code,name\n"
+            "c1,1,PA,PB,A\nc1,2,PB,,B\nc2,1,PA,,A\nc2,2,PC,,C\n"
+        )
+        candidates = TABLES["candidates.csv"].replace(",PB,", ",B,")
+        self.write(TABLES | {"lists.csv": lists, "candidates.csv": candidates})
+        text, said = self.run_tool("--rule", "loreg", self.folder)
+        cons = tomllib.loads(text)["constituency"]
+        self.assertEqual([one["code"] for con in cons for one in con["list"]],
+                         ["PB", "PB-2", "PB", "PC"])
+        self.assertIn("\nPB would have the code PB of PA, and gets PB-2; ", said)
 
     def test_one_party_written_in_two_ways(self):
         lists = TABLES["lists.csv"].replace("c2,1,PA", "c2,1,Pa")
@@ -349,6 +418,23 @@ total             4          10            4         3      1200       2      5
         (self.folder / "boe.csv").write_bytes("CPRO;ESCAÑOS;BOE\nc1;3;x\nc2;2;y\n".encode("cp1252"))
         self.assertEqual(self.made("--compare", self.folder / "boe.csv"), SETUP)
 
+    def test_what_was_published_has_an_encoding_and_a_separator_of_its_own(self):
+        """They are guessed, and said; only what is not UTF-8 is read as the tables are."""
+        self.write(columns='encoding = "iso-8859-15"\n' + COLUMNS)
+        tables = {name: text.replace("Twin Town", "Šibenik €") for name, text in TABLES.items()}
+        for name, text in tables.items():
+            (self.folder / name).write_bytes(text.lstrip().encode("iso-8859-15"))
+        text = "constituency;seats\r\nŠibenik €;3\r\nLone Hill;2\r\n"
+        for encoding, name in (("utf-8", "UTF-8"), ("utf-8-sig", "UTF-8 with a mark"),
+                               ("utf-16", "UTF-16-LE with a mark"),
+                               ("iso-8859-15", "ISO-8859-15")):
+            with self.subTest(encoding=encoding):
+                file = self.folder / "boe.csv"
+                file.write_bytes(text.encode(encoding))
+                said = self.run_tool("--rule", "loreg", "--compare", file, self.folder)[1]
+                self.assertIn(f"boe.csv: {name}, semicolons, line ends CRLF, rows: 2\n", said)
+                self.assertTrue(said.endswith("boe.csv agrees\n"), said)
+
 
 class Large(Case):
     def stations(self, number, electors=500, more="", size=None):
@@ -469,6 +555,8 @@ class Large(Case):
         self.assertEqual(sum(con["seats"] for con in setup["constituency"]), 350)
         self.assertEqual(setup["constituency"][27]["station"][0]["code"], "28001-01001-A")
         self.assertLess(seconds, 30)
+        # The program, where there is one, says `constituencies 52`.
+        self.is_read(text)
 
     def spain(self, name, header, rows):
         (self.folder / name).write_bytes("\r\n".join([header, *rows, ""]).encode("cp1252"))

@@ -3,9 +3,11 @@
     python3 -m unittest tests.deploy.test_setup_table_faults
 """
 
+import os
 import re
 import tomllib
 import unittest
+from unittest import mock
 
 from tests.support.tables_case import COLUMNS, ROOT, SETUP, TABLES, Case
 
@@ -73,8 +75,8 @@ Abel Aro => ANÁ  ARCE => 3 => is a candidate in row 2 too
 Bea Bas => Ana Arce => 6 => Ana Arce is a candidate in row 2 too
 Abel Aro =>  => 3 => name is empty
 Abel Aro => LONG => 3 => name has 81 bytes
-c1,PB,3,T,Blas Bru\n =>  => lists.csv 3 => PB has 2 candidates, and c1 has 3 seats
- => c1,PB,4,T,Bruno Bo => lists.csv 3 => PB has 4 candidates, and c1 has 3 seats
+c1,PB,3,T,Blas Bru\n =>  => lists.csv 3 => PB has 2 candidates, and the constituency c1 has 3 seats
+ => c1,PB,4,T,Bruno Bo => lists.csv 3 => PB has 4 candidates, and the constituency c1 has 3 seats
 c1,PA,1,S,Ada Alto\n =>  => lists.csv 2 => PA has 0 substitutes, and columns.toml allows 1 to 2
  => c2,PC,2,S,C D\nc2,PC,3,S,C E => lists.csv 5 => PC has 3 substitutes
 # stations.csv
@@ -107,7 +109,11 @@ substitutes => subs =>  => no key is called rules.subs
  => [stations]\nelectors = 7 =>  => stations.electors has a value
  => [stations]\nvoters = "x" =>  => no key is called stations.voters
  => [stations]\nfile = "../x" =>  => stations.file has a value
- => [[profile]]\ncode = "x" =>  => method is missing
+ => [[profile]]\ncode = "x" =>  => [[profile]] 1: method is missing
+ => [[profile]]\ncode = "x"\nmethod = "d" =>  => [[profile]] 1: method is d, and not dhondt, sainte
+ => [[profile]]\ncode = "x"\nthreshold = "3" =>  => [[profile]] 1: threshold is 3, and not 0 .. 10
+ => [[profile]]\ncode = "x"\n[[profile]]\ncode = "x" =>  => [[profile]] 2: the code x comes twice
+ => [[profile]]\ncode = "loreg" =>  => [[profile]] 1: the code loreg comes twice
 """
 ESCAPES = {
     r"\n": "\n",
@@ -155,6 +161,34 @@ class Faults(Case):
         self.assertEqual(
             found[-2:], [".. and 50 more", "refused, and no setup was written; faults: 150"]
         )
+
+    def test_a_fault_of_columns_toml_in_its_language(self):
+        """Spanish by columns.toml itself, on a computer that speaks English."""
+        for old, new, said in (
+            ("[rules]", "[rule]", "ninguna clave se llama rule"),
+            ("[1, 2]", "2", "rules.substitutes tiene un valor que no puede tener"),
+            ("[rules]", '[[profile]]\ncode = "x"\n[rules]', "[[profile]] 1: falta method"),
+            ("[rules]", '[[profile]]\nlot = "x"\n[rules]',
+             "[[profile]] 1: lot es x, y no fixed, alternating"),
+        ):
+            with self.subTest(new=new), mock.patch.dict(os.environ, {"LC_ALL": "C.UTF-8"}):
+                self.write(columns='language = "es"\n' + COLUMNS.replace(old, new))
+                found = self.run_tool("--rule", "loreg", self.folder, status=1, language=None)[1]
+                self.assertIn(f"columns.toml: {said}\n", found)
+                self.assertIn("no se ha escrito ninguna configuración; errores: ", found)
+
+    def test_one_is_not_said_as_several(self):
+        for tables, said in (
+            ({"candidates.csv": TABLES["candidates.csv"].replace("c2,PC,2,T,Cleo Cid\n", "")},
+             "the list PC has 1 candidate, and the constituency c2 has 2 seats"),
+            ({"constituencies.csv": TABLES["constituencies.csv"].replace("Hill,2", "Hill,1")},
+             "the list PC has 2 candidates, and the constituency c2 has 1 seat"),
+            ({"constituencies.csv": TABLES["constituencies.csv"].replace("c2,Lone Hill,2", "c2")},
+             "this row has 1 cell, and the header 3"),
+        ):
+            with self.subTest(said=said):
+                self.write(TABLES | tables)
+                self.assertRegex("\n".join(self.refused()), f"{said}(:|$|\n)")
 
     def test_the_same_in_spanish(self):
         self.write(TABLES | {"stations.csv": TABLES["stations.csv"].replace("s2,400", "s2,0")})
@@ -285,7 +319,7 @@ class Files(Case):
 
     def test_a_file_of_another_name(self):
         self.write(columns=COLUMNS + '[stations]\nfile = "mesas.csv"\n')
-        self.assertIn("mesas.csv: there is no such file", self.refused())
+        self.assertIn("mesas.csv: there is no such file", self.refused(status=3))
         (self.folder / "stations.csv").rename(self.folder / "mesas.csv")
         self.assertEqual(self.made(), SETUP)
 
@@ -306,7 +340,9 @@ class Files(Case):
         )
         said = "\n".join(self.refused())
         self.assertIn(
-            "stations.csv, row 2: constituencies.csv has no constituency 1, but 01: ", said
+            "stations.csv, row 2: constituencies.csv has no constituency 1, but 01: write "
+            'constituency = { column = "constituency", digits = 2 } below [stations] in',
+            said,
         )
         digits = '{ column = "%s", digits = %d }'
         code = (
@@ -327,12 +363,12 @@ class Files(Case):
             self.write()
             (self.folder / name).unlink()
             self.assertEqual(
-                self.refused(),
+                self.refused(status=3),
                 [f"{name}: there is no such file", "refused, and no setup was written; faults: 1"],
             )
             (self.folder / name).write_bytes(b"")
             self.assertEqual(self.refused()[0], f"{name}, row 1: the table is empty")
-        self.assertIn("no such folder", self.run_tool(self.folder / "none", status=1)[1])
+        self.assertIn("no such folder", self.run_tool(self.folder / "none", status=3)[1])
 
     def test_a_file_that_cannot_be_read(self):
         self.write()

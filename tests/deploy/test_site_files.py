@@ -48,20 +48,21 @@ class SiteFiles(SiteCase):
                     self.assertIn('<html lang="es">', read(name))
                     self.assertIn("Elecciones &amp; más", read(name))
                     self.assertIn("Licencia de los datos: CC-BY-4.0.", read(name))
-                    # the office's own texts are in English
-                    own = shown_text(re.sub("<h3 id=.*?</h3>|<pre.*?</pre>", "", read(name),
-                                            flags=re.S))
                     self.assertEqual(
-                        re.findall(r"\b(?:list|seats|votes|stations?|the|returns|of|is)\b", own),
-                        [])
+                        re.findall(r"\b(?:list|seats|votes|stations?|the|returns|of|is)\b",
+                                   shown_text(read(name))), [])
             self.assertIn("<h1>Elecciones &amp; más</h1>", read("index.html"))
             self.assertIn("29 de noviembre de 2026 · Junta", text)
             self.assertIn("B tendría un escaño más en Norte con 11 votos más", text)
-            self.assertIn("42,88 %", text)
+            self.assertIn("42,89 %", text)
             self.assertIn("353 de 1.700 electores", text)
             for site, words in (('language = "xx"', "no texts of the language 'xx'"),
                                 ("title = ", "Invalid value"),
-                                ('date = "today"', "date is not a date"),
+                                ('date = "today"',
+                                 "date is 'today': write a day such as 2026-11-29"),
+                                ('date = "2026-02-30"', "write a day such as 2026-11-29"),
+                                ("title = 3", "title is 3: write a text in quotes"),
+                                ("board = 3", "board is 3: write tables [[board]]"),
                                 ('language = "../en"', "no texts of the language")):
                 with self.subTest(site=site, words=words):
                     self.refused_site(port, words, site=site)
@@ -75,10 +76,18 @@ class SiteFiles(SiteCase):
 
         self.assertEqual(places(texts["press_es.toml"]), places(texts["press_en.toml"]))
 
+    def test_the_day_in_quotes_or_without(self):
+        with four() as (_, port):
+            for day in ("2026-11-29", '"2026-11-29"', '" 2026-11-29 "',
+                        "2026-11-29T09:00:00+01:00"):
+                with self.subTest(day=day):
+                    press(port, "--setup", "setup.toml", *site_folder(site=f"date = {day}\n"))
+                    self.assertIn("29 November 2026", shown_text(read("index.html")))
+
     def test_the_colours_of_lists(self):
         """Each has a contrast of 3 with every ground, light and dark, those of a file too;
-        neighbours in a half circle have one of 1.5, or one of them is drawn as rings. A list has
-        the same colour on each page."""
+        certified neighbours in a half circle have one of 1.5, or one of them is drawn as rings. A
+        list has the same colour on each page."""
         self.assertEqual(
             (round(contrast("#000000", "#ffffff"), 2), round(contrast("#777777", "#ffffff"), 2)),
             (21.0, 4.48))
@@ -99,7 +108,7 @@ class SiteFiles(SiteCase):
             press(port, folder="sixty")
         # A red and a green that differ by 1.07 only: B beside A is drawn as rings.
         for folder, name, rings in (("pages", "con-norte", ["B"]), ("own", "con-norte", []),
-                                    ("pages", "index", ["A"]), ("own", "index", []),
+                                    ("pages", "index", []), ("own", "index", []),
                                     ("sixty", "con-c1", None)):
             with self.subTest(folder=folder, name=name, rings=rings):
                 text = read(f"{name}.html", folder)
@@ -111,15 +120,20 @@ class SiteFiles(SiteCase):
                         self.assertTrue(all(contrast(colour, under) >= 3
                                             for colour, under in zip(pair, ground)),
                                         (code, pair, ground))
-                drawn = [(code, "hole" in inner)
+                # (provisional seats are hollow, and known by the labels beside them)
+                width = float(re.search(r'viewBox="[^"]+" stroke-width="([\d.]+)"', text)[1])
+                holes = [(code, float(re.search(r'class="hole".*stroke-width="([\d.]+)"', inner)[1])
+                          if "hole" in inner else 0)
                          for code, inner in re.findall(r'<g class="list-([\w-]+)">(.*?)</g>', text)]
+                drawn = [(code, hole > 0, hole > 0.6 * width) for code, hole in holes]
                 self.assertGreater(len(drawn), 1)
-                for (one, ring), (other, next_ring) in zip(drawn, drawn[1:]):
-                    self.assertTrue(ring != next_ring
+                for (one, ring, hollow), (other, next_ring, next_hollow) in zip(drawn, drawn[1:]):
+                    self.assertTrue(ring != next_ring or hollow or next_hollow
                                     or all(contrast(a, b) >= 1.5
                                            for a, b in zip(given[one], given[other])), (one, other))
                 if rings is not None:
-                    self.assertEqual([code for code, ring in drawn if ring], rings)
+                    self.assertEqual([code for code, ring, hollow in drawn if ring and not hollow],
+                                     rings)
         of_pages = {re.search(r"\.list-A\{.*?\}", read(f"{name}.html"))[0]
                     for name in ("index", "con-norte", "con-este", "con-sur", "con-oeste")}
         self.assertEqual(of_pages, {".list-A{--light:#d1495b;--dark:#d1495b}"})

@@ -9,7 +9,7 @@ from pathlib import Path
 from tests.support import model
 from tests.support.desks import answer_of, desk_with, done
 from tests.support.office import LISTS, PROFILE, constituency, station, with_stations
-from tests.support.pages import REOPENED, TWIN, read
+from tests.support.pages import REOPENED, TWIN, WITHDRAWN, read, results_of
 from tests.support.scripts import module
 from tests.support.site import SiteCase
 
@@ -132,8 +132,7 @@ class StationFiles(SiteCase):
                     self.assertEqual([name for name, _ in written if name.startswith("stations-")],
                                      [])
                     # Right returns, but of another edition by the end of it.
-                    views = iter([TWIN["/con/c1"], TWIN["/con/c1"] | {"edition": 5}])
-                    certified |= {RETURNS: good, "/con/c1": lambda: next(views)}
+                    certified |= {RETURNS: good, "/con/c1": TWIN["/con/c1"] | {"edition": 5}}
                     self.assertEqual(a_round(), ([], [RETURNS]))
                     self.assertEqual([name for name, _ in written if name.startswith("stations-")],
                                      [])
@@ -150,8 +149,8 @@ class StationFiles(SiteCase):
                     self.assertEqual(a_round(), ([], [TABLE, RETURNS] * 2))
                     self.assertEqual(
                         {text for name, text in written if name == "stations-c1-open.csv"}, {good})
-                    answers |= {RETURNS: other, "/con/c1": REOPENED["/con/c1"] | {"note": "other"},
-                                TABLE: TWIN[TABLE].replace(" 2 p1", " 5 p1")}
+                    answers |= results_of(WITHDRAWN | {"note": "other"}) | {
+                                RETURNS: other, TABLE: TWIN[TABLE].replace(" 2 p1", " 5 p1")}
                     self.assertEqual(a_round(), (
                         ["/con/c1/stations: they change while they are asked for"],
                         [TABLE, RETURNS] * 3))

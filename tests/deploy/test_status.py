@@ -28,6 +28,8 @@ import unittest
 from datetime import datetime, timedelta
 from pathlib import Path
 
+from tests.support.scripts import module
+
 ROOT = Path(__file__).resolve().parent.parent.parent
 DEPLOY = ROOT / "deploy"
 NGINX = shutil.which("nginx", path=f"{os.environ.get('PATH', '')}:/usr/sbin")
@@ -212,7 +214,7 @@ seconds = 1800
         self.assertEqual(status, 1)
         self.assertRegex(text, r"(?m)^ +pages +WRONG  they are 5 hours old$")
         self.assertRegex(text, r"(?m)^first +desk +well   it answered in \d+ ms$")
-        self.assertEqual(text.splitlines()[-1], "1 of 8 are wrong")
+        self.assertEqual(text.splitlines()[-1], "1 of 8 is wrong")
 
     def test_a_desk_that_does_not_answer(self):
         with socket.create_server(("127.0.0.1", 0)) as taken:
@@ -277,6 +279,14 @@ seconds = 1800
         (self.folder / "1.sock").unlink()
         self.assert_wrong("recorder", "it does not answer")
 
+    def test_ages_in_words(self):
+        looks = module("status_looks")
+        for seconds, said in ((0, "0 seconds"), (1, "1 second"), (1.4, "1 second"),
+                              (2, "2 seconds"), (119, "119 seconds"), (120, "2 minutes"),
+                              (7200, "2 hours"), (172_800, "2 days")):
+            with self.subTest(seconds=seconds):
+                self.assertEqual(looks.spoken(seconds), said)
+
     def test_a_recorder_that_is_none(self):
         self.recorder.status = 200
         self.assert_wrong("recorder", "it answers with status 200")
@@ -301,6 +311,8 @@ seconds = 1800
         self.assert_wrong("backup", "does not agree")
         self.copy.unlink()
         self.assert_wrong("backup", "has no copy")
+        self.copy.mkdir()
+        self.assert_wrong("backup", "the newest copy cannot be read: ")
 
     def test_a_backup_that_finds_nothing_new_makes_its_copy_new(self):
         database, folder = self.folder / "office.db", self.folder / "backups"
@@ -317,6 +329,14 @@ seconds = 1800
     def test_a_disk_without_room(self):
         self.configure(megabytes=10**9)
         self.assert_wrong("room", "[0-9]+ MB are free")
+        self.configure()
+        # Of two disks, one that is gone.
+        with open(self.folder / "status.toml", "a", encoding="utf-8") as file:
+            file.write(f'[[room]]\nfolder = "{self.folder}/gone"\n')
+        status, text, _ = self.status()
+        self.assertEqual((status, text.splitlines()[-1]), (1, "1 of 9 is wrong"))
+        self.assertRegex(text, rf"(?m)^{self.folder}/gone +room +WRONG  .*No such file")
+        self.assertRegex(text, rf"(?m)^{self.folder} +room +well ")
 
     def test_a_certificate_that_ends_soon_or_is_none(self):
         self.configure(days=31)
@@ -386,6 +406,33 @@ seconds = 1800
         self.record.unlink()
         self.assert_wrong("record", "No such file")
 
+    def test_a_record_with_which_the_recorder_does_no_command(self):
+        """It answers, and the lines are whole; its head has the fault."""
+        head = {"n": 3, "hash": hash_of(self.lines[-1]), "fault": "it is that of another setup"}
+        self.put_lines(head=head)
+        for _ in range(2):
+            self.assert_wrong("record", "the recorder does no command: it is that of another setup")
+        self.put_lines()
+        self.parts(0)
+
+    def test_a_head_that_is_none(self):
+        for head in ([3], {"n": 3}, {"n": "three", "hash": ""}):
+            with self.subTest(head=head):
+                self.put_lines(head=head)
+                self.assert_wrong("record", "its head cannot be read")
+
+    def test_tools_without_a_recount(self):
+        tools = self.folder / "tools"
+        tools.mkdir()
+        for name in ("status", "status_looks.py"):
+            shutil.copy(DEPLOY / name, tools)
+        done = subprocess.run(
+            (sys.executable, tools / "status", "--config", self.folder / "status.toml"),
+            capture_output=True, text=True, timeout=300)
+        self.assertEqual((done.returncode, done.stderr), (1, ""))
+        self.assertIn(f"the newest copy cannot be read: {tools}/recount.py is not there",
+                      done.stdout)
+
     def test_a_record_that_was_put_aside_is_forgotten(self):
         self.write(4)
         self.parts(0)
@@ -394,6 +441,10 @@ seconds = 1800
         self.assert_wrong("record", "line 7 is not the one that was seen before, or is gone")
         self.assertEqual(self.status("--forget")[0], 0)
         self.assertEqual(self.parts(0)["record"]["record_lines"], 2)
+        self.lines = []
+        self.write(1)
+        self.assertEqual(self.status("--forget")[0], 0)
+        self.assertEqual(self.parts(0)["record"]["says"], "its 1 line is whole, 0 of it new")
 
     def test_what_was_seen_that_cannot_be_read_or_kept(self):
         self.parts(0)

@@ -90,7 +90,7 @@ class Faults(OfPages):
                 ("templates/foot.html", '{% include "x.html" %}', "templates: x.html"),
                 ("logo.svg", "x" * 6_001, "logo.svg: 6001 bytes, and a logo may have 6000"),
                 ("site.css", "</style><script>", "site.css: a style has no </"),
-                ("site.toml", 'contact = 3', "site.toml: contact is not a str"),
+                ("site.toml", 'contact = 3', "site.toml: contact is 3: write a text in quotes"),
                 ("site.toml", 'accessibility = "javascript:alert(1)"',
                  "site.toml: accessibility is not an address such as ")):
             with self.subTest(file=name, text=text[:30]):

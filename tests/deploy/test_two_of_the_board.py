@@ -476,9 +476,8 @@ class Site(Safeguards):
         waiting = "it waits until"
         with counted() as port, site_of_board(port) as front:
             with clerks_browser(front, "berta") as one, clerks_browser(front, "simon") as other:
-                def certify(it, edition, words):
-                    confirmed(it, "#certify button", f"Certify Twin Town, edition {edition}?",
-                              words)
+                def certify(it, words):
+                    confirmed(it, "#certify button", "Certify Twin Town?", words)
 
                 def draw(it, words):
                     it.run("document.querySelectorAll('#order select').forEach((e, n) => {"
@@ -486,18 +485,19 @@ class Site(Safeguards):
                     it.click("#draw button")
                     said(it, words)
 
-                certify(one, 1, waiting)
+                certify(one, waiting)
                 self.assertEqual(one.text("#receipt summary"), "")
-                certify(other, 1, "A lot is needed among A, B, for one seat.")
+                certify(other, "A lot is needed among A, B, for one seat.")
                 draw(other, waiting)
-                self.assertFalse(one.run("return !document.getElementById('draw').hidden"))
-                certify(one, 1, "Waiting too, by simon: Record the lot: B, A.")
-                draw(one, "Done: edition 2.")
+                # All returns are closed: that a lot is needed was seen before anybody asked.
+                self.assertTrue(one.run("return !document.getElementById('draw').hidden"))
+                certify(one, "Waiting too, by simon: Record the lot: B, A.")
+                draw(one, "Done.")
                 self.assertIn("a lot", one.text("#receipt summary"))
-                certify(one, 2, waiting)
+                certify(one, waiting)
                 other.click("#again")
                 said(other, "This is what the office has now.")
-                certify(other, 2, "Done: edition 3.")
+                certify(other, "Done.")
             acts = [(line["name"], line["path"].split("/")[3], line["status"])
                     for line in front.record(7)]
             self.assertEqual(acts, [

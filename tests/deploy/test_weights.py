@@ -1,7 +1,5 @@
 """The weight of pages."""
 
-import collections
-import html.parser
 import json
 import os
 import re
@@ -57,15 +55,15 @@ class Weights(SiteCase):
 
     def test_the_weight_of_a_constituency(self):
         """With 60 lists, 100 seats and names as long as they may be each page is below 60 kB, and
-        what has no room on one is on the next: every number and every text, once, and links from
-        each to all. They go where there is room on one."""
+        what has no room on one is on the next: every number, once, and links from each to all. They
+        go where there is room on one."""
         answers = sixty_lists()
         with answering_desk(answers) as (port, _):
             press(port)
-        names = ["con-c1.html", *(f"details-c1-{n}.html" for n in range(1, 6))]
+        names = ["con-c1.html", *(f"details-c1-{n}.html" for n in range(1, 4))]
         self.assertEqual(sorted(name for name in os.listdir("pages")
                                 if re.match(r"(con|details)-.*\.html$", name)), names)
-        found, texts = {}, {}
+        found = {}
         for here, name in enumerate(names):
             with self.subTest(here=here, name=name):
                 tables, text = page_of(name).tables, read(name)
@@ -78,13 +76,6 @@ class Weights(SiteCase):
                                  [other for other in names[1:] if other != name])
                 self.assertEqual(('<a href="con-c1.html"><bdi>Twin Town</bdi></a>' in text,
                                   "Certified, edition 3</p>" in text), (here > 0, True))
-                for report, part in re.findall(
-                    r'<pre [^>]*aria-labelledby="text-(\w+)[-\d]*">(.*?)</pre>', text, re.S):
-                    texts[report] = texts.get(report, "") + part
-        reports = ("tally", "past", "seats", "holders", "quotients", "awards", "short")
-        self.assertEqual(
-            [name for name in reports if texts.pop(name, "") != answers[f"/con/c1/{name}"]], [])
-        self.assertEqual(texts, {})
         rows = {caption: len(cells) - 1 for caption, cells in found.items()}
         quotients = [f"Quotients of each list, seats {first} to {min(first + 7, 42)}"
                      for first in range(1, 43, 8)]
@@ -125,8 +116,6 @@ class Weights(SiteCase):
                 done(office, f"/station/{code}/close", {"rev": 1})
                 done(office, f"/con/{con.code}/certify", {"edition": 1})
             press(port, "--setup", "limits.toml", folder=folder)
-            texts = {name: office.ask("GET", f"/con/{list(office.cons)[0]}/{name}")[1]
-                     for name in ("tally", "quota", "quotients", "awards", "holders")}
         # In the order in which a reader goes through them.
         names = sorted((name for name in os.listdir(folder) if name.endswith(".html")),
                        key=lambda name: (name.split("-")[0],
@@ -134,11 +123,11 @@ class Weights(SiteCase):
         pages = {name: page_of(name, folder) for name in names}
         self.assertEqual([(name, os.path.getsize(f"{folder}/{name}")) for name in pages
                           if os.path.getsize(f"{folder}/{name}") > PAGE_BYTES - 3_000], [])
-        return pages, texts
+        return pages
 
     def test_the_weight_at_the_limits(self):
         """With 60 lists, 500 seats and names of 80 bytes each page is below 60 kB by every rule:
-        each list, each seat and each text is on one of them, and the page of the country has each
+        each list and each seat is on one of them, and the page of the country has each
         list, or how many more there are."""
         for method in ("dhondt", "sainte-lague", "modified-sainte-lague", "hare"):
             with self.subTest(method=method):
@@ -149,7 +138,7 @@ class Weights(SiteCase):
                         setup, votes = at_the_limits(method,
                                                      json.dumps(name, ensure_ascii=False)[1:-1],
                                                      500)
-                        pages, texts = self.certified_pages(setup, votes, folder)
+                        pages = self.certified_pages(setup, votes, folder)
                         codes = [f"LIST-{n:02}-{'X' * 8} {name}" for n in range(60)]
                         for caption, wanted in (("Seats of each list", [*codes, "Total"]),
                                                 ("Votes of each list", codes)):
@@ -165,14 +154,6 @@ class Weights(SiteCase):
                                   "drawn, with the same other votes and eligible lists")
                         self.assertEqual(len(rows_of_pages(pages, lacked)),
                                          0 if method == "hare" else 60)
-                        said = collections.defaultdict(str)
-                        for page in pages:
-                            for report, part in re.findall(
-                                r'<pre [^>]*aria-labelledby="text-([a-z]+)[-\d]*">(.*?)</pre>',
-                                read(page, folder), re.S):
-                                said[report] += html.unescape(part)
-                        self.assertEqual([report for report, text in texts.items() if text[0] != "{"
-                                          and said[report] != text], [])
                         *rows, total = pages["index.html"].tables["Seats and votes of each list"][
                             1:]
                         self.assertEqual((len(rows) > 8, total[1:3],
@@ -186,7 +167,7 @@ class Weights(SiteCase):
         the country leads there."""
         setup, votes = at_the_limits("dhondt", "W" * 77, 12, cons=200, lists=6)
         setup = re.sub(r'(code = "constituency\d(\d{3})"\nname = ")', r"\1\2", setup)
-        pages, _ = self.certified_pages(setup, votes, "large")
+        pages = self.certified_pages(setup, votes, "large")
         parts = sorted(name for name in pages if name.startswith("cons-"))
         self.assertEqual([int(row[0][:3]) for name in parts for row
                           in pages[name].tables["Constituencies in the order of their names"][1:]],

@@ -32,7 +32,8 @@ OF_SLIPS = (
     "/now/con/c1/stations",
     "/now/con/c1/returns",
 )
-TABLE = b"STATIONS c1 Twin\nstations 1\ns1         300 received     1 p1      191       2       1\n"
+TABLE = (b"STATIONS c1 Twin\nstations 1\n"
+         b"s1                   300 received     1 p1                   191       2       1\n")
 
 
 def asked(address, method, path, headers=None):
@@ -114,11 +115,14 @@ class Slips(SiteCase):
                 "/index.html": (404, 200, 403),
                 "/progress": (403, 200, 403),
                 "/country": (403, 200, 403),
+                "/results": (403, 200, 403),
+                "/con/c1/result": (403, 200, 403),
                 "/con/c1": (403, 200, 403),
                 "/con/c1/tally": (403, 200, 403),
                 "/now/con/c1": (403, 200, 401),
                 "/now/progress": (403, 200, 401),
                 "/now/country": (403, 200, 401),
+                "/now/results": (403, 200, 401),
                 "/station/s1": (200, 200, 401),
                 "/now/station/s1": (200, 200, 401),
                 "/station/s2": (403, 200, 401),
@@ -266,7 +270,7 @@ class Reader(Safeguards):
         reader = loaded("reader.py")
         self.assertEqual(
             reader.without_slips(TABLE),
-            b"STATIONS c1 Twin\nstations 1\ns1         300 received     1\n",
+            b"STATIONS c1 Twin\nstations 1\ns1                   300 received     1\n",
         )
 
 

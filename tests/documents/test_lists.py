@@ -260,7 +260,7 @@ class Lists(DocumentCase):
         self.finds_nothing(len(rows), wrong)
 
     def test_documents_are_as_short_as_they_have_to_be(self):
-        most = {"README.md": 75, "CONTRIBUTING.md": 60, "docs/GUIDE.md": 210}
+        most = {"README.md": 75, "CONTRIBUTING.md": 60, "docs/GUIDE.md": 221}
         counts = {name: len(text_of(ROOT / name).splitlines()) for name in most}
         self.finds_nothing(
             len(most),

@@ -149,7 +149,7 @@ class OpenApi(Case):
             )
         )
         want = {(path, "get" if name in gets else "post") for path, name in routes.items()}
-        self.assertEqual(len(want), 28)
+        self.assertEqual(len(want), 30)
         self.assertEqual({(path, method) for path, method, _ in operations()}, want)
 
     def test_every_operation_has_a_name_of_its_own(self):

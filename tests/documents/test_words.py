@@ -49,14 +49,26 @@ HASHED = (
     "deploy/*.timer",
     "bench/*.awk",
     "bench/crate_seconds.txt",
+    "deploy/*.toml",
+    "deploy/clerk/*.toml",
     "examples/setup.toml",
+    "examples/site/*.toml",
+    "examples/tables/*.toml",
+    "examples/tables/*/*.toml",
 )
 
 
-SLASHED = ("bench/*.rattle", "bench/*.rs")
+SLASHED = ("bench/*.rattle", "bench/*.rs", "deploy/clerk/*.js", "deploy/templates/*.js")
 
 
-MARKED = ("deploy/*.css", "deploy/www/*.html")
+MARKED = (
+    "deploy/*.css",
+    "deploy/clerk/*.css",
+    "deploy/clerk/*.html",
+    "deploy/templates/*.css",
+    "deploy/templates/*.html",
+    "deploy/www/*.html",
+)
 
 
 # The words that are not written, and those that are written for them. They are looked for in the
@@ -136,11 +148,11 @@ def words_of_python(path):
 
 def comments_of_script(path):
     """The comments of a script or of settings that are lines of their own, each line with its
-    number: those after a `#`, or those within the marks of a page or a style sheet.
+    number: those after a `#`, or those within the marks of a page, a template or a style sheet.
     """
     text = text_of(path)
     if path.suffix in (".css", ".html"):
-        for found in re.finditer(r"<!--.*?-->|/\*.*?\*/", text, re.S):
+        for found in re.finditer(r"<!--.*?-->|/\*.*?\*/|\{#.*?#\}", text, re.S):
             yield from enumerate(found[0].split("\n"), text.count("\n", 0, found.start()) + 1)
     else:
         yield from (

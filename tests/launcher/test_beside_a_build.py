@@ -56,7 +56,7 @@ class BesideABuild(Case):
     def start(self, **environment):
         path = f"{os.path.abspath('bin')}:{os.environ['PATH']}"
         ran = subprocess.Popen(
-            ["repository/office", "check"],
+            ["repository/office", "show"],
             stdin=subprocess.PIPE,
             stdout=subprocess.PIPE,
             stderr=subprocess.PIPE,

@@ -28,11 +28,11 @@ def written_over(file):
 class Build(LauncherCase):
     def test_first_launch_builds_and_the_next_does_not(self):
         copy = self.copy
-        status, out, errors = copy.run("check", "a b", "*")
+        status, out, errors = copy.run("show", "a b", "*")
         assert status == 1 and out.splitlines() == [
             "build 1",
             str(copy.folder),
-            "check",
+            "show",
             "a b",
             "*",
         ], (status, out)
@@ -48,7 +48,7 @@ class Build(LauncherCase):
         labels = re.findall('"//crates/([a-z_]+)"', "".join(lines))
         assert sorted([*labels, "tally_office"]) == NAMES and lines[-1] == "#![tactic(auto)]", lines
         assert folder == str(copy.out / "below") and not Path(folder).exists(), folder
-        self.assertEqual(copy.run("check"), (1, f"build 1\n{copy.folder}\ncheck\n", "an error\n"))
+        self.assertEqual(copy.run("show"), (1, f"build 1\n{copy.folder}\nshow\n", "an error\n"))
         self.assertEqual(copy.runs(), 1)
 
     def test_input_and_folder_are_the_callers(self):
@@ -79,9 +79,9 @@ class Build(LauncherCase):
         copy = self.copy
         # The build goes on once all the others wait for it.
         copy.plan('until [ -e "$here/go" ]; do sleep 0.1; done\n' + PROVED)
-        first = copy.start("check")
+        first = copy.start("show")
         copy.wait_for(copy.bin / "pid")
-        others = [copy.start("check") for _ in range(3)]
+        others = [copy.start("show") for _ in range(3)]
         for ran in others:
             with self.subTest(ran=ran):
                 self.assertEqual(ran.stderr.readline(), WAITS)
@@ -95,7 +95,7 @@ class Build(LauncherCase):
 
     def test_each_change_of_what_it_is_made_of_builds_again(self):
         copy = self.copy
-        copy.run("check")
+        copy.run("show")
         builds = 1
         crates = copy.root / "crates"
         changes = {
@@ -120,28 +120,28 @@ class Build(LauncherCase):
             with self.subTest(name=name):
                 change()
                 builds += 1
-                out = copy.run("check")[1]
+                out = copy.run("show")[1]
                 assert out.startswith(f"build {builds}\n"), f"{name}: {out}"
-                self.assertEqual(copy.run("check")[1], out)
+                self.assertEqual(copy.run("show")[1], out)
                 self.assertEqual(copy.runs(), builds)
 
     def test_what_it_is_not_made_of_builds_nothing(self):
         copy = self.copy
-        copy.run("check")
+        copy.run("show")
         crates = copy.root / "crates"
         append(crates / "tally_test_report/src/lib.rt")
         append(crates / "tally_test_core/src/lib.rt")
         (crates / "tally_frac/README.md").write_text("changed\n")
         os.utime(crates / "tally_frac/src/share.rt")
-        assert copy.run("check")[2] == "an error\n" and copy.runs() == 1
+        assert copy.run("show")[2] == "an error\n" and copy.runs() == 1
         copied = Copy.__new__(Copy)
         copied.__dict__.update(copy.__dict__, root=copy.folder / "copied", started=copy.started)
         for how in ("-a", "-r"):
             with self.subTest(how=how):
                 subprocess.run(["cp", how, str(copy.root), str(copied.root)], check=True)
-                assert copied.run("check")[1].startswith("build 1\n")
+                assert copied.run("show")[1].startswith("build 1\n")
                 shutil.rmtree(copied.root)
-        assert copy.run("check", rt=False)[1].startswith(
+        assert copy.run("show", rt=False)[1].startswith(
             "build 1\n"
         ), "without rt a current program runs"
         self.assertEqual(copy.runs(), 1)
@@ -149,25 +149,25 @@ class Build(LauncherCase):
     def test_an_edit_during_a_build_builds_again(self):
         copy = self.copy
         copy.plan(f"echo '// changed' >>'{copy.root}/crates/tally_frac/src/share.rt'\n" + PROVED)
-        status, out, errors = copy.run("check")
+        status, out, errors = copy.run("show")
         assert (
             status == 1 and out.startswith("build 1\n") and "a source changed meanwhile" in errors
         ), errors
         copy.plan(PROVED)
-        assert copy.run("check")[1].startswith("build 2\n")
-        assert copy.run("check")[1].startswith("build 2\n")
+        assert copy.run("show")[1].startswith("build 2\n")
+        assert copy.run("show")[1].startswith("build 2\n")
 
     def test_a_launcher_that_changes_during_a_build_goes_on(self):
         copy = self.copy
         copy.plan(f"printf 'exit 7\\n%.0s' {{1..3000}} >'{copy.root}/office'\n" + PROVED)
-        status, out, errors = copy.run("check")
+        status, out, errors = copy.run("show")
         assert status == 1 and out.startswith("build 1\n"), (status, errors)
 
     def test_a_toolchain_by_a_relative_path_builds(self):
         copy = self.copy
         for _ in range(2):
-            status, out, errors = copy.run("check", rt="bin")
-            self.assertEqual((status, out), (1, f"build 1\n{copy.folder}\ncheck\n"), errors)
+            status, out, errors = copy.run("show", rt="bin")
+            self.assertEqual((status, out), (1, f"build 1\n{copy.folder}\nshow\n"), errors)
         self.assertEqual(errors, "an error\n")
 
     def test_no_more_crates_are_proved_at_a_time_than_a_container_has_memory_for(self):
@@ -193,7 +193,7 @@ class Build(LauncherCase):
             with self.subTest(said=said, room=room):
                 limit.write_text(f"{said}\n")
                 append(copy.root / "crates.txt", "# changed\n")
-                self.assertEqual(copy.run("check")[0], 1)
+                self.assertEqual(copy.run("show")[0], 1)
                 jobs = [
                     line
                     for line in (copy.bin / "calls").read_text().splitlines()

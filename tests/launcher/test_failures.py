@@ -37,7 +37,7 @@ class Failures(LauncherCase):
             os.chmod(folder, 0o555)
         how = {"user": NOBODY, "group": NOBODY, "extra_groups": []} if os.geteuid() == 0 else {}
         try:
-            status, out, errors = copy.run("check", **how)
+            status, out, errors = copy.run("show", **how)
         finally:
             for folder, _, _ in os.walk(copy.folder):
                 os.chmod(folder, 0o755)
@@ -45,14 +45,14 @@ class Failures(LauncherCase):
             (status, out) == (3, "") and errors.count("\n") == 1 and "cannot be written" in errors
         ), (status, errors)
         self.assertEqual(copy.runs(), 0)
-        copy.run("check")
+        copy.run("show")
         for folder, _, _ in os.walk(copy.folder):
             os.chmod(folder, 0o555)
         try:
-            status, out, errors = copy.run("check", **how)
+            status, out, errors = copy.run("show", **how)
             os.chmod(copy.root / "crates/tally_frac/src", 0o755)
             append(copy.root / "crates/tally_frac/src/share.rt")
-            old = copy.run("check", **how)
+            old = copy.run("show", **how)
         finally:
             for folder, _, _ in os.walk(copy.folder):
                 os.chmod(folder, 0o755)
@@ -63,7 +63,7 @@ class Failures(LauncherCase):
 
     def test_without_the_toolchain_is_status_3(self):
         copy = self.copy
-        status, out, errors = copy.run("check", rt=False)
+        status, out, errors = copy.run("show", rt=False)
         assert (status, out) == (3, "") and errors.count("\n") == 1 and "'rt'" in errors, (
             status,
             errors,
@@ -71,21 +71,21 @@ class Failures(LauncherCase):
 
     def test_a_program_that_another_user_may_not_run_is_status_3(self):
         copy = self.copy
-        copy.run("check")
+        copy.run("show")
         how = {"user": NOBODY, "group": NOBODY, "extra_groups": []} if os.geteuid() == 0 else {}
         # (who owns a file that cannot be read can build another)
         for path in [copy.out, copy.program][: 2 if how else 1]:
             mode = path.stat().st_mode
             path.chmod(0)
             try:
-                status, out, errors = copy.run("check", **how)
+                status, out, errors = copy.run("show", **how)
             finally:
                 path.chmod(mode)
             assert (status, out) == (3, "") and errors.count("\n") == 1, (status, errors)
             assert (
                 "is not for this user to read" in errors and "not built yet" not in errors
             ), errors
-        assert copy.run("check")[1].startswith("build 1\n")
+        assert copy.run("show")[1].startswith("build 1\n")
 
     def test_a_log_that_cannot_be_written_is_said_once(self):
         copy = self.copy
@@ -96,7 +96,7 @@ class Failures(LauncherCase):
         }
         long = f"for n in {{1..200}}; do echo 'note: {'x' * 100}'; done\n"
         copy.plan(long + PROVED)
-        status, out, errors = copy.run("check", **how)
+        status, out, errors = copy.run("show", **how)
         said = [line for line in errors.splitlines() if "error" in line.lower() or "cannot" in line]
         assert status == 1 and out.startswith("build 1\n"), (status, errors)
         self.assertEqual(
@@ -111,14 +111,14 @@ class Failures(LauncherCase):
         )
         copy.plan(long + "exit 1")
         append(copy.root / "crates.txt", "# changed\n")
-        status, out, errors = copy.run("check", **how)
+        status, out, errors = copy.run("show", **how)
         assert status == 3 and errors.endswith(
             f"office: the report, as far as it could be written, is in {copy.out}/office.log\n"
         ), errors
 
     def test_what_fails_is_status_3(self):
         copy = self.copy
-        copy.run("check")
+        copy.run("show")
         plans = {
             "a proof": ("exit 1", ""),
             "a build": (PROVED, "exit 1"),
@@ -131,18 +131,18 @@ class Failures(LauncherCase):
                 copy.plan(plan)
                 copy.end(end)
                 append(copy.root / "crates.txt", "# changed\n")
-                status, out, errors = copy.run("check")
+                status, out, errors = copy.run("show")
                 self.assertEqual((status, out), (3, ""), f"{name}: {status} {errors}")
         copy.plan(PROVED)
         copy.end("printf '\\177ELF%080d' 0 >out/tally_office; chmod +x out/tally_office")
-        self.assertEqual(copy.run("check")[0], 3, "a program that cannot be started")
+        self.assertEqual(copy.run("show")[0], 3, "a program that cannot be started")
         (copy.root / "crates.txt").unlink()
-        self.assertEqual(copy.run("check")[0], 3, "no crates.txt")
+        self.assertEqual(copy.run("show")[0], 3, "no crates.txt")
 
     def test_a_failed_build_shows_the_open_goal_first(self):
         copy = self.copy
         copy.plan(OPEN)
-        status, out, errors = copy.run("check")
+        status, out, errors = copy.run("show")
         lines = [line.strip() for line in errors.splitlines()]
         at = lines.index("office: the program could not be proved and built:")
         assert status == 3 and out == ""
@@ -166,9 +166,9 @@ class Failures(LauncherCase):
             "echo 'src/share.rt:63:9: error[unknown-field]: no field `nun` on type `Share`' >&2;"
             " exit 1"
         )
-        self.assertIn("\n  src/share.rt:63:9: error[unknown-field]: no field", copy.run("check")[2])
+        self.assertIn("\n  src/share.rt:63:9: error[unknown-field]: no field", copy.run("show")[2])
         copy.plan("echo 'rt: No space left on device' >&2; exit 2")
-        self.assertIn("\n  rt: No space left on device\n", copy.run("check")[2])
+        self.assertIn("\n  rt: No space left on device\n", copy.run("show")[2])
 
     def test_a_launcher_that_is_ended_ends_its_build(self):
         copy = self.copy
@@ -178,9 +178,9 @@ class Failures(LauncherCase):
                 (copy.bin / "child").unlink(missing_ok=True)
                 # The build has a process of its own, which the end of `rt` alone would not end.
                 copy.plan(f"sleep 900 & echo $! >'{copy.bin}/child'; wait")
-                ran = copy.start("check")
+                ran = copy.start("show")
                 copy.wait_for(copy.bin / "child")
-                waiting = copy.start("check")
+                waiting = copy.start("show")
                 ran.send_signal(number)
                 # Long before the 900 seconds of the build.
                 ran.communicate(timeout=PATIENCE / 2)
@@ -196,10 +196,10 @@ class Failures(LauncherCase):
     def test_after_a_build_that_was_ended_the_next_in_line_builds(self):
         copy = self.copy
         copy.plan('echo begun >"$here/begun"; exec sleep 900')
-        first = copy.start("check")
+        first = copy.start("show")
         copy.wait_for(copy.bin / "begun")
         copy.plan(PROVED)
-        second = copy.start("check")
+        second = copy.start("show")
         self.assertEqual(second.stderr.readline(), WAITS)
         first.terminate()
         out, errors = second.communicate(timeout=PATIENCE / 2)

@@ -27,7 +27,7 @@ class FirstLook(LauncherCase):
         words = ["try", "--seconds", "600", "--", "check", "--semicolon"]
         self.assertEqual(
             (status, out),
-            (1, "\n".join([str(copy.root / "crates/tally_office"), *words, "first", "last"])),
+            (1, "\n".join([str(copy.root / "crates/tally_office_small"), *words, "first", "last"])),
         )
         self.assertEqual(errors, UNPROVED.format("check --semicolon", "refused: bad_header\n"))
         self.assertEqual(copy.calls(), [" ".join(words)])
@@ -63,8 +63,8 @@ class FirstLook(LauncherCase):
     def test_a_first_look_is_of_check_and_its_flags_or_of_an_allotment(self):
         copy = self.copy
         wanted = (
-            "office: --unproved is for 'check' and 'allot' alone: './office {}', without it, proves"
-            " and builds the program, and then runs it\n"
+            "office: --unproved is for 'check', 'allot' and 'recount' alone: './office {}', without"
+            " it, proves and builds the program, and then runs it\n"
         )
         for words, name in (
             ((), "COMMAND"),

@@ -11,7 +11,7 @@ class Silence(LauncherCase):
     def test_a_build_that_is_silent_is_spoken_of_all_the_same(self):
         copy = self.copy
         copy.plan("echo '== tally_frac'; exec sleep 900")
-        ran = copy.start("check")
+        ran = copy.start("show")
         timer, seen, still = (
             threading.Timer(PATIENCE / 2, ran.terminate),
             [],

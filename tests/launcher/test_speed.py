@@ -14,7 +14,7 @@ ALONE = True
 class Speed(LauncherCase):
     def test_a_current_program_starts_at_once(self):
         copy = self.copy
-        copy.run("check")
+        copy.run("show")
         copy.program.write_text("#!/bin/sh\n:\n")
         copy.plan("exit 9")
         mark = copy.out / "office.mark"
@@ -23,7 +23,7 @@ class Speed(LauncherCase):
             ["sha256sum"], stdin=copy.program.open(), capture_output=True, text=True
         ).stdout.strip()
         mark.write_text("\n".join(lines) + "\n")
-        self.assertEqual(copy.run("check"), (0, "", ""))
+        self.assertEqual(copy.run("show"), (0, "", ""))
         path = {**os.environ, "PATH": f"{copy.bin}:{os.environ['PATH']}"}
 
         def took(*words):
@@ -40,8 +40,8 @@ class Speed(LauncherCase):
         )
         with_launcher, alone, listed = [], [], []
         for rounds in range(400):
-            with_launcher.append(took(copy.root / "office", "check"))
-            alone.append(took(copy.program, "check"))
+            with_launcher.append(took(copy.root / "office", "show"))
+            alone.append(took(copy.program, "show"))
             listed.append(took("bash", "-c", listing))
             more, most = min(with_launcher) - min(alone), max(100, 5 * min(listed))
             if rounds >= 40 and more <= most:

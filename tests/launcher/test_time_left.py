@@ -47,7 +47,7 @@ def times_as_long(copy):
 class TimeLeft(LauncherCase):
     def test_a_build_says_what_it_needs_and_how_many_crates_are_left(self):
         copy = self.copy
-        lines = copy.run("check")[2].splitlines()
+        lines = copy.run("show")[2].splitlines()
         assert all(
             need in lines[1] for need in ("8 GB of disk", "of memory", "some 40 minutes")
         ), lines
@@ -119,7 +119,7 @@ class TimeLeft(LauncherCase):
         copy = self.copy
         copy.record(RECORDED)
         copy.plan(TIMED.format(3))
-        lines = copy.run("check")[2].splitlines()
+        lines = copy.run("show")[2].splitlines()
         said = minutes_in(lines[1])
         assert lines[1].endswith(
             f"on a machine as fast as the one where that was measured, about {said} min"
@@ -136,7 +136,7 @@ class TimeLeft(LauncherCase):
         copy = self.copy
         copy.record(RECORDED)
         copy.plan(TIMED.format(6))
-        lines = copy.run("check")[2].splitlines()
+        lines = copy.run("show")[2].splitlines()
         assert (
             times_as_long(copy) >= 2
             and 0.7 <= minutes_in(lines[2]) / minutes_in(lines[1]) / times_as_long(copy) <= 1.3
@@ -154,7 +154,7 @@ class TimeLeft(LauncherCase):
         )
         message = "echo '== tally_desk_message'\necho 'logic=proved functions=7 sum=0'\n"
         copy.plan(TIMED.format(3).replace("printf", crates + message + "printf"))
-        lines = copy.run("check")[2].splitlines()
+        lines = copy.run("show")[2].splitlines()
         assert minutes_in(lines[1]) >= 80 and minutes_in(lines[2]) >= 56, lines
         self.assertEqual(
             lines[3],
@@ -175,7 +175,7 @@ class TimeLeft(LauncherCase):
             "".join(f"echo '== {crate}'\n" for crate in [*kept, "tally_import_records"])
             + "sleep 2; exit 1"
         )
-        lines = copy.run("check")[2].splitlines()
+        lines = copy.run("show")[2].splitlines()
         assert (
             lines[1] == f"office: 4 {taken}"
             and "about 3" in lines[2]
@@ -184,23 +184,23 @@ class TimeLeft(LauncherCase):
         # The crates above one that changed are proved again, over what is left of it.
         append(copy.root / "crates/tally_frac/src/share.rt")
         copy.plan("exit 1")
-        lines = copy.run("check")[2].splitlines()
+        lines = copy.run("show")[2].splitlines()
         assert lines[1] == f"office: 2 {taken}" and "at most 3" in lines[2], lines
         append(copy.root / "crates.txt", "# a comment\n")
-        self.assertNotIn("taken over", copy.run("check")[2])
+        self.assertNotIn("taken over", copy.run("show")[2])
         # Above a crate that is not proved nothing is taken over.
         copy.plan(
             'for crate in frac setup law; do echo "== tally_$crate"; [ $crate != frac ] || echo'
             " logic=not-proved; done; exit 1"
         )
-        self.assertNotIn("taken over", copy.run("check")[2])
+        self.assertNotIn("taken over", copy.run("show")[2])
         # All but the program is kept, so no sources are read.
         for crate in NAMES:
             shutil.rmtree(copy.root / "crates" / crate / "out", ignore_errors=True)
             if crate != "tally_office":
                 copy.keep(crate)
         copy.plan(PROVED)
-        lines = copy.run("check")[2].splitlines()
+        lines = copy.run("show")[2].splitlines()
         assert lines[1] == f"office: {CRATES - 1} {taken}" and minutes_in(lines[2]) == 30, lines
 
     def test_a_build_notes_when_its_parts_ended(self):
@@ -215,7 +215,7 @@ class TimeLeft(LauncherCase):
             )
         )
         begun = time.monotonic()
-        copy.run("check")
+        copy.run("show")
         took = time.monotonic() - begun
         lines = [line.split() for line in (copy.out / "office.ends").read_text().splitlines()]
         self.assertEqual(

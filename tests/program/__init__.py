@@ -1,6 +1,7 @@
 """Tests of the program `office`, over databases in files and over TCP.
 
-- Commands: test_command_line, test_new, test_import, test_show, test_check, test_allot, test_setup.
+- Commands: test_command_line, test_new, test_import, test_show, test_check, test_allot, test_setup,
+  test_recount_command, test_help.
   Files and disks: test_files, test_disk.
 - The server: test_serve, test_messages, test_clients, test_waiting, test_bytes, test_examples.
 - Databases that somebody changed: test_database, test_tables. The recount: test_recount.

@@ -46,6 +46,8 @@ WRONG = {
         "serve --port 8080 --count 1",
         "allot --seats 8",
         "allot --method hare",
+        "recount --setup s",
+        "recount --con c",
     ),
     "error: invalid value ": (
         "show --db a --report nonesuch --con c",
@@ -114,6 +116,7 @@ class CommandLine(ProgramCase):
             "help serve",
             "check --help",
             "allot --help",
+            "recount --help",
             "new --help",
             "import --help",
             "show --help",
@@ -136,7 +139,7 @@ class CommandLine(ProgramCase):
         write("returns.csv", RETURNS.replace(",", ";"))
         counts = "lodged 3\nsame 0\ndiffers 0\nrefused 0\nbad 0\nfirst -\n"
         done(counts, *"import --semicolon --csv returns.csv --con c1 --db office.db".split())
-        for report in ("progress", "country"):
+        for report in ("progress", "country", "results"):
             with self.subTest(report=report):
                 self.assertEqual(show(report), show(report, con=None))
         # The office is opened before the port, so that no server begins here.
@@ -323,6 +326,7 @@ class CommandLine(ProgramCase):
             ("check", ("--semicolon", "--rows")),
             ("allot", ("--seats", "--method", "--threshold", "--base", "--blank", "--lot")),
             ("allot", ("--alternating", "--awards", "--semicolon")),
+            ("recount", ("--setup", "--con", "--without", "--lot", "--awards", "--decisive")),
             ("new", ("--db", "--setup")),
             ("import", ("--db", "--con", "--csv", "--semicolon", "--rows")),
             ("show", ("--db", "--report", "--con", "progress")),
@@ -334,7 +338,8 @@ class CommandLine(ProgramCase):
                 self.assertLessEqual(max(map(len, text.splitlines())), 80)
         reports = " ".join(office("show", "--help").err.split())
         for said in (
-            "country the seats and votes of each list over all constituencies --con",
+            "country the seats and votes of each list over all constituencies result",
+            "results the results of all constituencies, as a JSON array --con",
             "returns the returns as CSV, which 'office import' takes",
         ):
             with self.subTest(said=said):

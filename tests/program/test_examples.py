@@ -99,6 +99,7 @@ STATES = {
     "entered twice": (PROFILE + CONSTITUENCY + DOUBLE + LISTS + station("s1"), RECOUNT[:1]),
     "one of three missing": (THREE_STATIONS, [*counted([100, 100]), THIRD]),
     "two constituencies": (SETUP + PORT, RECOUNT[:4] + IN_PORT),
+    "one of two certified": (SETUP + PORT, RECOUNT[:4]),
 }
 
 
@@ -129,6 +130,9 @@ GIVEN = {
     "stations report": given("one of three missing"),
     "returns returns": given("closed"),
     "country country": given("two constituencies"),
+    "results two": given("one of two certified"),
+    "result certified": given("certified"),
+    "result lot_needed": given("closed"),
     "other_method": given("hare"),
     "quota other_method": given("certified"),
     "lodge lodged": given("new"),

@@ -262,13 +262,14 @@ def requests_of_each_rule(con, draw):
 
 def looks_at_no_certificate(db, con, edited):
     """A constituency with 4,999 certificates on record is looked at as one that has none, and one
-    of a setup of 8 MiB as one of a small setup: what is not shown is not read.
+    of a setup of 8 MiB as one of a small setup: what is not shown is not read. (The past and the
+    result show the certificates.)
     """
     new(db="small.db")
     looks = {"": 200} | {
         f"/{report}": 200 if report in ("tally", "provisional", "stations", "returns") else 409
         for report in CON_REPORTS
-        if report != "past"
+        if report not in ("past", "result")
     }
     with serving("small.db", len(looks) * TIMES) as desk:
         small = [

@@ -15,7 +15,7 @@ from tests.support.office import SETUP
 from tests.support.program import STARTED, ProgramCase, Ran, end_all, new, office, write
 from tests.support.running import PATIENCE, free_port
 
-COMMANDS = ("check", "allot", "new", "import", "show", "serve")
+COMMANDS = ("check", "allot", "recount", "new", "import", "show", "serve")
 
 
 def is_free(port):

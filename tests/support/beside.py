@@ -31,8 +31,9 @@ def shown_as(plain, db, cons, reports):
         status, text = plain.ask(
             "GET", f"/{report}" if report in OFFICE_REPORTS else f"/con/{con}/{report}"
         )
+        end = "\n" if report in ("result", "results") else ""
         wanted = (
-            Ran(0, text, "")
+            Ran(0, text + end, "")
             if status == 200
             else Ran(1, "", f"refused: {json.loads(text)['word']}\n")
         )
@@ -59,10 +60,11 @@ CON_REPORTS = (
     "provisional",
     "stations",
     "returns",
+    "result",
 )
 
 
-OFFICE_REPORTS = ("progress", "country")
+OFFICE_REPORTS = ("progress", "country", "results")
 
 
 LOOKS_AT_ALL = [get(f"/{report}") for report in OFFICE_REPORTS]

@@ -16,6 +16,10 @@ DRIVER = shutil.which("chromedriver")
 CHROMIUM = shutil.which("chromium") or shutil.which("chromium-browser")
 # The name of an element's number in the protocol.
 KEY = "element-6066-11e4-a52e-4f735466cecf"
+# Brings a part to the middle of the window where it is outside, or another one is over its middle.
+FROM_BELOW = """const [e] = arguments, box = e.getBoundingClientRect();
+const over = document.elementFromPoint(box.x + box.width / 2, box.y + box.height / 2);
+if (!e.contains(over)) e.scrollIntoView({ block: "center" });"""
 
 
 class Failed(Exception):
@@ -60,7 +64,11 @@ class Browser:
         return self.of_session("POST", "/element", {"using": "css selector", "value": css})[KEY]
 
     def click(self, css):
-        self.of_session("POST", f"/element/{self.find(css)}/click", {})
+        """Presses a part. One that is not seen, as under a line that stays at the top, is brought
+        to the middle of the window before, as somebody who presses it does."""
+        found = self.find(css)
+        self.run(FROM_BELOW, {KEY: found})
+        self.of_session("POST", f"/element/{found}/click", {})
 
     def type(self, css, text):
         found = self.find(css)

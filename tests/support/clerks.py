@@ -38,6 +38,13 @@ def said(it, words):
         raise AssertionError(f"wanted {words!r}, and it says {it.text('#said')!r}") from error
 
 
+def compare(it, words):
+    """Waits until the page says of a slip that it differs, and stops; goes on to compare it."""
+    said(it, words)
+    same(it.run("return document.activeElement.id"), "stopped-compare")
+    it.click("#stopped-compare")
+
+
 def choose_station(it, code, words="This is what the office has now."):
     it.run("const e = document.getElementById('station'); e.value = arguments[0]; "
            "e.dispatchEvent(new Event('change'))", code)

@@ -5,7 +5,7 @@ from pathlib import Path
 
 from tests.support.desks import done, modelled
 from tests.support.office import constituency, party_list, profile, station, with_stations
-from tests.support.pages import TWIN, press, site_folder
+from tests.support.pages import RESULT, TWIN, press, results_of, site_folder
 
 # By hand. Norte has 3 seats by D'Hondt of A 100 (50, 33), B 90 (45), C 5: A, B, A. Este has 2 of
 # A 30, B 80 (40), C 10: both B's. Sur was certified and reopened; of Oeste one return of two is
@@ -94,24 +94,13 @@ def sixty_lists():
              for n in range(60)]
     # Who won each seat, and which of the list's own it is.
     won = [(0, k) for k in range(1, 42)] + [(n, 1) for n in range(1, 60)]
-    reports = {
-        "tally": "stations 1 closed 1\nvalid 100000 blank 0 spoiled 0\n" + "".join(
-            f"{code:16}{many:12}{'41.00' if many > 1_000 else '1.00':>8} in  {name}\n"
-            for code, many, name in zip(codes, votes, names)),
-        "seats": "edition 3\n"
-        + "".join(f"{code:16}{many:5} {name}\n" for code, many, name in zip(codes, seats, names))
-        + f"{'total':16}{100:5}\n",
-        "quotients": "".join(f"{code:16}" + "".join(f"{'*' if k <= many else ' '}{of // k:11}"
-                                                    for k in range(1, 43)) + "\n"
-                             for code, many, of in zip(codes, seats, votes)),
-        "awards": "".join(f"{seat:4} {codes[n]:16}{k:4}{votes[n]:14}{k:6}{votes[n] // k:12}\n"
-                          for seat, (n, k) in enumerate(won, 1)),
-        "short": "".join(f"{code:16}{many:5}{1000:12}\n" for code, many in zip(codes, seats)),
-        "holders": "".join(f"{codes[n]:16}{k:5} Candidate {k}\n" for n, k in won), "past": "",
-    }
-    view = TWIN["/con/c1"] | {"lot": [], "seats": seats, "votes": votes}
-    return TWIN | {"/con/c1": view} | {f"/con/c1/{name}": f"{name.upper()} c1 Twin Town\n{text}"
-                                       for name, text in reports.items()}
+    lists = [{"code": code, "name": name, "votes": of, "eligible": True, "seats": many,
+              "provisional": many, "short": 1000}
+             for code, name, many, of in zip(codes, names, seats, votes)]
+    return TWIN | results_of(RESULT | {
+        "seats": 100, "lot": [], "lists": lists,
+        "awards": [[codes[n], k, votes[n], k] for n, k in won],
+        "holders": [[codes[n], k, f"Candidate {k}"] for n, k in won]})
 
 
 def invented_country():

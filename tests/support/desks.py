@@ -83,8 +83,8 @@ def answer_of(answer):
     status, body = (answer, "{}") if isinstance(answer, int) else answer if isinstance(answer,
                                                                                        tuple) else (
         200, answer)
-    body = (json.dumps(body) if isinstance(body, dict) else body).encode()
-    kind = "application/json" if body.startswith(b"{") else "text/plain; charset=utf-8"
+    body = (json.dumps(body) if isinstance(body, (dict, list)) else body).encode()
+    kind = "application/json" if body.startswith((b"{", b"[")) else "text/plain; charset=utf-8"
     return (f"HTTP/1.1 {status} X\r\nContent-Type: {kind}\r\nContent-Length: {len(body)}\r\n"
             "Connection: close\r\n\r\n").encode() + body
 

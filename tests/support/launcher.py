@@ -42,14 +42,15 @@ if [ "$1" = try ]; then
 fi
 echo "$*" >>"$here/runs"
 cat >"$here/input"
-cat >out/tally_office <<END
+program=out/$(basename "$PWD")
+cat >"$program" <<END
 #!/bin/sh
 printf '%s\n' "build $(wc -l <"$here/runs")" "\$PWD" "\$@"
 cat
 echo "an error" >&2
 exit 1
 END
-chmod +x out/tally_office
+chmod +x "$program"
 echo "logic=proved functions=28 sum=0" >&2
 echo "the program's own output"
 . "$here/end"
@@ -94,13 +95,13 @@ exit 1
 WAITS = "office: another ./office is building the program: waiting for it\n"
 
 
-def crates_of_the_program():
-    """The crates that the program is made of: `tally_office`, those that it uses, and those that
-    they use.
+def crates_of(program):
+    """The crates that a program is made of: its own, those that it uses, and those that they
+    use.
     """
     lines = (line.partition(":") for line in (ROOT / "crates.txt").read_text().splitlines())
     uses = {name.strip(): used.split() for name, _, used in lines}
-    found, left = set(), ["tally_office"]
+    found, left = set(), [program]
     while left:
         name = left.pop()
         if name in uses and name not in found:
@@ -109,7 +110,11 @@ def crates_of_the_program():
     return sorted(found)
 
 
-NAMES = crates_of_the_program()
+NAMES = crates_of("tally_office")
+
+
+# Those of the program for `check`, `allot` and `recount`.
+SMALL = crates_of("tally_office_small")
 
 
 CRATES = len(NAMES)
@@ -137,11 +142,15 @@ class Copy:
         self.bin = self.folder / "bin"
         self.out = self.root / "crates/tally_office/out"
         self.program = self.out / "tally_office"
+        self.small = self.root / "crates/tally_office_small/out/tally_office_small"
         self.started = []
         self.root.mkdir(parents=True)
         self.bin.mkdir()
         shutil.copy(ROOT / "office", self.root)
         shutil.copy(ROOT / "crates.txt", self.root)
+        (self.root / "docs").mkdir()
+        if (ROOT / "docs/help.txt").exists():
+            shutil.copy(ROOT / "docs/help.txt", self.root / "docs")
         for part in sorted(ROOT.glob("crates/*/*")):
             if part.name in PARTS:
                 shutil.copytree(part, self.root / part.relative_to(ROOT))

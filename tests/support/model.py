@@ -10,7 +10,7 @@ import math
 import re
 from functools import cached_property
 
-from tests.support.model_reports import REPORTS, Unreported, country, progress, shown
+from tests.support.model_reports import REPORTS, Unreported, country, progress, result, shown
 
 # The divisors of the rules, and what the votes are multiplied by: the modified rule divides by 1.4,
 # 3, 5 and so on, in fifths.
@@ -329,11 +329,15 @@ class Office:
             return "".join(map(progress, self.cons.values()))
         if kind == "country":
             return country(list(self.cons.values()))
+        if kind == "results":
+            return compact([result(con) for con in self.cons.values()])
         if kind == "station":
             con = self.con_of(code)
             need(code in con.returns, 8)
             return compact({"station": code, **con.returns[code]})
         con = self.con(code)
+        if report == "result":
+            return compact(result(con))
         return REPORTS[report](con) if report else compact(shown(con))
 
     # Returns.

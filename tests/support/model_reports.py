@@ -150,28 +150,102 @@ def past(con):
     return titled("past", con, rows)
 
 
-def provisional(con):
+def standing(con):
+    """The status of the provisional seats, the lists among which a lot is needed, how many seats it
+    decides, and the seats.
+    """
     poll = con.poll()
     group, in_question = poll.group() if poll.eligible else ([], 0)
     if con.certified is not None:
-        standing, seats = "certified", con.certified
-    elif not poll.eligible:
-        standing, seats = "no_eligible", [0] * len(con.lists)
-    elif group and not con.lot:
-        standing = " ".join(["lot", str(in_question), *(con.lists[n] for n in group)])
-        seats = poll.least()
-    else:
-        standing, seats = "open", poll.allotted()
+        return "certified", [], 0, con.certified
+    if not poll.eligible:
+        return "no_eligible", [], 0, [0] * len(con.lists)
+    if group and not con.lot:
+        return "lot", group, in_question, poll.least()
+    return "open", [], 0, poll.allotted()
+
+
+def provisional(con):
+    status, group, in_question, seats = standing(con)
+    needed = [str(in_question), *(con.lists[n] for n in group)] if group else []
     return titled(
         "provisional",
         con,
         [
             f"stations {len(con.electors)} closed {con.statuses()[3]}",
-            standing,
+            " ".join([status, *needed]),
             *(f"{code:16}{seats[n]:5} {con.names[n]}" for n, code in enumerate(con.lists)),
             f"{'total':16}{sum(seats):5}",
         ],
     )
+
+
+def holders_and_empty_seats(con):
+    for n, code in enumerate(con.lists):
+        held = con.holders(n)
+        yield from ([code, place, con.candidates[n][place - 1]] for place in held)
+        yield from [[code, None, None]] * (con.certified[n] - len(held))
+
+
+def result(con):
+    """The result of a constituency in one answer, as an object of JSON."""
+    poll = con.poll()
+    votes, blank, spoiled = con.closed()
+    status, group, in_question, seats = standing(con)
+    received, queried, corrected, closed = con.statuses()
+    decided, hare = status in ("certified", "open"), con.profile["method"] == "hare"
+
+    def short(n):
+        shown = decided and not hare and n in poll.eligible
+        return poll.short(n, seats[n]) if shown else None
+
+    return {
+        "con": con.code,
+        "name": con.setup["name"],
+        "seats": con.seats,
+        "entry": "double" if con.twice else "single",
+        "edition": con.edition,
+        "note": con.note,
+        "certified": con.certified is not None,
+        "method": con.profile["method"],
+        "threshold": con.profile["threshold"],
+        "base": con.profile["base"],
+        "lot_rule": con.profile.get("lot", "fixed"),
+        "stations": len(con.electors),
+        "received": received,
+        "queried": queried,
+        "corrected": corrected,
+        "closed": closed,
+        "blank": blank,
+        "spoiled": spoiled,
+        "lot": [con.lists[n] for n in con.lot],
+        "status": status,
+        "group": [con.lists[n] for n in group],
+        "question": in_question,
+        "lists": [
+            {
+                "code": code,
+                "name": con.names[n],
+                "votes": votes[n],
+                "eligible": n in poll.eligible,
+                "seats": con.certified[n] if con.certified is not None else None,
+                "provisional": seats[n],
+                "short": short(n),
+            }
+            for n, code in enumerate(con.lists)
+        ],
+        "awards": [
+            [con.lists[n], k, poll.in_units(n), poll.divisor(k)] for n, k in poll.awards()
+        ]
+        if decided and not hare
+        else [],
+        "quota": [[con.lists[n], *poll.quota(n), seats[n]] for n in poll.eligible]
+        if decided and hare
+        else [],
+        "holders": list(holders_and_empty_seats(con)) if con.certified is not None else [],
+        "gone": [[con.lists[n], place, con.gone[n, place]] for n, place in sorted(con.gone)],
+        "past": [{"edition": edition, "seats": won} for edition, won in sorted(con.past.items())],
+    }
 
 
 def stations(con):

@@ -13,42 +13,68 @@ from tests.support.site import DEPLOY, same
 
 # The bytes of the largest page.
 PAGE_BYTES = 60_000
-# The answers of a desk for Twin Town, certified with the lot B, A: the texts of docs/FORMATS.md.
-TWIN = {
-    "/progress": "c1                    1      0      0      0      0      1      3 certified\n",
-    "/con/c1": {"blank": 0, "certified": True, "closed": 1, "con": "c1", "edition": 3, "gone": [],
-                "lot": ["B", "A"], "note": "", "seats": [1, 2], "spoiled": 0, "stations": 1,
-                "votes": [100, 100]},
-    "/con/c1/tally": ("TALLY c1 Twin Town\nstations 1 closed 1\nvalid 200 blank 0 spoiled 0\n"
-                      "A                        100   50.00 in  Alpha\n"
-                      "B                        100   50.00 in  Beta\n"),
-    "/con/c1/seats": ("SEATS c1 Twin Town\nedition 3\nA                   1 Alpha\n"
-                      "B                   2 Beta\ntotal               3\n"),
-    "/con/c1/quotients": ("QUOTIENTS c1 Twin Town\n"
-                          "A               *        100          50          33\n"
-                          "B               *        100*         50          33\n"),
-    "/con/c1/awards": ("AWARDS c1 Twin Town\n"
-                       "   1 B                  1           100     1         100\n"
-                       "   2 A                  1           100     1         100\n"
-                       "   3 B                  2           100     2          50\n"),
-    "/con/c1/short": ("SHORT c1 Twin Town\nA                   1           1\n"
-                      "B                   2         200\n"),
-    "/con/c1/holders": ("HOLDERS c1 Twin Town\nA                   1 Ana\n"
-                        "B                   1 Bea\nB                   - empty\n"),
-    "/con/c1/past": "PAST c1 Twin Town\n",
+# The result of Twin Town, certified with the lot B, A: that of docs/FORMATS.md.
+RESULT = {
+    "awards": [["B", 1, 100, 1], ["A", 1, 100, 1], ["B", 2, 100, 2]], "base": "valid", "blank": 0,
+    "certified": True, "closed": 1, "con": "c1", "corrected": 0, "edition": 3, "entry": "single",
+    "gone": [], "group": [], "holders": [["A", 1, "Ana"], ["B", 1, "Bea"], ["B", None, None]],
+    "lists": [{"code": "A", "eligible": True, "name": "Alpha", "provisional": 1, "seats": 1,
+               "short": 1, "votes": 100},
+              {"code": "B", "eligible": True, "name": "Beta", "provisional": 2, "seats": 2,
+               "short": 200, "votes": 100}],
+    "lot": ["B", "A"], "lot_rule": "fixed", "method": "dhondt", "name": "Twin Town", "note": "",
+    "past": [], "queried": 0, "question": 0, "quota": [], "received": 0, "seats": 3, "spoiled": 0,
+    "stations": 1, "status": "certified", "threshold": 0}
+
+
+def with_lists(result, **columns):
+    """A result whose lists have these values under these names, in their order."""
+    return result | {"lists": [row | {key: values[n] for key, values in columns.items()}
+                               for n, row in enumerate(result["lists"])]}
+
+
+def view_of(result):
+    """The view that GET /con/CODE shows of a constituency with this result."""
+    keys = ("blank", "certified", "closed", "con", "edition", "lot", "note", "spoiled", "stations")
+    return {key: result[key] for key in keys} | {
+        "gone": [{"list": code, "note": note, "place": place}
+                 for code, place, note in result["gone"]],
+        "seats": [row["seats"] for row in result["lists"]] if result["certified"] else [],
+        "votes": [row["votes"] for row in result["lists"]],
+        **({"entry": "double"} if result["entry"] == "double" else {})}
+
+
+def results_of(*results):
+    """The answers of a desk that has these results, but for those on stations."""
+    return {"/results": list(results), **{f"/con/{result['con']}/result": result
+                                          for result in results},
+            **{f"/con/{result['con']}": view_of(result) for result in results}}
+
+
+def renamed(answers, names):
+    """These answers of a desk with other names in its results."""
+    def other(value):
+        if isinstance(value, dict):
+            return {key: other(one) for key, one in value.items()}
+        if isinstance(value, list):
+            return [other(one) for one in value]
+        return names.get(value, value) if isinstance(value, str) else value
+
+    return answers | results_of(*other(answers["/results"]))
+
+
+# The answers of a desk for Twin Town; and once its certificate is withdrawn.
+TWIN = results_of(RESULT) | {
     "/con/c1/stations": (
         "STATIONS c1 Twin Town\nstations 1 missing 0 closed 1\n"
         "s1                   300 closed       2 p1                   200       0       0\n"),
     "/con/c1/returns": "station,slip,blank,spoiled,A,B\ns1,p1,0,0,100,100\n",
 }
 OF_STATIONS = ("/con/c1/stations", "/con/c1/returns")
-REOPENED = TWIN | {
-    "/progress": "c1                    1      0      0      0      0      1      4 open\n",
-    "/con/c1": TWIN["/con/c1"]
-    | {"certified": False, "edition": 4, "note": "a <recount>", "seats": []},
-    "/con/c1/past": ("PAST c1 Twin Town\nedition 3\nA                   1 Alpha\n"
-                     "B                   2 Beta\n"),
-}
+WITHDRAWN = with_lists(RESULT, seats=[None, None]) | {
+    "certified": False, "edition": 4, "note": "a <recount>", "status": "open", "holders": [],
+    "past": [{"edition": 3, "seats": [1, 2]}]}
+REOPENED = TWIN | results_of(WITHDRAWN)
 
 
 def press(port, *words, folder="pages", status=0):

@@ -202,6 +202,8 @@ def clerks_site(office, name, role):
                 self.headers["Content-Length"] or 0)).decode()
             files = {"/clerk.html": ("text/html; charset=utf-8", ROOT / "deploy/www/clerk.html"),
                      "/setup.json": ("application/json", Path("pages/setup.json"))}
+            if Path("pages/site.json").exists():
+                files["/site.json"] = ("application/json", Path("pages/site.json"))
             if target in files:
                 kind, file = files[target]
                 head = (f"HTTP/1.0 200 X\r\nContent-Type: {kind}\r\nX-Office-Name: {name}\r\n"
@@ -247,7 +249,7 @@ def clerks_pages(it):
         yield "clerk", SCREENS
         # Two figures are exchanged.
         opened(it, address, "04-001-B")
-        slip = ("r213", 68, 20, 84, 14, 3, 2, 1, 192)
+        slip = ("r213", 68, 60, 44, 2, 17, 2, 1, 194)
         it.run("[...document.querySelectorAll('#lodge input')].forEach((e, n) => { e.value = "
                "arguments[0][n]; })", slip)
         it.click("#lodge button")
@@ -266,7 +268,7 @@ def clerks_pages(it):
         it.type("#reopen input[name=note]", "a recount")
         it.click("#reopen button")
         it.accept()
-        it.wait(READY, "Done: edition 3.")
+        it.wait(READY, "Done.")
         yield "receipt", ("desk", "print")
     with clerks_site(counted(office_of(EXAMPLES), ()), "04-001-B", "station") as address:
         opened(it, address)

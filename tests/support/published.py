@@ -14,7 +14,9 @@ from datetime import datetime, timedelta
 from pathlib import Path
 
 from tests.support.desks import answering_desk, recording_desk
-from tests.support.pages import REOPENED, TWIN, press, read
+from tests.support.pages import (
+    REOPENED, RESULT, TWIN, WITHDRAWN, press, read, results_of, with_lists,
+)
 from tests.support.proxy import with_a_second
 from tests.support.site import DEPLOY, printed, same
 
@@ -132,54 +134,27 @@ def package_faults():
     return found
 
 
-HARE = TWIN | {
-    "/con/c1": TWIN["/con/c1"] | {"seats": [3, 0], "votes": [168000, 40000], "lot": []},
-    "/con/c1/tally": ("TALLY c1 Twin Town\nstations 1 closed 1\nvalid 208000 blank 0 spoiled 0\n"
-                      "A                     168000   80.76 in  Alpha\n"
-                      "E                      40000   19.23 out Beta\n"),
-    "/con/c1/quota": ("QUOTA c1 Twin Town\nvotes 208000 seats 3\n"
-                      "A                     168000    2          384000    3\n"
-                      "E                      40000    0          320000    0\n"),
-    **{f"/con/c1/{name}": (409, '{"word":"other_method"}')
-       for name in ("quotients", "awards", "short")},
-    "/con/c1/seats": ("SEATS c1 Twin Town\nedition 3\nA                   3 Alpha\n"
-                      "E                   0 Beta\ntotal               3\n"),
-    "/con/c1/holders": ("HOLDERS c1 Twin Town\nA                   1 Ana\n"
-                        "A                   2 Abel\nA                   - empty\n"),
-}
-VACATED = TWIN | {
-    "/con/c1": TWIN["/con/c1"]
-    | {"gone": [{"list": "A", "note": "resigned <today>", "place": 1}], "entry": "double"},
-    "/con/c1/holders": ("HOLDERS c1 Twin Town\nA                   2 Abel\n"
-                        "B                   1 Bea\nB                   - empty\n"),
-}
-OPEN = REOPENED | {
-    "/progress": "c1                    1      0      1      0      0      0      1 open\n",
-    "/con/c1/past": "PAST c1 Twin Town\n",
-    "/con/c1": REOPENED["/con/c1"]
-    | {"edition": 1, "closed": 0, "note": "", "votes": [0, 0], "lot": []},
-    "/con/c1/tally": ("TALLY c1 Twin Town\nstations 1 closed 0\nvalid 0 blank 0 spoiled 0\n"
-                      "A                          0    0.00 out Alpha\n"
-                      "B                          0    0.00 out Beta\n"),
+# By quotas of 208,000 / 3 votes: the numbers of docs/FORMATS.md.
+HARE = TWIN | results_of(with_lists(
+    RESULT, seats=[3, 0], provisional=[3, 0], votes=[168000, 40000], eligible=[True, False],
+    short=[None, None]) | {
+        "method": "hare", "awards": [], "lot": [], "quota": [["A", 2, 384000, 3]],
+        "holders": [["A", 1, "Ana"], ["A", 2, "Abel"], ["A", None, None]]})
+VACATED = TWIN | results_of(RESULT | {
+    "gone": [["A", 1, "resigned <today>"]], "entry": "double",
+    "holders": [["A", 2, "Abel"], ["B", 1, "Bea"], ["B", None, None]]})
+OPEN = REOPENED | results_of(with_lists(
+    WITHDRAWN, votes=[0, 0], provisional=[0, 0], eligible=[False, False], short=[None, None]) | {
+        "edition": 1, "closed": 0, "received": 1, "note": "", "lot": [], "past": [], "awards": [],
+        "status": "no_eligible"}) | {
     "/con/c1/stations": TWIN["/con/c1/stations"].replace("closed 1", "closed 0").replace(
-        "closed       2", "received     1"),
-}
+        "closed       2", "received     1")}
 # Certified once more after the reopening, by one vote more for A.
-AGAIN = TWIN | {
-    "/progress": TWIN["/progress"].replace(" 3 ", " 5 "), "/con/c1/past": REOPENED["/con/c1/past"],
-    "/con/c1": TWIN["/con/c1"]
-    | {"edition": 5, "note": "a <recount>", "votes": [101, 100], "seats": [2, 1], "lot": []},
-    "/con/c1/tally": ("TALLY c1 Twin Town\nstations 1 closed 1\nvalid 201 blank 0 spoiled 0\n"
-                      "A                        101   50.24 in  Alpha\n"
-                      "B                        100   49.75 in  Beta\n"),
-    "/con/c1/seats": ("SEATS c1 Twin Town\nedition 5\nA                   2 Alpha\n"
-                      "B                   1 Beta\ntotal               3\n"),
-    "/con/c1/quotients": ("QUOTIENTS c1 Twin Town\n"
-                          "A               *        101*         50          33\n"
-                          "B               *        100          50          33\n"),
-    "/con/c1/holders": ("HOLDERS c1 Twin Town\nA                   1 Ana\n"
-                        "A                   2 Abel\nB                   1 Bea\n"),
-}
+AGAIN = TWIN | results_of(with_lists(
+    RESULT, votes=[101, 100], seats=[2, 1], provisional=[2, 1], short=[100, 2]) | {
+        "edition": 5, "note": "a <recount>", "lot": [], "past": [{"edition": 3, "seats": [1, 2]}],
+        "awards": [["A", 1, 101, 1], ["B", 1, 100, 1], ["A", 2, 101, 2]],
+        "holders": [["A", 1, "Ana"], ["A", 2, "Abel"], ["B", 1, "Bea"]]})
 
 
 def beside(answers, code="c2"):
@@ -187,8 +162,7 @@ def beside(answers, code="c2"):
     other = {target.replace("c1", code): said.replace("c1", code) if isinstance(said, str)
              else said | {"con": code}
              for target, said in answers.items() if target.startswith("/con/")}
-    return answers | other | {"/progress": answers["/progress"]
-                              + answers["/progress"].replace("c1", code)}
+    return answers | other | {"/results": [*answers["/results"], other[f"/con/{code}/result"]]}
 
 
 def publish(answers, *words, status=0):

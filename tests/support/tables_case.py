@@ -140,7 +140,8 @@ class Case(unittest.TestCase):
     def run_tool(self, *words, status=0, language="en"):
         """Runs the tool, in this process: its standard output and its standard error."""
         out, said = (io.TextIOWrapper(io.BytesIO(), encoding="utf-8") for _ in range(2))
-        command = [str(TOOL), "--language", language, *map(str, words)]
+        asked = ["--language", language] if language else []
+        command = [str(TOOL), *asked, *map(str, words)]
         with (
             mock.patch("sys.argv", command),
             contextlib.redirect_stdout(out),
@@ -162,9 +163,9 @@ class Case(unittest.TestCase):
     def made(self, *words):
         return self.run_tool("--rule", "loreg", *words, self.folder)[0]
 
-    def refused(self, *words):
+    def refused(self, *words, status=1):
         """The lines of the faults."""
-        said = self.run_tool("--rule", "loreg", *words, self.folder, status=1)[1]
+        said = self.run_tool("--rule", "loreg", *words, self.folder, status=status)[1]
         return said.splitlines()
 
     def is_read(self, text):

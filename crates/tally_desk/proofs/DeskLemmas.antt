@@ -1,5 +1,6 @@
 -- What the steps of an answer leave is an answer.
 use Rattle.std.proofs.Common.{◌≡◌, ◌∙◌, ℕ, List, [], Option, Some, None, Result, Ok, Err, IfSome, IsSome, OnOk, OnErr, option_map, option_and_then, refl, sym, ap, subst, true≢false}
+use Rattle.std.specs.List.{AllZip}
 use Rattle.std.specs.Option.{option_map_or}
 use Rattle.serde_json.specs.Data.{Data}
 use Rattle.tally_setup.specs.Constituency.{Constituency, ListEntry, list_codes}
@@ -7,7 +8,7 @@ use Rattle.tally_setup.specs.Setup.{constituency_with, station_with}
 use Rattle.tally_setup.specs.declared.constituency.Station.{Station}
 use Rattle.tally_desk_answer.specs.Answer.{answer_text}
 use Rattle.tally_desk_answer.specs.declared.status.AnswerStatus.TheVariants.{Done}
-use Rattle.tally_desk_answer.specs.declared.status.BodyType.TheVariants.{Text}
+use Rattle.tally_desk_answer.specs.declared.status.BodyType.TheVariants.{Json, Text}
 use Rattle.tally_report.specs.Fault.{IsRefused, divisors_fault}
 use Rattle.tally_report.specs.Reports.{IsEnoughFor, IsReport, report_fault}
 use Rattle.tally_report.specs.declared.fault.ReportFault.{ReportFault}
@@ -19,7 +20,7 @@ use Rattle.tally_returns.specs.State.{State}
 use Rattle.tally_returns.specs.View.{View}
 use Rattle.tally_returns.specs.declared.ask.Ask.{Ask}
 use Rattle.tally_returns.specs.declared.refusal.Refusal.TheVariants.{NoConstituency, NoStation}
-use Rattle.tally_machine_law.specs.Outcome.{rule_in}
+use Rattle.tally_machine_law.specs.Outcome.{IsLawfulView, rule_in}
 use Rattle.tally_keeper.specs.Keeper.{Tries}
 use Rattle.tally_keeper.specs.NamedRows.{NamesRows}
 use Rattle.tally_keeper.specs.Shown.{ShowsReturns}
@@ -31,6 +32,7 @@ use Rattle.tally_import_records.specs.declared.separator.Sep.{Sep}
 use Rattle.tally_import.specs.ReturnRows.{text_coming}
 use Rattle.tally_returns.specs.declared.station_row.StationRow.{StationRow}
 use Rattle.tally_desk.specs.Reports.{IsReportText, IsReportTextBy}
+use Rattle.tally_report_result.specs.Result.{AreResultsText, IsResultText}
 use Rattle.tally_report_overview.specs.Views.{HasPastIf, is_past}
 use Rattle.tally_report_overview.proofs.ViewLemmas.{same-provisional, same-quotients}
 use Rattle.tally_desk_message.specs.declared.message.Message.{Message}
@@ -40,7 +42,7 @@ use Rattle.std.proofs.Common.{Vec, Global}
 use Rattle.tally_desk.specs.internal.Gives.{Gives, OrdersRead}
 use Rattle.tally_desk.specs.declared.named.Subject.TheVariants as on
 use Rattle.tally_desk.specs.internal.Named.{lists_of}
-use Rattle.tally_desk.specs.Requests.{Commands, Named, AtCon, AtNamed, AtStation, Orders, OrdersOf, con_in_target, station_in_target, TriesText, trial_text}
+use Rattle.tally_desk.specs.Requests.{AreResultsAnswer, Commands, IsResultAnswer, Named, AtCon, AtNamed, AtStation, Orders, OrdersOf, con_in_target, station_in_target, TriesText, trial_text}
 
 -- ---- what is shown
 
@@ -211,3 +213,16 @@ gives-trial setup old new con sep csv d r named lists (Some text) coming tried n
     (d, r, named, coming, tried, names, is ∙ ap (λ codes. trial_text codes r named) lists_are)
 gives-trial setup old new con sep csv d (Ok count) named lists None coming tried names lists_are is failed = tried.2
 gives-trial setup old new con sep csv d (Err fault) named lists None coming tried names lists_are is failed = absurd (true≢false (sym failed))
+
+-- ---- results
+
+-- the text of a result as an answer
+pub result-answered : (con : Constituency) (view : View) (r : Option (Vec ℕ Global)) (shown : List ℕ) → (IsLawfulView con view → IsResultText con view shown)
+    → IfSome r (λ text. text.items ≡ answer_text Done Json shown) → IfSome r (λ text. IsLawfulView con view → IsResultAnswer con view text.items)
+result-answered con view None shown has is = tt
+result-answered con view (Some text) shown has is = λ lawful. (shown, has lawful, is)
+
+pub results-answered : (setup : List Constituency) (views : List View) (r : Option (Vec ℕ Global)) (shown : List ℕ) → (AllZip IsLawfulView setup views → AreResultsText setup views shown)
+    → IfSome r (λ text. text.items ≡ answer_text Done Json shown) → IfSome r (λ text. AllZip IsLawfulView setup views → AreResultsAnswer setup views text.items)
+results-answered setup views None shown has is = tt
+results-answered setup views (Some text) shown has is = λ lawful. (shown, has lawful, is)

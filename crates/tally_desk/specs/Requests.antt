@@ -48,7 +48,8 @@ use Rattle.tally_desk_answer.specs.Outcome.{outcome_text}
 use Rattle.tally_desk_answer.specs.Shown.{shown_con, shown_return}
 use Rattle.tally_desk_answer.specs.Words.{word_text}
 use Rattle.tally_desk.specs.Reports.{IsReportText}
-use Rattle.tally_report_overview.specs.Views.{ShowsAll}
+use Rattle.tally_report_overview.specs.Views.{ShowsAll, ShowsAllWhole}
+use Rattle.tally_report_result.specs.Result.{AreResultsText, IsResultText}
 
 -- ---- answers of the desk itself, which leave the state
 
@@ -207,6 +208,37 @@ HasCountryText setup (Err why) text = text ≡ refusal_text why
 abbrev pub ShowsCountry : List Constituency → Option State → MessageAnswer
 ShowsCountry setup old text new =
     (r : Result (Vec View Global) Refusal) × ShowsAll setup old r new × HasCountryText setup r text
+
+-- ---- results
+
+-- the result of a constituency in one answer, as JSON
+abbrev pub IsResultAnswer : Constituency → View → List ℕ → Type 0
+IsResultAnswer con view text =
+    (shown : List ℕ) × IsResultText con view shown
+    × (text ≡ answer_text status.Done body.Json shown)
+
+abbrev pub HasResultText : Constituency → Result Reply Refusal → List ℕ → Type 0
+HasResultText con (Ok (reply.Con view)) text = IsResultAnswer con view text
+HasResultText con (Ok other) text = ⊥
+HasResultText con (Err why) text = text ≡ refusal_text why
+
+abbrev pub ShowsResult : List Constituency → Option State → Constituency → List ℕ → MessageAnswer
+ShowsResult setup old con code = Asks setup old (ask.ShowCon code) (HasResultText con)
+
+-- the results of all constituencies, of one state, as a JSON array
+abbrev pub AreResultsAnswer : List Constituency → List View → List ℕ → Type 0
+AreResultsAnswer setup views text =
+    (shown : List ℕ) × AreResultsText setup views shown
+    × (text ≡ answer_text status.Done body.Json shown)
+
+abbrev pub HasResultsText : List Constituency → Result (Vec View Global) Refusal → List ℕ → Type 0
+HasResultsText setup (Ok views) text = AreResultsAnswer setup views.items text
+HasResultsText setup (Err why) text = text ≡ refusal_text why
+
+abbrev pub ShowsResults : List Constituency → Option State → MessageAnswer
+ShowsResults setup old text new =
+    (r : Result (Vec View Global) Refusal) × ShowsAllWhole setup old r new
+    × HasResultsText setup r text
 
 -- ---- imports
 

@@ -21,7 +21,8 @@ use Rattle.tally_desk_answer.specs.declared.word.Word.{Word}
 use Rattle.tally_desk_answer.specs.declared.word.Word.TheVariants as word
 use Rattle.tally_desk.specs.Requests.{MessageAnswer, AtCon, AtStation, ImportsBody, Orders}
 use Rattle.tally_desk.specs.Requests.{PublishesReturns, Reports, Says, ShowsCon, ShowsCountry}
-use Rattle.tally_desk.specs.Requests.{ShowsProgress, ShowsReturn, ShowsStations, TriesBody}
+use Rattle.tally_desk.specs.Requests.{ShowsProgress, ShowsResult, ShowsResults, ShowsReturn}
+use Rattle.tally_desk.specs.Requests.{ShowsStations, TriesBody}
 
 -- What is answered to a message that has this fault; nothing where a read failed.
 abbrev pub fault_word : MessageFault → Option Word
@@ -51,6 +52,8 @@ IsAnswerOn setup old route.Returns m =
 IsAnswerOn setup old route.Stations m =
     AtCon setup old m (λ code con. ShowsStations setup old con code)
 IsAnswerOn setup old route.Country m = ShowsCountry setup old
+IsAnswerOn setup old route.Result m = AtCon setup old m (λ code con. ShowsResult setup old con code)
+IsAnswerOn setup old route.Results m = ShowsResults setup old
 IsAnswerOn setup old (route.OnStation command) m =
     AtStation setup old m (λ code con. Orders setup old con (station_command command code) m)
 IsAnswerOn setup old (route.OnCon command) m =

@@ -7,6 +7,7 @@ mod desk;
 mod named;
 mod respond;
 mod responder;
+mod results;
 mod room;
 pub mod serving;
 mod show;

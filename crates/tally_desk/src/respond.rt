@@ -9,6 +9,7 @@ ghost use Rattle.tally_desk.specs.Respond.{IsAnswer, fault_word, other_method};
 
 use crate::command::{import, order_on_con, order_on_station};
 use crate::country::show_country;
+use crate::results::{show_result, show_results};
 use crate::room::Room;
 use crate::show::{show_con, show_progress, show_report, show_return};
 use crate::stations::show_rows;
@@ -71,6 +72,8 @@ fn answer_by_route<K: Keeper>(
         Route::Returns => show_rows(alloc, keeper, message, StationsReport::Returns),
         Route::Stations => show_rows(alloc, keeper, message, StationsReport::Stations),
         Route::Country => show_country(alloc, keeper),
+        Route::Result => show_result(alloc, keeper, message),
+        Route::Results => show_results(alloc, keeper),
         Route::OnStation(command) => order_on_station(alloc, keeper, command, message),
         Route::OnCon(command) => order_on_con(alloc, keeper, command, message),
         Route::Import(sep) => import(alloc, keeper, sep, message),

@@ -23,6 +23,7 @@ abbrev pub station_routes : List (List ℕ × Route)
 station_routes =
     (codes "/progress", route.Progress)
     ∷ (codes "/country", route.Country)
+    ∷ (codes "/results", route.Results)
     ∷ (codes "/station/{s}", route.Return)
     ∷ (codes "/station/{s}/lodge", route.OnStation on_station.Lodge)
     ∷ (codes "/station/{s}/query", route.OnStation on_station.Query)
@@ -46,6 +47,7 @@ con_routes =
     ∷ (codes "/con/{c}/provisional", route.Report report.Provisional)
     ∷ (codes "/con/{c}/returns", route.Returns)
     ∷ (codes "/con/{c}/stations", route.Stations)
+    ∷ (codes "/con/{c}/result", route.Result)
     ∷ []
 
 -- the commands on a constituency, the imports into it and their trials
@@ -93,6 +95,8 @@ takes_get (route.Report which) = true
 takes_get route.Returns = true
 takes_get route.Stations = true
 takes_get route.Country = true
+takes_get route.Result = true
+takes_get route.Results = true
 takes_get (route.OnStation command) = false
 takes_get (route.OnCon command) = false
 takes_get (route.Import sep) = false

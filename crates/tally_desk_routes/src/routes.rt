@@ -51,6 +51,10 @@ pub enum Route {
     Stations,
     /// The seats and votes of each list over all constituencies.
     Country,
+    /// The result of a constituency in one answer.
+    Result,
+    /// The results of all constituencies.
+    Results,
     /// A command on a station.
     OnStation(StationCommand),
     /// A command on a constituency.
@@ -62,9 +66,10 @@ pub enum Route {
 }
 
 // The routes of the whole office and of a station.
-const STATION_ROUTES: [(&str, Route); 8] = [
+const STATION_ROUTES: [(&str, Route); 9] = [
     ("/progress", Route::Progress),
     ("/country", Route::Country),
+    ("/results", Route::Results),
     ("/station/{s}", Route::Return),
     (
         "/station/{s}/lodge",
@@ -89,7 +94,7 @@ const STATION_ROUTES: [(&str, Route); 8] = [
 ];
 
 // What is shown of a constituency.
-const CON_ROUTES: [(&str, Route); 12] = [
+const CON_ROUTES: [(&str, Route); 13] = [
     ("/con/{c}", Route::Con),
     ("/con/{c}/tally", Route::Report(Report::Tally)),
     ("/con/{c}/seats", Route::Report(Report::Seats)),
@@ -102,6 +107,7 @@ const CON_ROUTES: [(&str, Route); 12] = [
     ("/con/{c}/provisional", Route::Report(Report::Provisional)),
     ("/con/{c}/returns", Route::Returns),
     ("/con/{c}/stations", Route::Stations),
+    ("/con/{c}/result", Route::Result),
 ];
 
 // The commands on a constituency, the imports into it and their trials.
@@ -176,6 +182,7 @@ pub fn takes_get(route: Route) -> bool
     match route {
         Route::Progress | Route::Return | Route::Con | Route::Report(_) => true,
         Route::Returns | Route::Stations | Route::Country => true,
+        Route::Result | Route::Results => true,
         Route::OnStation(_) | Route::OnCon(_) | Route::Import(_) | Route::Trial(_) => false,
     }
 }

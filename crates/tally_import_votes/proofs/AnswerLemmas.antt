@@ -18,7 +18,7 @@ use Rattle.tally_import_votes.specs.declared.fault.VotesFault.{VotesFault}
 use Rattle.tally_import_votes.specs.declared.fault.VotesFault.TheVariants as fault
 use Rattle.tally_import_votes.specs.internal.Reading.{FindsText, FindsTextOf, IsFoundTrouble, IsOfReading}
 use Rattle.tally_import_votes.proofs.RowsLemmas.{votes-end, votes-failed}
-use Rattle.tally_report.specs.Question.{Question}
+use Rattle.tally_report_allotment.specs.Question.{Question}
 
 -- what is appended after what was appended before
 pub append-on : {T E : Type 0} (r : Result T E) (old mid new first more : List ℕ) → mid ≡ old ++ first → OnOk r (new ≡ mid ++ more) → OnOk r (new ≡ old ++ (first ++ more))

@@ -13,8 +13,8 @@ use Rattle.tally_import_votes.specs.declared.fault.AllotTrouble.{AllotTrouble}
 use Rattle.tally_import_votes.specs.declared.fault.AllotTrouble.TheVariants as trouble
 use Rattle.tally_import_votes.specs.declared.fault.VotesFault.{VotesFault}
 use Rattle.tally_import_votes.specs.declared.fault.VotesFault.TheVariants as fault
-use Rattle.tally_report.specs.AllotmentText.{IsAllotmentText}
-use Rattle.tally_report.specs.Question.{Question}
+use Rattle.tally_report_allotment.specs.AllotmentText.{IsAllotmentText}
+use Rattle.tally_report_allotment.specs.Question.{Question}
 
 -- the most bytes that a text of votes may have
 abbrev pub text_limit : ℕ

@@ -11,7 +11,7 @@ use Rattle.tally_import_votes.specs.declared.fault.BadVotes.{BadVotes}
 use Rattle.tally_import_votes.specs.declared.fault.BadVotes.TheVariants as bad
 use Rattle.tally_import_votes.specs.declared.fault.VotesFault.{VotesFault}
 use Rattle.tally_import_votes.specs.declared.fault.VotesFault.TheVariants as fault
-use Rattle.tally_report.specs.Question.{Question, poll_asked, rule_asked}
+use Rattle.tally_report_allotment.specs.Question.{Question, poll_asked, rule_asked}
 
 -- ---- the line
 

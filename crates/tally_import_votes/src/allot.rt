@@ -12,7 +12,7 @@ ghost use Rattle.tally_import_votes.specs.declared.fault.AllotTrouble.TheVariant
 ghost use Rattle.tally_import_votes.specs.declared.fault.VotesFault.TheVariants as fault_of_votes;
 ghost use Rattle.tally_import_votes.specs.internal.Reading.{FindsText, GivesQuestion, IsOfReading};
 ghost use Rattle.tally_import_votes.specs.internal.Reading.{FindsTextOf};
-ghost use Rattle.tally_report.specs.Question.{Question, poll_asked, rule_asked};
+ghost use Rattle.tally_report_allotment.specs.Question.{Question, poll_asked, rule_asked};
 
 use crate::fault::{AllotTrouble, VotesFault};
 use crate::lot::lot_places;
@@ -24,7 +24,7 @@ use tally_allot::AllotFault;
 use tally_frac::{ListSet, MOST_VOTES};
 use tally_import::write_watched;
 use tally_import_records::{Watch, WholeText, read_whole};
-use tally_report::{Asked, allotment_text};
+use tally_report_allotment::{Asked, allotment_text};
 use tally_setup::Code;
 
 /// The most bytes that a text of votes may have.
@@ -155,8 +155,9 @@ fn is_within(votes: &[u64], blank: u64) -> bool
     true
 }
 
-/// Why the votes of these lists allot no seats.
-fn trouble_of(alloc: Global, fault: &AllotFault, lists: &[Code]) -> AllotTrouble
+/// Why the votes of these lists allot no seats: what the fault says, with the codes of the lists
+/// that a lot is needed among.
+pub fn trouble_of(alloc: Global, fault: &AllotFault, lists: &[Code]) -> AllotTrouble
     requires { length lists.now ≤ most_lists }
     ensures { (q : Question) → q.lists ≡ lists.now
         → IsFaultOf (rule_asked q) (poll_asked q) q.seats q.lot fault.now

@@ -7,7 +7,8 @@ mod lot;
 mod options;
 mod votes;
 
-pub use allot::{allot_csv, allot_watched};
+pub use allot::{allot_csv, allot_watched, trouble_of};
 pub use fault::{AllotTrouble, BadVotes, VotesFault};
+pub use lot::{lot_places, words_given};
 pub use options::AllotOptions;
 pub use tally_import_records::{Sep, Watch};

@@ -30,6 +30,8 @@ impl Offices for Databases {
 
     ghost Opens = { λ _ _ _. Unit {0} };
 
+    ghost Closes = { λ _ _ _. Unit {0} };
+
     fn open_office(&self, rt: &HostRuntime, path: &str) -> Result<Office, Trouble> {
         if !names_file(path) {
             return Err(Trouble::Store);

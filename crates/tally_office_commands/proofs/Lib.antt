@@ -1,4 +1,5 @@
 pub mod ReportedLemmas
+pub mod ResultLemmas
 pub mod PutLemmas
 pub mod ShowLemmas
 pub mod ImportLemmas

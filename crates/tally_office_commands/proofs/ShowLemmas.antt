@@ -45,7 +45,7 @@ con-step s t code why found (v, decided, seen, decides, answered, after) =
     let same : Err why ≡ con_answer v (Ok no_change) = answered ∙ ap (con_answer v) decides in cc
 
 -- a constituency that the setup has is refused only where it is out of memory, or a database failed
-con-refused : (setup : List Constituency) (old new : Option State) (code : List ℕ) (found : Constituency) (why : Refusal) → constituency_with code setup ≡ Some found
+pub con-refused : (setup : List Constituency) (old new : Option State) (code : List ℕ) (found : Constituency) (why : Refusal) → constituency_with code setup ≡ Some found
     → Happens setup old (request (ShowCon code) (Err why)) new → IsNotAccepted (Err why)
 con-refused setup (Some s) (Some t) code found why is (inl step) =
     absurd (con-step s t code why found (subst (λ o. IsConStepSeen o s (ShowCon code) (Err why) t) is step))

@@ -1,6 +1,6 @@
 -- What a command writes: nothing where it had a trouble before, and a
 -- text of a kind where it wrote one that is of the kind.
-use Rattle.std.proofs.Common.{◌≡◌, ℕ, Bool, List, [], Option, Some, None, Result, Ok, Err, IfOk, IfErr, OnOk, refl, sym, subst, append-nil}
+use Rattle.std.proofs.Common.{◌≡◌, ℕ, Bool, List, [], Option, Some, None, Result, Ok, Err, IfOk, IfErr, OnOk, refl, sym, subst, append-nil, true, ◌⊎◌, inl, inr}
 use Rattle.std.specs.Io.KnownBytes.{Appends}
 use Rattle.tally_keeper.specs.declared.import.ImportCount.{ImportCount}
 use Rattle.tally_office_commands.specs.Imported.{IsCountText, import_text}
@@ -96,3 +96,12 @@ pub ended-named : {S : Type 0} (Same : Type 0) (Own Whole : Trouble → Type 0) 
 ended-named Same Own Whole own ending (Ok text) r named ends fails = named-weaker IsTroubleOfEnding Whole ending r ends
 ended-named Same Own Whole own ending (Err t) r named ends fails =
     subst (λ (r : Result (Unit {0}) Trouble). IfErr r Whole) (sym fails.0) (own t named)
+
+-- what closing an office came to, where it did not fail
+pub on-closed : {S : Type 0} (Closes : Bool → Type 0) (closed : Bool) (r : Result S Trouble) → Closes closed → OnOk r (closed ≡ true) → OnOk r (Closes true)
+on-closed Closes closed (Ok done) closes is = subst Closes is closes
+on-closed Closes closed (Err t) closes is = tt
+
+pub printed-closed : (Same : Type 0) (Closes : Bool → Type 0) (closed : Bool) → Closes closed → Same ⊎ (closed ≡ true) → Same ⊎ Closes true
+printed-closed Same Closes closed closes (inl same) = inl same
+printed-closed Same Closes closed closes (inr is) = inr (subst Closes is closes)

@@ -4,6 +4,7 @@ pub mod Place
 pub mod Trouble
 pub mod Troubles
 pub mod Written
+pub mod Results
 pub mod Show
 pub mod Imported
 pub mod Made

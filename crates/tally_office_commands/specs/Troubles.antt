@@ -1,11 +1,11 @@
 -- Which troubles each command of the program can have, and each part of one.
-use Rattle.std.specs.Prelude.{◌≡◌, ◌⊎◌}
+use Rattle.std.specs.Prelude.{◌≡◌, ◌⊎◌, None, codes}
+use Rattle.tally_rules.specs.declared.fault.SetupFault.TheVariants as setup
 use Rattle.tally_office_commands.specs.Trouble.{IsTroubleOfMaking, IsTroubleOfOpening}
-use Rattle.tally_office_commands.specs.Trouble.{IsTroubleOfReport}
-use Rattle.tally_office_commands.specs.Trouble.{IsTroubleOfText}
+use Rattle.tally_office_commands.specs.Trouble.{IsTroubleOfReport, IsTroubleOfText}
 use Rattle.tally_office_commands.specs.declared.trouble.Trouble.{Trouble}
 use Rattle.tally_office_commands.specs.declared.trouble.Trouble.TheVariants.{Memory, Store, File}
-use Rattle.tally_office_commands.specs.declared.trouble.Trouble.TheVariants.{Read}
+use Rattle.tally_office_commands.specs.declared.trouble.Trouble.TheVariants.{Read, Setup}
 use Rattle.tally_office_commands.specs.declared.trouble.Trouble.TheVariants.{Write, Port}
 
 -- ---- parts
@@ -14,9 +14,18 @@ use Rattle.tally_office_commands.specs.declared.trouble.Trouble.TheVariants.{Wri
 abbrev pub IsTroubleOfFile : Trouble → Type 0
 IsTroubleOfFile t = (t ≡ Memory) ⊎ (t ≡ File)
 
+-- of a text of a setup that is over its limit
+abbrev pub IsOverLimit : Trouble → Type 0
+IsOverLimit (Setup (setup.OverLimit key) place) = (key.now ≡ codes "text") × (place ≡ None)
+IsOverLimit other = ⊥
+
+-- of reading the text of a setup
+abbrev pub IsTroubleOfSetupText : Trouble → Type 0
+IsTroubleOfSetupText t = IsOverLimit t ⊎ (t ≡ Memory) ⊎ (t ≡ Read)
+
 -- of reading a setup
 abbrev pub IsTroubleOfReading : Trouble → Type 0
-IsTroubleOfReading t = IsTroubleOfFile t ⊎ (t ≡ Read)
+IsTroubleOfReading t = IsTroubleOfFile t ⊎ IsTroubleOfSetupText t
 
 -- of importing a file into the constituency of a code
 abbrev pub IsTroubleOfFileImport : Trouble → Type 0

@@ -2,8 +2,8 @@
 //! matched and returned, and not passed on by `?`, since the `?` of an enum that holds a text
 //! (`Trouble`) has no proof yet.
 
-ghost use Rattle.std.specs.Prelude.{◌≡◌, ◌≤◌, [], IfErr, IfOk, OnOk, Err, false, string_bytes};
-ghost use Rattle.std.specs.Prelude.{string_capacity, string_len};
+ghost use Rattle.std.specs.Prelude.{◌≡◌, ◌⊎◌, ◌≤◌, [], IfErr, IfOk, OnOk, Err, false, true};
+ghost use Rattle.std.specs.Prelude.{string_bytes, string_capacity, string_len};
 ghost use Rattle.tally_office_commands.specs.Troubles.{IsTroubleOfEnding};
 ghost use Rattle.tally_office_commands.specs.Written.{IsWritten};
 
@@ -26,6 +26,7 @@ pub fn line_room(rt: &HostRuntime, bytes: usize) -> Result<String, Trouble>
 }
 
 /// Closes the office of a command, and then writes what it came to, unless that is a trouble.
+/// Nothing is written, and the command is not done, where the closing failed.
 pub fn close_and_print<O: Offices, W: Write>(
     rt: &HostRuntime,
     offices: &O,
@@ -37,6 +38,8 @@ pub fn close_and_print<O: Offices, W: Write>(
     ensures text { IfOk outcome (λ text.
         IsWritten W.contents (λ t. t ≡ string_bytes text) output.old output.new result) }
     ensures named { OnOk outcome (IfErr result IsTroubleOfEnding) }
+    ensures closed { OnOk result (O.Closes offices.now db.now true) }
+    ensures printed { (output.new ≡ output.old) ⊎ O.Closes offices.now db.now true }
     ensures trouble { IfErr outcome (λ t. (result ≡ Err t) × (output.new ≡ output.old)) }
 {
     let is_closed = offices.close_office(rt, db, office);
@@ -51,6 +54,8 @@ pub fn close_and_print<O: Offices, W: Write>(
 fn print_if_closed<W: Write>(is_closed: bool, text: &str, output: &mut W) -> Result<(), Trouble>
     ensures closed { is_closed ≡ false →
         (result ≡ Err Trouble.Store) × (output.new ≡ output.old) }
+    ensures done { OnOk result (is_closed ≡ true) }
+    ensures printed { (output.new ≡ output.old) ⊎ (is_closed ≡ true) }
     ensures written { IsWritten W.contents (λ t. t ≡ text.now) output.old output.new result }
     ensures named { IfErr result IsTroubleOfEnding }
 {

@@ -1,7 +1,7 @@
 //! Imports of returns. Errors are matched and returned, and not passed on by `?`, since the `?` of
 //! an enum that holds a text (`Trouble`) has no proof yet.
 
-ghost use Rattle.std.specs.Prelude.{◌≡◌, ◌≤◌, ◌+◌, Err, IfErr, IfOk, IsOk, OnOk, Some, false};
+ghost use Rattle.std.specs.Prelude.{◌≡◌, ◌⊎◌, ◌≤◌, ◌+◌, Err, IfErr, IfOk, IsOk, OnOk, Some, false};
 ghost use Rattle.std.specs.Prelude.{[], is_some, length, string_bytes, string_capacity};
 ghost use Rattle.std.specs.Prelude.{string_len, true};
 ghost use Rattle.tally_setup.specs.Constituency.{list_codes};
@@ -47,6 +47,8 @@ pub fn import_at<O: Offices, W: Write>(
 ) -> Result<(), Trouble>
     ensures written { IsWritten W.contents (IsCountText lines) output.old output.new result }
     ensures named { IfErr result IsTroubleOfImport }
+    ensures closed { OnOk result (O.Closes offices.now db.now true) }
+    ensures printed { (output.new ≡ output.old) ⊎ O.Closes offices.now db.now true }
 {
     let mut office = match offices.open_office(rt, db) {
         Ok(office) => office,

@@ -2,10 +2,12 @@
 //! was made. Errors are matched and returned, and not passed on by `?`, since the `?` of an enum
 //! that holds a text (`Trouble`) has no proof yet.
 
-ghost use Rattle.std.specs.Prelude.{◌≡◌, ◌≤◌, ◌+◌, ◌++◌, [], IfErr, IsOk, OnErr, OnOk};
+ghost use Rattle.std.specs.Prelude.{◌≡◌, ◌⊎◌, ◌≤◌, ◌+◌, ◌++◌, [], IfErr, IfOk, IsOk, Ok, OnErr};
+ghost use Rattle.std.specs.Prelude.{OnOk, true};
 ghost use Rattle.std.specs.Prelude.{string_bytes, string_len, string_capacity};
 ghost use Rattle.tally_rules.specs.Reading.{setup_of_text};
-ghost use Rattle.tally_office_commands.specs.Made.{IsJudged, IsMadeText, constituencies_text};
+ghost use Rattle.tally_office_commands.specs.Made.{IsJudged, IsMadeText, IsSetupOfText};
+ghost use Rattle.tally_office_commands.specs.Made.{IsTroubleOfSetupFile, constituencies_text};
 ghost use Rattle.tally_office_commands.specs.Trouble.{IsTroubleOfMaking};
 ghost use Rattle.tally_office_commands.specs.Troubles.{IsTroubleOfNew};
 ghost use Rattle.tally_office_commands.specs.Written.{IsWritten};
@@ -17,6 +19,7 @@ use crate::offices::Offices;
 use crate::trouble::{Trouble, copy_of};
 use std::alloc::{AllocError, Global};
 use std::io::Write;
+use tally_import::Watch;
 use tally_import::room::push_number;
 use tally_keeper::Keeper;
 use tally_rules::{Place, SetupFault, read_setup_placed};
@@ -35,8 +38,10 @@ pub fn make_at<O: Offices, W: Write>(
 ) -> Result<(), Trouble>
     ensures written { IsWritten W.contents IsMadeText output.old output.new result }
     ensures named { IfErr result IsTroubleOfNew }
+    ensures closed { OnOk result (O.Closes offices.now db.now true) }
+    ensures printed { (output.new ≡ output.old) ⊎ O.Closes offices.now db.now true }
 {
-    let text = match read_setup_text(rt, setup) {
+    let text = match read_setup_text(rt, setup, &mut Watch::new()) {
         Ok(text) => text,
         Err(trouble) => return Err(trouble),
     };
@@ -93,6 +98,30 @@ pub fn judge_setup(alloc: Global, text: &[u8]) -> Result<(), Trouble>
     match &read {
         Ok(_) => Ok(()),
         Err((fault, place)) => Err(trouble_of(fault, place)),
+    }
+}
+
+/// The setup that a file has, which is judged as one is before an office is made of it.
+pub fn setup_at(rt: &HostRuntime, path: &str) -> Result<Setup, Trouble>
+    ensures setup { IfOk result (λ setup. IsSetupOfText setup) }
+    ensures trouble { IfErr result IsTroubleOfSetupFile }
+{
+    let text = match read_setup_text(rt, path, &mut Watch::new()) {
+        Ok(text) => text,
+        Err(trouble) => return Err(trouble),
+    };
+    setup_of(rt.alloc(), text.as_slice())
+}
+
+/// The setup of a text: where it is none, the trouble is its fault, with the fault's place.
+fn setup_of(alloc: Global, text: &[u8]) -> Result<Setup, Trouble>
+    ensures setup { IfOk result (λ setup. setup_of_text text.now ≡ Ok setup) }
+    ensures fault { IfErr result (IsJudged text.now) }
+    ensures named { IfErr result IsTroubleOfMaking }
+{
+    match read_setup_placed(alloc, text) {
+        Ok(setup) => Ok(setup),
+        Err((fault, place)) => Err(trouble_of(&fault, &place)),
     }
 }
 

@@ -1,6 +1,7 @@
 //! What a text names.
 
 ghost use Rattle.std.specs.Prelude.{◌≡◌, option_copied, option_map};
+ghost use Rattle.tally_setup.specs.Limits.{IsSetup};
 ghost use Rattle.tally_setup.specs.Setup.{constituency_with};
 
 use tally_setup::{Code, Constituency, Setup};
@@ -15,6 +16,15 @@ pub(crate) fn con_with_code<'a>(setup: &'a Setup, text: &str) -> Option<&'a Cons
         return None;
     };
     setup.con(code)
+}
+
+/// The constituency whose code a text is, with what holds of every setup.
+pub fn con_named<'a>(setup: &'a Setup, text: &str) -> Option<&'a Constituency>
+    ensures found { option_copied result ≡ constituency_with text.now setup.now }
+    ensures limits { IsSetup setup.now }
+{
+    let _cons = setup.cons();
+    con_with_code(setup, text)
 }
 
 /// The code of the constituency whose code a text is.

@@ -1,9 +1,9 @@
 //! Where the offices are that commands work on.
 
-ghost use Rattle.std.specs.Prelude.{◌≡◌, IfErr};
+ghost use Rattle.std.specs.Prelude.{◌≡◌, ℕ, List, IfErr};
 ghost use Rattle.tally_office_commands.specs.Trouble.{IsTroubleOfMaking, IsTroubleOfOpening};
-ghost use Rattle.tally_office_commands.specs.Offices.{AtPath, AtPort, OpeningOutcome, Resource};
-ghost use Rattle.tally_office_commands.specs.Offices.{opening_of};
+ghost use Rattle.tally_office_commands.specs.Offices.{AtPath, AtPort, ClosingOutcome};
+ghost use Rattle.tally_office_commands.specs.Offices.{OpeningOutcome, Resource, opening_of};
 
 use crate::trouble::Trouble;
 use std::net::TcpListener;
@@ -18,6 +18,10 @@ pub trait Offices {
     /// The outcome of opening the office at a path, or a port: it is open, or it is not, for a
     /// trouble. All that is known of it comes of `open_office` and `listen`.
     ghost Opens: { Self → Resource → OpeningOutcome };
+
+    /// The outcome of closing the office at a path. All that is known of it comes of
+    /// `close_office`.
+    ghost Closes: { Self → List ℕ → ClosingOutcome };
 
     /// Opens the office at a path. Where there is none, none is made.
     fn open_office(&self, rt: &HostRuntime, path: &str) -> Result<Self::Office, Trouble>
@@ -40,5 +44,6 @@ pub trait Offices {
 
     /// Closes the office at a path, and answers whether all of it is there: where it is not, and
     /// where a disk that failed has shut it, the command has failed.
-    fn close_office(&self, rt: &HostRuntime, path: &str, office: Self::Office) -> bool;
+    fn close_office(&self, rt: &HostRuntime, path: &str, office: Self::Office) -> bool
+        ensures { Closes self.now path.now result };
 }

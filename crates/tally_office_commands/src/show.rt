@@ -2,8 +2,8 @@
 //! the `?` of an enum that holds a text (`Trouble`) has no proof yet.
 
 ghost use Rattle.std.specs.List.{AllZip};
-ghost use Rattle.std.specs.Prelude.{◌≡◌, Err, IfErr, IfOk, None, Some, is_some, option_map};
-ghost use Rattle.std.specs.Prelude.{string_bytes, true};
+ghost use Rattle.std.specs.Prelude.{◌≡◌, ◌⊎◌, Err, IfErr, IfOk, None, OnOk, Some, is_some};
+ghost use Rattle.std.specs.Prelude.{option_map, string_bytes, true};
 ghost use Rattle.tally_keeper.specs.StaysKeeper.{StaysKeeper};
 ghost use Rattle.tally_report_overview.specs.CountryText.{country_text};
 ghost use Rattle.tally_report.specs.ProgressText.{progress_text};
@@ -26,6 +26,7 @@ ghost use Rattle.tally_office_commands.specs.internal.Worked.{IsShowTrouble, IsT
 use crate::ending::close_and_print;
 use crate::named::code_named;
 use crate::offices::Offices;
+use crate::results::{show_result, show_results};
 use crate::trouble::Trouble;
 use std::alloc::Global;
 use std::io::Write;
@@ -49,6 +50,8 @@ pub fn show_at<O: Offices, W: Write>(
     requires { needs_con report ≡ true → is_some con ≡ true }
     ensures written { IsWritten W.contents IsAnyText output.old output.new result }
     ensures named { IfErr result IsTroubleOfShow }
+    ensures closed { OnOk result (O.Closes offices.now db.now true) }
+    ensures printed { (output.new ≡ output.old) ⊎ O.Closes offices.now db.now true }
 {
     let mut office = match offices.open_office(rt, db) {
         Ok(office) => office,
@@ -78,6 +81,11 @@ fn show_in<K: Keeper>(
     match report {
         Shown::Progress => show_progress(rt.alloc(), keeper),
         Shown::Country => show_country(rt.alloc(), keeper),
+        Shown::Results => show_results(rt.alloc(), keeper),
+        Shown::Result => match con {
+            Some(con) => show_result(rt.alloc(), keeper, con),
+            None => unreachable!(),
+        },
         Shown::Stations(which) => match con {
             Some(con) => show_stations(rt.alloc(), keeper, con, which),
             None => unreachable!(),
@@ -248,7 +256,7 @@ fn text_of_country(alloc: Global, setup: &Setup, views: &[ConView]) -> Result<St
 }
 
 /// Why something that the office has is not shown.
-fn trouble_of(refusal: Refusal) -> Trouble
+pub(crate) fn trouble_of(refusal: Refusal) -> Trouble
     ensures trouble { result ≡ refusal_trouble refusal }
     ensures named { IsTroubleOfDatabase result }
 {

@@ -25,6 +25,12 @@ pub offered : {E : Type 0} (app : App) (rules : List Rule) (given xs : List Arg)
     → IfOk r (Offers (fold with_rule app rules))
 offered app rules given xs r same have all = IfOk-weaker r _ _ (λ command offers. offers rules (subst (HaveRules rules) (sym same) have)) all
 
+-- a command that has more of them
+pub offered_more : {E : Type 0} (app : App) (rules : List Rule) (old : Command) (given xs : List Arg) (r : Result Command E) → Offers app old → given ≡ xs → HaveRules rules xs
+    → IfOk r (AddsInTurn AddsArg old given) → IfOk r (Offers (fold with_rule app rules))
+offered_more app rules old given xs r offers same have adds =
+    IfOk-weaker r _ _ (λ command added. with_args app old command given offers added rules (subst (HaveRules rules) (sym same) have)) adds
+
 with_sub : (app sub_app : App) (old sub new : Command) → app_of old ≡ app → Offers sub_app sub → AddsSubcommand old sub new → app_of new ≡ with_subcommand app sub_app.top
 with_sub app sub_app old sub new is offers adds =
     adds.shape offers.1 ∙ (ap (λ (p : App). with_subcommand p (app_of sub).top) is ∙ ap (λ (p : App). with_subcommand app p.top) offers.0)

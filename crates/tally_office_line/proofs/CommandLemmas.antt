@@ -28,7 +28,7 @@ use Rattle.std.specs.Box.{box_value}
 use Rattle.std.specs.Result.{IsErrAnd}
 use Rattle.tally_setup.specs.declared.profile.Base.{Base}
 use Rattle.tally_setup.specs.declared.profile.Method.{Method}
-use Rattle.tally_office_line.specs.Line.{AllotSeen, base_given, lacks_rule, lacks_word, method_given, wanted_by}
+use Rattle.tally_office_line.specs.Line.{AllotSeen, RecountSeen, base_given, lacks_rule, lacks_word, method_given, recount_given, wanted_by}
 use Rattle.tally_office_line.specs.Line.{IsRefusal, IsLineWithinLimits, LineSeen, NewSeen, ImportSeen, ShowSeen, ServeSeen, fault_from, LacksCon, is_out_of_memory, is_set, lacks_con, lacks_report, line_of, line_of_command, line_seen, number_in_range, number_given, office_app, report_of, sep_given, show_line, show_seen, usage_kinds}
 use Rattle.tally_office_line.specs.internal.Arguments.{IsCommandFault, has, has_arguments}
 use Rattle.tally_office_line.specs.declared.line.Line.{Line}
@@ -50,7 +50,7 @@ office_is_free = refl
 -- ---- the walk meets no command but these
 
 abbrev IsCommand : Text → Type 0
-IsCommand name = (name ≡ codes "check") ⊎ ((name ≡ codes "allot") ⊎ ((name ≡ codes "new") ⊎ ((name ≡ codes "import") ⊎ ((name ≡ codes "show") ⊎ (name ≡ codes "serve")))))
+IsCommand name = (name ≡ codes "check") ⊎ ((name ≡ codes "allot") ⊎ ((name ≡ codes "recount") ⊎ ((name ≡ codes "new") ⊎ ((name ≡ codes "import") ⊎ ((name ≡ codes "show") ⊎ (name ≡ codes "serve"))))))
 
 abbrev office_names : Names
 office_names = names_of (built office_app)
@@ -68,7 +68,13 @@ names_are = (
       λ e. inr (inr (inl refl)),
       (
         λ e. inr (inr (inr (inl refl))),
-        (λ e. inr (inr (inr (inr (inl refl)))), (λ e. inr (inr (inr (inr (inr refl)))), (λ e. absurd (true≢false e), tt))),
+        (
+          λ e. inr (inr (inr (inr (inl refl)))),
+          (
+            λ e. inr (inr (inr (inr (inr (inl refl))))),
+            (λ e. inr (inr (inr (inr (inr (inr refl))))), (λ e. absurd (true≢false e), tt)),
+          ),
+        ),
       ),
     ),
   ),
@@ -229,6 +235,27 @@ allot_readable = (
   ),
 )
 
+recount_readable : Each (IsReadable (command_named (codes "recount")).rules) (command_named (codes "recount")).rules
+recount_readable = (
+  (refl, refl, inl refl),
+  (
+    (refl, refl, inl refl),
+    (
+      (refl, refl, inl refl),
+      (
+        (refl, refl, inl refl),
+        (
+          (refl, (codes "true", refl, refl), inr (codes "false", refl, refl)),
+          (
+            (refl, (codes "true", refl, refl), inr (codes "false", refl, refl)),
+            ((refl, (codes "true", refl, refl), inr (codes "false", refl, refl)), ((refl, tt, inl refl), tt)),
+          ),
+        ),
+      ),
+    ),
+  ),
+)
+
 new_readable : Each (IsReadable (command_named (codes "new")).rules) (command_named (codes "new")).rules
 new_readable = ((refl, refl, inl refl), ((refl, refl, inl refl), ((refl, tt, inl refl), tt)))
 
@@ -272,6 +299,13 @@ allot_has rows leaf =
     let seats = value_given c rows (codes "seats") _ leaf.fits (leaf.given.0 refl) refl in
     let method = value_given c rows (codes "method") _ leaf.fits (leaf.given.1.0 refl) refl in
     both_true _ _ (read_number 1 500 _ seats) (ap is_some method.1)
+
+recount_has : (rows : List Row) → LeafFits (command_named (codes "recount")) rows → has_arguments (codes "recount", rows) ≡ true
+recount_has rows leaf =
+    let c = (command_named (codes "recount")).rules in
+    let setup = value_given c rows (codes "setup") _ leaf.fits (leaf.given.0 refl) refl in
+    let con = value_given c rows (codes "con") _ leaf.fits (leaf.given.1.0 refl) refl in
+    both_true _ _ (ap is_some setup.1) (ap is_some con.1)
 
 new_has : (rows : List Row) → LeafFits (command_named (codes "new")) rows → has_arguments (codes "new", rows) ≡ true
 new_has rows leaf =
@@ -337,6 +371,9 @@ entered_check words e = (codes "check", _, refl, refl)
 entered_allot : (words : List Text) → Entered words (codes "allot")
 entered_allot words e = (codes "allot", _, refl, allot_has _ (leaf_fits (command_named (codes "allot")) words allot_readable refl e))
 
+entered_recount : (words : List Text) → Entered words (codes "recount")
+entered_recount words e = (codes "recount", _, refl, recount_has _ (leaf_fits (command_named (codes "recount")) words recount_readable refl e))
+
 entered_new : (words : List Text) → Entered words (codes "new")
 entered_new words e = (codes "new", _, refl, new_has _ (leaf_fits (command_named (codes "new")) words new_readable refl e))
 
@@ -352,10 +389,11 @@ entered_serve words e = (codes "serve", _, refl, serve_has _ (leaf_fits (command
 entered_named : (words : List Text) (name : Text) → IsCommand name → Entered words name
 entered_named words name (inl is) = subst (Entered words) (sym is) (entered_check words)
 entered_named words name (inr (inl is)) = subst (Entered words) (sym is) (entered_allot words)
-entered_named words name (inr (inr (inl is))) = subst (Entered words) (sym is) (entered_new words)
-entered_named words name (inr (inr (inr (inl is)))) = subst (Entered words) (sym is) (entered_import words)
-entered_named words name (inr (inr (inr (inr (inl is))))) = subst (Entered words) (sym is) (entered_show words)
-entered_named words name (inr (inr (inr (inr (inr is))))) = subst (Entered words) (sym is) (entered_serve words)
+entered_named words name (inr (inr (inl is))) = subst (Entered words) (sym is) (entered_recount words)
+entered_named words name (inr (inr (inr (inl is)))) = subst (Entered words) (sym is) (entered_new words)
+entered_named words name (inr (inr (inr (inr (inl is))))) = subst (Entered words) (sym is) (entered_import words)
+entered_named words name (inr (inr (inr (inr (inr (inl is)))))) = subst (Entered words) (sym is) (entered_show words)
+entered_named words name (inr (inr (inr (inr (inr (inr is)))))) = subst (Entered words) (sym is) (entered_serve words)
 
 entered_command : (stop : Option (Text × List Text)) → IsAtCommand stop → is_some (entered (built office_app) stop) ≡ true
     → entered_fault (built office_app) stop ≡ [] → NamesCommand (entered (built office_app) stop)
@@ -438,6 +476,12 @@ allot_within (Some s) None base rows = tt
 allot_within (Some s) (Some m) None rows = tt
 allot_within (Some s) (Some m) (Some b) rows = tt
 
+recount_within : (setup con : Option Text) (rows : List Row)
+    → OnFound IsSeenWithin (option_and_then (λ s. option_and_then (λ c. Some (RecountSeen s c (recount_given rows))) con) setup)
+recount_within None con rows = tt
+recount_within (Some s) None rows = tt
+recount_within (Some s) (Some c) rows = tt
+
 new_within : (db setup : Option Text) → OnFound IsSeenWithin (option_and_then (λ d. option_and_then (λ s. Some (NewSeen d s)) setup) db)
 new_within None setup = tt
 new_within (Some d) None = tt
@@ -478,12 +522,13 @@ command_within : (p : Text × List Row) → OnFound IsSeenWithin (line_of_comman
 command_within p =
     one_of_two (bytes_eq p.0 (codes "check")) _ _ tt
     (one_of_two (bytes_eq p.0 (codes "allot")) _ _ (allot_within (number_given (codes "seats") 1 500 p.1) (method_given p.1) (base_given p.1) p.1)
+    (one_of_two (bytes_eq p.0 (codes "recount")) _ _ (recount_within (first_of (codes "setup") p.1) (first_of (codes "con") p.1) p.1)
     (one_of_two (bytes_eq p.0 (codes "new")) _ _ (new_within (first_of (codes "db") p.1) (first_of (codes "setup") p.1))
     (one_of_two (bytes_eq p.0 (codes "import")) _ _ (import_within (first_of (codes "db") p.1) (first_of (codes "con") p.1) (first_of (codes "csv") p.1) p.1)
     (one_of_two (bytes_eq p.0 (codes "show")) _ _ (show_within (first_of (codes "db") p.1) (report_of p.1) (first_of (codes "con") p.1))
     (one_of_two (bytes_eq p.0 (codes "serve")) _ _
     (serve_within (first_of (codes "db") p.1) (number_given (codes "port") 1 65535 p.1) (number_given (codes "count") 1 1000000 p.1)
-    (number_within 1 65535 (first_of (codes "port") p.1)) (number_within 1 1000000 (first_of (codes "count") p.1))) tt)))))
+    (number_within 1 65535 (first_of (codes "port") p.1)) (number_within 1 1000000 (first_of (codes "count") p.1))) tt))))))
 
 is_some_text : {T : Type 0} (f : T → Text) (o : Option T) → is_some (option_map f o) ≡ is_some o
 is_some_text f None = refl
@@ -492,6 +537,7 @@ is_some_text f (Some x) = refl
 seen_within : (l : Line) → IsSeenWithin (line_seen l) → IsLineWithinLimits l
 seen_within (line.Check sep rows) h = tt
 seen_within (line.Allot options) h = tt
+seen_within (line.Recount setup con options) h = tt
 seen_within (line.New db setup) h = tt
 seen_within (line.Import db con csv sep rows) h = tt
 seen_within (line.Show db name con) h = λ needs. sym (is_some_text _ con) ∙ h needs

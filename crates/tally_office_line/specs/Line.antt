@@ -21,6 +21,7 @@ use Rattle.clap.specs.declared.builder.ValueParser.TheVariants.{Unsigned}
 use Rattle.tally_frac.specs.Limits.{most_seats, most_votes, whole_base}
 use Rattle.tally_import_records.specs.declared.separator.Sep.{Sep}
 use Rattle.tally_import_records.specs.declared.separator.Sep.TheVariants.{Comma, Semicolon}
+use Rattle.tally_import_recount.specs.Wanted.{Wanted as WantedRecount, wanted as recount_wanted}
 use Rattle.tally_import_votes.specs.Wanted.{Wanted, wanted}
 use Rattle.tally_setup.specs.Method.{method_named}
 use Rattle.tally_setup.specs.declared.profile.Base.{Base}
@@ -63,18 +64,28 @@ check_app =
     with_rule (with_rule (new_app (codes "check")) (flag_rule (codes "semicolon")))
     (flag_rule (codes "rows"))
 
--- `allot --seats N --method WORD [--threshold N] [--base WORD] [--blank N] [--lot CODES]`
+-- `allot --seats N --method WORD [--threshold N] [--base WORD] [--blank N]`
 abbrev pub bare_allot_app : App
-bare_allot_app = with_rule (with_rule (with_rule (with_rule (with_rule (with_rule
-    (new_app (codes "allot"))
+bare_allot_app = with_rule (with_rule (with_rule (with_rule (with_rule (new_app (codes "allot"))
     (number_rule (codes "seats") 1 most_seats)) (wanted_rule (codes "method")))
     (amount_rule (codes "threshold") whole_base)) (value_rule (codes "base")))
-    (amount_rule (codes "blank") most_votes)) (value_rule (codes "lot"))
+    (amount_rule (codes "blank") most_votes)
 
--- the same with `[--alternating] [--awards] [--semicolon]`
+-- the same with `[--lot CODES] [--alternating] [--awards] [--semicolon]`
 abbrev pub allot_app : App
-allot_app = with_rule (with_rule (with_rule bare_allot_app (flag_rule (codes "alternating")))
-    (flag_rule (codes "awards"))) (flag_rule (codes "semicolon"))
+allot_app = with_rule (with_rule (with_rule (with_rule bare_allot_app (value_rule (codes "lot")))
+    (flag_rule (codes "alternating"))) (flag_rule (codes "awards"))) (flag_rule (codes "semicolon"))
+
+-- `recount --setup FILE --con CODE [--without CODES] [--lot CODES]`
+abbrev pub bare_recount_app : App
+bare_recount_app = with_rule (with_rule (with_rule (with_rule (new_app (codes "recount"))
+    (wanted_rule (codes "setup"))) (wanted_rule (codes "con")))
+    (value_rule (codes "without"))) (value_rule (codes "lot"))
+
+-- the same with `[--awards] [--decisive] [--semicolon]`
+abbrev pub recount_app : App
+recount_app = with_rule (with_rule (with_rule bare_recount_app (flag_rule (codes "awards")))
+    (flag_rule (codes "decisive"))) (flag_rule (codes "semicolon"))
 
 -- `new --db FILE --setup FILE`
 abbrev pub new_office_app : App
@@ -125,8 +136,8 @@ bare_office_app = on_top (λ s. record s {
 }) (new_app (codes "office"))
 
 abbrev pub office_app : App
-office_app = with_commands (with_commands (with_commands bare_office_app check_app allot_app)
-    new_office_app import_app) show_app serve_app
+office_app = with_subcommand (with_commands (with_commands (with_commands bare_office_app
+    check_app allot_app) recount_app new_office_app) import_app show_app) serve_app.top
 
 -- ---- what the values of a command are
 
@@ -177,6 +188,7 @@ report_of rows = option_and_then shown_named (first_of (codes "report") rows)
 pub data LineSeen : Type 0 where
   CheckSeen : Sep → Bool → LineSeen
   AllotSeen : Wanted → LineSeen
+  RecountSeen : Text → Text → WantedRecount → LineSeen
   NewSeen : Text → Text → LineSeen
   ImportSeen : Text → Text → Text → Sep → Bool → LineSeen
   ShowSeen : Text → Shown → Option Text → LineSeen
@@ -185,6 +197,8 @@ pub data LineSeen : Type 0 where
 abbrev pub line_seen : Line → LineSeen
 line_seen (line.Check sep rows) = CheckSeen sep rows
 line_seen (line.Allot options) = AllotSeen (wanted options)
+line_seen (line.Recount setup con options) =
+    RecountSeen (string_bytes setup) (string_bytes con) (recount_wanted options)
 line_seen (line.New db setup) = NewSeen (string_bytes db) (string_bytes setup)
 line_seen (line.Import db con csv sep rows) =
     ImportSeen (string_bytes db) (string_bytes con) (string_bytes csv) sep rows
@@ -226,6 +240,22 @@ allot_line rows = do
   base ← base_given rows
   Some (AllotSeen (wanted_by rows seats method base))
 
+-- what is asked of a recount
+abbrev pub recount_given : List Row → WantedRecount
+recount_given rows = record {
+  without = first_of (codes "without") rows;
+  lot = first_of (codes "lot") rows;
+  awards = is_set (codes "awards") rows;
+  decisive = is_set (codes "decisive") rows;
+  sep = sep_given rows;
+}
+
+abbrev pub recount_line : List Row → Option LineSeen
+recount_line rows = do
+  setup ← first_of (codes "setup") rows
+  con ← first_of (codes "con") rows
+  Some (RecountSeen setup con (recount_given rows))
+
 abbrev pub new_line : List Row → Option LineSeen
 new_line rows = do
   db ← first_of (codes "db") rows
@@ -262,6 +292,7 @@ abbrev pub line_of_command : Text × List Row → Option LineSeen
 line_of_command p =
     if bytes_eq p.0 (codes "check") then check_line p.1
     else if bytes_eq p.0 (codes "allot") then allot_line p.1
+    else if bytes_eq p.0 (codes "recount") then recount_line p.1
     else if bytes_eq p.0 (codes "new") then new_line p.1
     else if bytes_eq p.0 (codes "import") then import_line p.1
     else if bytes_eq p.0 (codes "show") then show_line p.1

@@ -13,6 +13,8 @@ A first session:
       adds up a file of returns, and stores nothing
   office allot --seats 8 --method dhondt --threshold 300 < votes.csv
       works out the seats that votes come to, and stores nothing
+  office recount --setup setup.toml --con montehondo < returns.csv
+      counts the returns of the stations of montehondo, and stores nothing
   office import --db office.db --con montehondo --csv returns.csv
       lodges the returns of the stations of montehondo
   office show --db office.db --report progress
@@ -182,6 +184,102 @@ Exit status:
        memory    the program is out of memory
        read      standard input cannot be read
        write     standard output takes no more; a part may be printed";
+
+pub const RECOUNT: &str = "Count returns again, and work out their seats";
+
+pub const RECOUNT_LONG: &str = "\
+Count returns again, and work out their seats.
+
+The returns of a constituency come on standard input as CSV, as 'office import'
+takes them and 'office show --report returns' gives them. Each that an import
+into a new office of the setup would lodge is counted as closed. Nothing is
+stored: use it to repeat a published count, or to see what the seats would be
+without some stations.
+
+What goes in:
+  --setup     the setup, a TOML file, as for 'office new'
+  --con       the code of a constituency of it; one that begins with a dash is
+              written --con=-x
+  --without   the codes of stations, separated by commas: their rows are left
+              out, unless they are bad
+  --lot       the lists in the order of a lot, where one has to decide
+  --awards    where the seats are wanted in the order of their award; under
+              hare the quotas and remainders
+  --decisive  where the stations are wanted without which the seats could not
+              be the same
+  The header is station,slip,blank,spoiled and then the codes of the
+  constituency's lists, in the order of the setup; there are at most 20000 rows
+  and 16777216 bytes.
+
+What comes out:
+  RECOUNT CODE NAME
+  stations N counted C without W    the stations of the constituency, the
+                                    returns that were counted, and the stations
+                                    that --without names
+  passed P                          the other rows: those of a station whose
+                                    return was counted, and those that an
+                                    import would refuse or call bad
+  method METHOD seats S
+  threshold T base WORD rule WORD   as of 'office allot'
+  lot CODE CODE..                   the lot that was given, or 'lot -'
+  valid V blank B spoiled X         the votes of the lists and the blank ones
+                                    together, the blank ones, the spoiled ones
+  For each list a line as of 'office allot', with the list's name at its end;
+  'total'; and but under hare 'next'.
+With --awards, after this the lines that it adds to 'office allot'.
+With --decisive, after this a line for each such station, in the order of the
+setup:
+  decisive CODE                     if the return of this station alone were
+                                    missing, the seats could not be the same,
+                                    whatever lot is drawn";
+
+pub const RECOUNT_EXAMPLE: &str = "\
+Example:
+  With the setup.toml that 'office new --help' shows, and this in returns.csv
+
+    station,slip,blank,spoiled,A,B
+    s1,p1,0,0,10,20
+
+  'office recount --setup setup.toml --con c1 < returns.csv' prints
+
+    RECOUNT c1 Twin Town
+    stations 1 counted 1 without 0
+    passed 0
+    method dhondt seats 3
+    threshold 300 base valid rule fixed
+    lot -
+    valid 30 blank 0 spoiled 0
+    A                         10   33.33 in      1          11 Alpha
+    B                         20   66.66 in      2          10 Beta
+    total                     30                 3
+    next B
+
+Exit status:
+  0  the returns were counted, whatever was found in their rows
+  1  'refused: WORD' on standard error, the first that goes wrong:
+       a fault of the setup, with its place, as 'office new --help' lists them
+       no_constituency    the setup has no constituency of this code
+       no_station CODE    the constituency has no station of this code; without
+                          a code, where it cannot be one
+       bad_header         the header is not that of the constituency
+       too_long           there are more rows or bytes than there may be
+       no_eligible        no list is eligible
+       lot_missing S CODE CODE..   a lot among these lists has to decide on S
+                          seats: draw it, and give it with --lot
+       wrong_lot          no lot is needed, or this one does not name each of
+                          its lists once and no other
+  2  the command line is wrong, or asks for help
+  3  'failed: WORD' on standard error:
+       memory      the program is out of memory
+       file, read  the setup cannot be opened, or it or standard input cannot be
+                   read
+       write       standard output takes no more; a part may be printed";
+
+pub const RECOUNT_CON: &str = "The code of a constituency of the setup";
+
+pub const WITHOUT: &str = "Stations to leave out, as s1,s2; --without=-x,y for a first dash";
+
+pub const DECISIVE: &str = "Name each station without which the seats could not be the same";
 
 pub const SEATS: &str = "The number of seats, 1 to 500";
 
@@ -406,15 +504,18 @@ What goes in:
               progress   how far every constituency is
               country    the seats and votes of each list over all
                          constituencies
+              result     all of these numbers of a constituency, as one line of
+                         JSON, for programs
+              results    the results of all constituencies, as a JSON array
   --con     the code of a constituency; one that begins with a dash is written
-            --con=-x. Every report but progress and country needs it; these
-            ignore it
+            --con=-x. Every report but progress, country and results needs it;
+            these ignore it
 
 What comes out:
-  The report. Tally, past, provisional, stations, returns, progress and country
-  are given at any time, the others once the constituency is certified:
-  quotients, awards and short only under a divisor rule, quota only under
-  Hare's.";
+  The report. Tally, past, provisional, stations, returns, progress, country,
+  result and results are given at any time, the others once the constituency is
+  certified: quotients, awards and short only under a divisor rule, quota only
+  under Hare's.";
 
 pub const SHOW_EXAMPLE: &str = "\
 Example:
@@ -449,9 +550,9 @@ pub const REPORT: &str = "The report, such as tally; --help has the names";
 
 pub const REPORTS: &str = "\
   [possible values: tally, seats, quotients, awards, quota, holders, past,
-  provisional, short, stations, returns, progress, country]";
+  provisional, short, stations, returns, progress, country, result, results]";
 
-pub const SHOW_CON: &str = "The code of the constituency; progress and country need none";
+pub const SHOW_CON: &str = "The code of the constituency; progress, country and results need none";
 
 pub const SERVE: &str = "Answer requests over HTTP, at 127.0.0.1";
 
@@ -478,9 +579,9 @@ What goes in:
   --count  how many connections to serve, 1 to 1000000
 
 The routes, with S the code of a station, C that of a constituency:
-  GET /progress, /country, /station/S, /con/C
+  GET /progress, /country, /results, /station/S, /con/C
   GET /con/C/tally, and so seats, quotients, awards, quota, holders, past,
-                            provisional, short, stations, returns
+                            provisional, short, stations, returns, result
   POST /station/S/lodge     {\"slip\":\"p1\",\"votes\":[50,40],\"blank\":2,\"spoiled\":1}
   POST /station/S/query     {\"rev\":1,\"note\":\"the sum is wrong\"}
   POST /station/S/correct   as lodge, and \"rev\":2

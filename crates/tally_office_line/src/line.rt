@@ -5,8 +5,10 @@ ghost use Rattle.std.specs.Prelude.{OnOk, option_map, string_bytes, unwrap_or};
 ghost use Rattle.clap.specs.Words.{app_of, first_of, kind_of, new_app};
 ghost use Rattle.clap.specs.declared.error.ErrorKind.TheVariants.{InvalidValue};
 ghost use Rattle.tally_office_line.specs.Line.{GivesLine, IsRefusal, IsLineWithinLimits};
-ghost use Rattle.tally_office_line.specs.Line.{allot_app, allot_line, amount_rule, bare_office_app};
+ghost use Rattle.tally_office_line.specs.Line.{allot_app, allot_line, amount_rule};
+ghost use Rattle.tally_office_line.specs.Line.{bare_allot_app, bare_office_app, bare_recount_app};
 ghost use Rattle.tally_office_line.specs.Line.{base_named, lot_rule_given, number_in_range};
+ghost use Rattle.tally_office_line.specs.Line.{recount_app, recount_line};
 ghost use Rattle.tally_office_line.specs.Line.{number_or_none};
 ghost use Rattle.tally_office_line.specs.Line.{check_app, flag_rule, import_app, import_line};
 ghost use Rattle.tally_office_line.specs.Line.{is_set};
@@ -27,6 +29,7 @@ use clap::error::ErrorKind;
 use clap::{Arg, ArgAction, ArgMatches, Command};
 use std::alloc::{AllocError, Global};
 use tally_import_records::Sep;
+use tally_import_recount::RecountOptions;
 use tally_import_votes::AllotOptions;
 use tally_report_overview::Shown;
 use tally_setup::{Base, LotRule, Method, Profile};
@@ -34,6 +37,8 @@ use tally_setup::{Base, LotRule, Method, Profile};
 const CHECK: &str = "check";
 
 const ALLOT: &str = "allot";
+
+const RECOUNT: &str = "recount";
 
 const NEW: &str = "new";
 
@@ -77,6 +82,10 @@ const ALTERNATING: &str = "alternating";
 
 const AWARDS: &str = "awards";
 
+const WITHOUT: &str = "without";
+
+const DECISIVE: &str = "decisive";
+
 const MOST_PORT: u64 = 65535;
 
 const MOST_COUNT: u64 = 1_000_000;
@@ -101,6 +110,12 @@ pub enum Line {
     },
     /// Allot seats by the votes on standard input.
     Allot(AllotOptions),
+    /// Count the returns on standard input again, those of a constituency of a setup.
+    Recount {
+        setup: String,
+        con: String,
+        options: RecountOptions,
+    },
     /// Make an office of a setup, in the database of this name.
     New {
         db: String,
@@ -188,6 +203,7 @@ fn read_command(alloc: Global, name: &str, arguments: &ArgMatches<'_>) -> Result
             rows: is_given(arguments, ROWS),
         }),
         ALLOT => read_allot(alloc, arguments),
+        RECOUNT => Ok(read_recount(alloc, arguments)?),
         NEW => Ok(read_new(alloc, arguments)?),
         IMPORT => Ok(read_import(alloc, arguments)?),
         SHOW => read_show(alloc, arguments),
@@ -246,6 +262,24 @@ fn read_lot_rule(arguments: &ArgMatches<'_>) -> LotRule
     } else {
         LotRule::Fixed
     }
+}
+
+fn read_recount(alloc: Global, arguments: &ArgMatches<'_>) -> Result<Line, AllocError>
+    requires setup { has (codes "setup") (given_rows arguments.now) ≡ true }
+    requires con { has (codes "con") (given_rows arguments.now) ≡ true }
+    ensures { GivesLine result (recount_line (given_rows arguments.now)) }
+{
+    Ok(Line::Recount {
+        setup: read_text(alloc, arguments, SETUP)?,
+        con: read_text(alloc, arguments, CON)?,
+        options: RecountOptions {
+            without: read_if_given(alloc, arguments, WITHOUT)?,
+            lot: read_if_given(alloc, arguments, LOT)?,
+            awards: is_given(arguments, AWARDS),
+            decisive: is_given(arguments, DECISIVE),
+            sep: read_sep(arguments),
+        },
+    })
 }
 
 fn read_new(alloc: Global, arguments: &ArgMatches<'_>) -> Result<Line, AllocError>
@@ -437,6 +471,7 @@ fn office_command<'a>(alloc: Global) -> Result<Command<'a>, AllocError>
     let mut commands = Vec::new(alloc);
     push_command(&mut commands, check_command(alloc))?;
     push_command(&mut commands, allot_command(alloc))?;
+    push_command(&mut commands, recount_command(alloc))?;
     push_command(&mut commands, new_command(alloc))?;
     push_command(&mut commands, import_command(alloc))?;
     push_command(&mut commands, show_command(alloc))?;
@@ -504,6 +539,19 @@ fn check_command<'a>(alloc: Global) -> Result<Command<'a>, AllocError>
 fn allot_command<'a>(alloc: Global) -> Result<Command<'a>, AllocError>
     ensures { IfOk result (Offers allot_app) }
 {
+    let arguments = vec![in alloc;
+        value_arg(alloc, LOT, "CODES", help::LOT),
+        flag_arg(alloc, ALTERNATING, help::ALTERNATING),
+        flag_arg(alloc, AWARDS, help::AWARDS),
+        flag_arg(alloc, SEMICOLON, help::SEMICOLON),
+    ]?;
+    bare_allot_command(alloc)?.args(arguments)
+}
+
+// `allot` with the first of its arguments: all at once would take much stack.
+fn bare_allot_command<'a>(alloc: Global) -> Result<Command<'a>, AllocError>
+    ensures { IfOk result (Offers bare_allot_app) }
+{
     described_command(
         alloc,
         ALLOT,
@@ -516,10 +564,36 @@ fn allot_command<'a>(alloc: Global) -> Result<Command<'a>, AllocError>
             amount_arg(alloc, THRESHOLD, WHOLE_BASE, help::THRESHOLD),
             value_arg(alloc, BASE, "WORD", help::BASE),
             amount_arg(alloc, BLANK, MOST_VOTES, help::BLANK),
+        ]?,
+    )
+}
+
+fn recount_command<'a>(alloc: Global) -> Result<Command<'a>, AllocError>
+    ensures { IfOk result (Offers recount_app) }
+{
+    let arguments = vec![in alloc;
+        flag_arg(alloc, AWARDS, help::AWARDS),
+        flag_arg(alloc, DECISIVE, help::DECISIVE),
+        flag_arg(alloc, SEMICOLON, help::SEMICOLON),
+    ]?;
+    bare_recount_command(alloc)?.args(arguments)
+}
+
+// `recount` with the first of its arguments.
+fn bare_recount_command<'a>(alloc: Global) -> Result<Command<'a>, AllocError>
+    ensures { IfOk result (Offers bare_recount_app) }
+{
+    described_command(
+        alloc,
+        RECOUNT,
+        help::RECOUNT,
+        help::RECOUNT_LONG,
+        help::RECOUNT_EXAMPLE,
+        vec![in alloc;
+            wanted_arg(alloc, SETUP, "FILE", help::SETUP),
+            wanted_arg(alloc, CON, "CODE", help::RECOUNT_CON),
+            value_arg(alloc, WITHOUT, "CODES", help::WITHOUT),
             value_arg(alloc, LOT, "CODES", help::LOT),
-            flag_arg(alloc, ALTERNATING, help::ALTERNATING),
-            flag_arg(alloc, AWARDS, help::AWARDS),
-            flag_arg(alloc, SEMICOLON, help::SEMICOLON),
         ]?,
     )
 }

@@ -6,15 +6,16 @@ use Rattle.tally_office_commands.specs.Made.{IsMadeText}
 use Rattle.tally_office_commands.specs.Served.{IsServedText}
 use Rattle.tally_office_commands.specs.declared.trouble.Trouble.{Trouble}
 use Rattle.tally_office_commands.specs.declared.trouble.Trouble.TheVariants as trouble
-use Rattle.tally_office_line.specs.Line.{AllotSeen, CheckSeen, ImportSeen, IsRefusal, LineSeen, NewSeen, ServeSeen, ShowSeen, line_of}
+use Rattle.tally_office_line.specs.Line.{AllotSeen, CheckSeen, ImportSeen, IsRefusal, LineSeen, NewSeen, RecountSeen, ServeSeen, ShowSeen, line_of}
 use Rattle.tally_office_line.specs.declared.line.LineFault.{LineFault}
-use Rattle.tally_office_line.specs.declared.line.LineFault.TheVariants.{Usage, NoCon, Memory}
-use Rattle.tally_office_line.proofs.CommandLemmas.{lacks_con_alone}
+use Rattle.tally_office_line.specs.declared.line.LineFault.TheVariants.{NoCon}
 use Rattle.tally_office_commands.specs.Offices.{AtPath, AtPort, OpeningOutcome, Resource}
 use Rattle.tally_office_commands.specs.Written.{Bytes, IsAnyText, IsWritten}
-use Rattle.tally_office_program.specs.Commands.{IsOutcomeReported, NotListening, TakesCourse, command_status}
+use Rattle.tally_office_streams.specs.Line.{fault_status}
+use Rattle.tally_office_streams.specs.Streams.{IsOutcomeReported, command_status, streams}
+use Rattle.tally_office_streams.proofs.LineLemmas.{not-begun, not-refused, refused as refused-line}
+use Rattle.tally_office_program.specs.Commands.{NotListening, TakesCourse}
 use Rattle.tally_office_program.specs.Perform.{Performs, PerformsLine}
-use Rattle.tally_office_program.specs.internal.Fault.{fault_status}
 use Rattle.tally_office_commands.specs.Troubles.{IsTroubleOfServe}
 use Rattle.tally_office_commands.proofs.WrittenLemmas.{any, counted, made, unwritten}
 use Rattle.tally_office_program.proofs.ServerLemmas.{served}
@@ -23,10 +24,9 @@ use Rattle.tally_office_program.proofs.ServerLemmas.{served}
 pub without-memory : {R W E : Type 0} (Opens : Resource → OpeningOutcome) (left : Bytes R) (held : Bytes W) (reported : Bytes E) (words : List (List ℕ)) (line : Option LineSeen)
     (i : R) (o : W) (before after : E) → IsReported (reported before) (reported after) (codes "failed: memory\n")
     → PerformsLine Opens left held reported words line (record { input = i; output = o; errors = before }) (record { input = i; output = o; errors = after }) 3
-without-memory Opens left held reported words (Some (CheckSeen sep rows)) i o before after so =
-    inr (record { input = refl; output = refl }, record { report = so; gives = refl })
-without-memory Opens left held reported words (Some (AllotSeen w)) i o before after so =
-    inr (record { input = refl; output = refl }, record { report = so; gives = refl })
+without-memory Opens left held reported words (Some (CheckSeen sep rows)) i o before after so = inr (not-begun reported i o before after so)
+without-memory Opens left held reported words (Some (AllotSeen w)) i o before after so = inr (not-begun reported i o before after so)
+without-memory Opens left held reported words (Some (RecountSeen setup con w)) i o before after so = inr (not-begun reported i o before after so)
 without-memory Opens left held reported words (Some (NewSeen db setup)) i o before after so = record {
   outcome = Err trouble.Memory;
   named = inl (inl (inl refl));
@@ -61,38 +61,17 @@ without-memory Opens left held reported words (Some (ServeSeen db port count)) i
   gives = refl;
   unread = refl;
 }
-without-memory Opens left held reported words None i o before after so = record {
-  untouched = record { input = refl; output = refl };
-  refused = inr (record { report = so; gives = refl });
-  no_con = λ lacks. inr (record { report = so; gives = refl });
-}
+without-memory Opens left held reported words None i o before after so = not-refused reported words i o before after so
 
 -- words for which there is no line, and what is reported of them
 pub refused : {R W E : Type 0} (Opens : Resource → OpeningOutcome) (left : Bytes R) (held : Bytes W) (reported : Bytes E) (words : List (List ℕ)) (fault : LineFault)
     (i : R) (o : W) (before after : E) (status : ℕ) → IsRefusal words fault → status ≡ fault_status fault
     → (status ≡ 3 → IsReported (reported before) (reported after) (codes "failed: memory\n"))
     → (fault ≡ NoCon → IsReported (reported before) (reported after) (codes "missing --con\n"))
-    → Performs Opens left held reported words (record { input = i; output = o; errors = before }) (record { input = i; output = o; errors = after }) status
-refused Opens left held reported words Memory i o before after status is gives memory con =
-    subst (λ (n : ℕ). PerformsLine Opens left held reported words (line_of words) (record { input = i; output = o; errors = before }) (record { input = i; output = o; errors = after }) n)
-    (sym gives) (without-memory Opens left held reported words (line_of words) i o before after (memory gives))
-refused Opens left held reported words NoCon i o before after status is gives memory con =
-    subst (λ (l : Option LineSeen). PerformsLine Opens left held reported words l (record { input = i; output = o; errors = before }) (record { input = i; output = o; errors = after }) status)
-    (sym is.0) (record {
-      untouched = record { input = refl; output = refl };
-      refused = inl gives;
-      no_con = λ lacks. inl (record { report = con refl; gives = gives });
-    })
-refused Opens left held reported words (Usage e) i o before after status is gives memory con =
-    subst (λ (l : Option LineSeen). PerformsLine Opens left held reported words l (record { input = i; output = o; errors = before }) (record { input = i; output = o; errors = after }) status)
-    (sym is.0) (record {
-      untouched = record { input = refl; output = refl };
-      refused = inl gives;
-      no_con = λ lacks. elim (lacks_con_alone words (Usage e) lacks is) [
-        | inl other ↦ cc
-        | inr other ↦ cc
-      ];
-    })
+    → Performs Opens left held reported words (streams i o before) (streams i o after) status
+refused Opens left held reported words fault i o before after status =
+    refused-line reported words fault i o before after status (λ line n. PerformsLine Opens left held reported words line (streams i o before) (streams i o after) n)
+    (λ line so. without-memory Opens left held reported words line i o before after so) (λ refuses. refuses)
 
 -- words that ask for a server, and what it said, wrote and reported
 pub serves : {R W E : Type 0} (Opens : Resource → OpeningOutcome) (left : Bytes R) (held : Bytes W) (reported : Bytes E) (words : List (List ℕ)) (db : List ℕ) (port count : ℕ)

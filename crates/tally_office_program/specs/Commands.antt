@@ -4,34 +4,14 @@ use Rattle.std.specs.Prelude.{◌≡◌, ◌⊎◌, ℕ, List, Result, Ok, Err, 
 use Rattle.tally_office_commands.specs.Offices.{OpeningOutcome}
 use Rattle.tally_office_commands.specs.Served.{IsServedText, listening_line}
 use Rattle.tally_office_commands.specs.Reported.{IsReported}
-use Rattle.tally_office_commands.specs.Trouble.{IsTroubleOfOpening, trouble_line, trouble_status}
+use Rattle.tally_office_commands.specs.Trouble.{IsTroubleOfOpening}
 use Rattle.tally_office_commands.specs.declared.trouble.Trouble.{Trouble}
 use Rattle.tally_office_commands.specs.declared.trouble.Trouble.TheVariants.{Memory, Port}
 use Rattle.tally_office_commands.specs.Troubles.{IsTroubleOfEnding, IsTroubleOfServe}
 use Rattle.tally_office_commands.specs.Written.{Bytes, IsWritten}
-
--- ---- the streams
-
--- The input, the output and the standard error of the program.
-pub record Streams (R W E : Type 0) : Type 0 where
-  pub input : R
-  pub output : W
-  pub errors : E
-
-abbrev pub streams : {R W E : Type 0} → R → W → E → Streams R W E
-streams input output errors = record { input = input; output = output; errors = errors }
+use Rattle.tally_office_streams.specs.Streams.{IsOutcomeReported, Streams, command_status}
 
 -- ---- how a command ends
-
--- Nothing is reported where it is done, and the line of its trouble where it has one.
-abbrev pub IsOutcomeReported : {E : Type 0} → Bytes E → E → E → Result (Unit {0}) Trouble → Type 0
-IsOutcomeReported reported old new (Ok done) = new ≡ old
-IsOutcomeReported reported old new (Err trouble) =
-    IsReported (reported old) (reported new) (trouble_line trouble)
-
-abbrev pub command_status : Result (Unit {0}) Trouble → ℕ
-command_status (Ok done) = 0
-command_status (Err trouble) = trouble_status trouble
 
 -- A command came to an outcome: a text of its kind, or one of its troubles. What is written,
 -- reported and answered is that of the outcome, and the input is not read.

@@ -1,3 +1,2 @@
 -- Words of private contracts and of proofs. No promise to a caller speaks of them.
-pub mod Fault
 pub mod Served

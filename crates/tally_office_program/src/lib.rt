@@ -5,4 +5,5 @@
 mod performing;
 mod serve;
 
-pub use performing::{DONE, USAGE, perform, report_start};
+pub use performing::perform;
+pub use tally_office_streams::{DONE, USAGE, report_start};

@@ -15,7 +15,7 @@ use Rattle.tally_law.specs.Lot.{IsOrderOf}
 use Rattle.tally_law.specs.LotNeed.{IsLotNeeded, IsLotTaken, IsLotWrong, IsNeed}
 use Rattle.tally_law.specs.Poll.{IsEligible}
 use Rattle.tally_law.specs.Rules.{poll_of, rule_with}
-use Rattle.tally_machine_law.specs.Outcome.{HasSeats, IsLawfulView, poll_in, rule_in}
+use Rattle.tally_machine_law.specs.Outcome.{HasSeats, IsLawfulView, IsOutcome, allotted, poll_in, rule_in}
 use Rattle.tally_returns.specs.View.{View}
 use Rattle.tally_setup.specs.Constituency.{Constituency}
 use Rattle.tally_setup.specs.Threshold.{base_of, is_eligible}
@@ -69,19 +69,20 @@ module _ (groups : GroupsAreOfOneNumberOfVotes) (never_both : NoLotIsNeededWhere
       let named = taken.3.all one.0 ((one.2 one.0).1 (one.1, refl)) in
       omega (arith, named.1, ap length none)
 
-  -- the votes and the lot of a certified lawful view allot its seats
-  pub allots : 1 ≤ con.seats → IsLawfulView con view → view.certified ≡ true
+  -- where the votes and the lot allot seats, there is no fault but one of memory
+  pub allots : 1 ≤ con.seats → (seats : List ℕ) → IsOutcome con view (allotted seats)
       → (f : AllotFault) → IsFaultOf (rule_in con) (poll_in con view) con.seats view.lot f → f ≢ Memory → ⊥
-  allots some lawful certified f says other = refuted f says other
+  allots some seats has f says other = refuted f says other
     where
-      has : HasSeats con view true
-      has = subst (HasSeats con view) certified lawful.seats
-
       refuted : (f : AllotFault) → IsFaultOf (rule_in con) (poll_in con view) con.seats view.lot f → f ≢ Memory → ⊥
       refuted NoEligible says other = says has.0
       refuted (LotMissing group seats) says other = lot-stands some has.1 says.1.needed says.2
       refuted WrongLot says other = taken-right has.1 says.1
       refuted Memory says other = other refl
+
+-- the votes and the lot of a certified lawful view allot its seats
+pub certified-outcome : (con : Constituency) (view : View) → IsLawfulView con view → view.certified ≡ true → IsOutcome con view (allotted view.seats)
+certified-outcome con view lawful certified = subst (HasSeats con view) certified lawful.seats
 
 -- an eligible list is one of those that have votes
 listed : (profile : Profile) (votes : List ℕ) (blank l : ℕ) → IsEligible (poll_of profile votes blank) l → l < length votes

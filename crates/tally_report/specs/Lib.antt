@@ -1,4 +1,3 @@
-pub mod AllotmentText
 pub mod AwardsText
 pub mod Columns
 pub mod Fault
@@ -6,7 +5,6 @@ pub mod HoldersText
 pub mod PastText
 pub mod ProgressText
 pub mod ProvisionalText
-pub mod Question
 pub mod QuotaText
 pub mod QuotientsText
 pub mod Reports
@@ -14,4 +12,5 @@ pub mod SeatsText
 pub mod ShortText
 pub mod ProvisionalSeats
 pub mod TallyText
+pub mod Words
 pub mod internal

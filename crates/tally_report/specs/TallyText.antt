@@ -17,10 +17,10 @@ use Rattle.tally_report.specs.Columns.{code_width, heading, is_eligible_at, left
 use Rattle.tally_report.specs.Columns.{list_lines, number, right_cell}
 
 -- the line of the valid votes, which are those of the lists and the blank ones (LOREG article 96.5)
-abbrev pub valid_line : View → List ℕ
-valid_line view =
-    codes "valid " ++ decimal (sum view.votes + view.blank) ++ codes " blank " ++ decimal view.blank
-    ++ codes " spoiled " ++ decimal view.spoiled ++ line_end
+abbrev pub valid_line : List ℕ → ℕ → ℕ → List ℕ
+valid_line votes blank spoiled =
+    codes "valid " ++ decimal (sum votes + blank) ++ codes " blank " ++ decimal blank
+    ++ codes " spoiled " ++ decimal spoiled ++ line_end
 
 -- the votes' share in the base of the threshold, in hundredths of a per cent, rounded down; 0 where
 -- there is no base
@@ -60,5 +60,5 @@ tally_text con view =
     heading (codes "TALLY") con
     ++ codes "stations " ++ decimal view.stations ++ codes " closed " ++ decimal view.closed
     ++ line_end
-    ++ valid_line view
+    ++ valid_line view.votes view.blank view.spoiled
     ++ list_lines (tally_office_line con view) con

@@ -1,4 +1,3 @@
 -- What only proofs speak of.
-pub mod Allotments
 pub mod Awards
 pub mod GoneByList

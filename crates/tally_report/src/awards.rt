@@ -1,11 +1,12 @@
 //! The seats in the order of their award.
 
-ghost use Rattle.std.specs.Prelude.{◌≡◌, ◌≢◌, ℕ, ◌<◌, ◌≤◌, true, ◌++◌, IfOk, IfErr, OnOk, length};
+ghost use Rattle.std.specs.Prelude.{◌≡◌, ◌≢◌, ℕ, ◌<◌, ◌≤◌, ◌++◌, IfOk, IfErr, List, OnOk, length};
 ghost use Rattle.std.specs.Prelude.{slice_index_or, string_bytes};
 ghost use Rattle.tally_setup.specs.declared.profile.Method.TheVariants.{Hare as by_hare};
 ghost use Rattle.tally_allot.specs.Awards.{AreAwardsBy};
 ghost use Rattle.tally_allot.specs.declared.award.Award.{Award as award_type};
-ghost use Rattle.tally_machine_law.specs.Outcome.{IsLawfulView, poll_in, rule_in};
+ghost use Rattle.tally_machine_law.specs.Outcome.{IsLawfulView, IsOutcome, allotted};
+ghost use Rattle.tally_machine_law.specs.Outcome.{poll_in, rule_in};
 ghost use Rattle.tally_returns.specs.View.{FitsView};
 ghost use Rattle.tally_report.specs.Fault.{IsRefused, divisors_fault};
 ghost use Rattle.tally_report.specs.Columns.{lines_from};
@@ -42,13 +43,17 @@ pub fn awards_text(alloc: Global, con: &Constituency, view: &ConView) -> Result<
     Ok(text)
 }
 
-/// The awards by the closed votes and the lot. There are none where these allot no seats, which is
-/// so of no lawful view.
-fn awards_in(alloc: Global, con: &Constituency, view: &ConView) -> Result<Vec<Award>, ReportFault>
+/// The awards by the closed votes and the recorded lot, whether or not the constituency is
+/// certified. There are none where these allot no seats.
+pub fn awards_in(
+    alloc: Global,
+    con: &Constituency,
+    view: &ConView,
+) -> Result<Vec<Award>, ReportFault>
     requires view { FitsView con.now view.now }
     requires by_divisors { con.now.profile.method ≢ by_hare }
     ensures awards { IfOk result (λ awards.
-        IsLawfulView con.now view.now → view.now.certified ≡ true
+        (seats : List ℕ) → IsOutcome con.now view.now (allotted seats)
         → AreAwardsBy (rule_in con.now) (poll_in con.now view.now) view.now.lot con.now.seats
         awards.items) }
     ensures each { IfOk result (λ awards. (i : ℕ) (d : award_type) → i < length awards.items
@@ -97,12 +102,7 @@ fn push_award(
 }
 
 /// The line of the `n`th award, to the list of this code.
-pub(crate) fn push_award_of(
-    text: &mut String,
-    code: &str,
-    n: u64,
-    award: &Award,
-) -> Result<(), AllocError>
+pub fn push_award_of(text: &mut String, code: &str, n: u64, award: &Award) -> Result<(), AllocError>
     requires { 1 ≤ award.now.den }
     ensures { OnOk result (string_bytes text.new
         ≡ string_bytes text.old ++ award_columns code.now n award.now) }

@@ -91,8 +91,13 @@ fn push_seats(
     push_empty(text, list, (seats as usize).saturating_sub(held.len()))
 }
 
-/// The places of the candidates who are gone, those of each list, in one pass over them.
-fn gone_by_list(alloc: Global, view: &ConView, lists: usize) -> Result<Vec<Vec<u32>>, AllocError>
+/// The places of the candidates who are gone, those of each of this many lists, in one pass over
+/// them.
+pub fn gone_by_list(
+    alloc: Global,
+    view: &ConView,
+    lists: usize,
+) -> Result<Vec<Vec<u32>>, AllocError>
     ensures { IfOk result (λ gone.
         AreByList view.now.gone lists (map (λ places. places.items) gone.items)) }
 {
@@ -130,7 +135,7 @@ fn add_gone(gone: &mut Vec<Vec<u32>>, list: u32, place: u32) -> Result<(), Alloc
 }
 
 /// The places of the list at a place, from 0.
-fn places_at(gone: &[Vec<u32>], place: usize) -> &[u32]
+pub fn places_at(gone: &[Vec<u32>], place: usize) -> &[u32]
     requires { place < length (map (λ places. places.items) gone.now) }
     ensures { result.now ≡ slice_index_or (map (λ places. places.items) gone.now) place [] }
 {

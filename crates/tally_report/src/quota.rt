@@ -32,13 +32,13 @@ pub fn quota_text(alloc: Global, con: &Constituency, view: &ConView) -> Result<S
     let contest = HareContest::new(&poll, &[], con.seats);
     let mut text = String::new(alloc);
     push_heading(&mut text, "QUOTA", con)?;
-    push_front(&mut text, &poll, con.seats)?;
+    push_quota_front(&mut text, &poll, con.seats)?;
     push_lists(&mut text, con, view, &contest)?;
     Ok(text)
 }
 
 /// The votes of the eligible lists together, and the seats.
-pub(crate) fn push_front(text: &mut String, poll: &Poll, seats: u32) -> Result<(), AllocError>
+pub fn push_quota_front(text: &mut String, poll: &Poll, seats: u32) -> Result<(), AllocError>
     ensures { OnOk result (string_bytes text.new
         ≡ string_bytes text.old ++ quota_front (kept_poll poll.now) seats) }
 {
@@ -80,11 +80,11 @@ fn push_list(
     if !contest.poll.is_eligible(place) {
         return Ok(());
     }
-    push_columns(text, contest, place, list.code.as_str(), view.seats[place])
+    push_quota_columns(text, contest, place, list.code.as_str(), view.seats[place])
 }
 
 /// The line of an eligible list, which has this code and holds this many seats.
-pub(crate) fn push_columns(
+pub fn push_quota_columns(
     text: &mut String,
     contest: &HareContest,
     place: usize,

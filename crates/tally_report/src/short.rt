@@ -1,10 +1,10 @@
 //! How many votes each list is short of one more seat.
 
-ghost use Rattle.std.specs.Prelude.{◌≡◌, ◌≢◌, true, ◌++◌, IfOk, IfErr, OnOk, None, length};
+ghost use Rattle.std.specs.Prelude.{◌≡◌, ◌≢◌, ℕ, ◌++◌, IfOk, IfErr, List, OnOk, None, length};
 ghost use Rattle.std.specs.Prelude.{slice_index_or, string_bytes};
 ghost use Rattle.tally_setup.specs.Threshold.{eligible_lists};
 ghost use Rattle.tally_setup.specs.declared.profile.Method.TheVariants.{Hare as by_hare};
-ghost use Rattle.tally_machine_law.specs.Outcome.{IsLawfulView};
+ghost use Rattle.tally_machine_law.specs.Outcome.{IsLawfulView, IsOutcome, allotted};
 ghost use Rattle.tally_returns.specs.View.{FitsView};
 ghost use Rattle.tally_report.specs.Fault.{IsRefused, divisors_fault};
 ghost use Rattle.tally_report.specs.Columns.{list_lines};
@@ -34,7 +34,7 @@ pub fn short_text(alloc: Global, con: &Constituency, view: &ConView) -> Result<S
     let Some(_rule) = con.profile.method.divisor_rule() else {
         return Err(ReportFault::OtherMethod);
     };
-    let numbers = numbers_in(alloc, con, view)?;
+    let numbers = votes_short_in(alloc, con, view)?;
     let marks = eligible(alloc, &con.profile, &view.votes, view.blank)?;
     let mut text = String::new(alloc);
     push_heading(&mut text, "SHORT", con)?;
@@ -42,9 +42,9 @@ pub fn short_text(alloc: Global, con: &Constituency, view: &ConView) -> Result<S
     Ok(text)
 }
 
-/// How many votes each list is short, by the closed votes and the lot. There are no numbers where
-/// these allot no seats, which is so of no lawful view.
-fn numbers_in(
+/// How many votes each list is short, by the closed votes and the recorded lot, whether or not the
+/// constituency is certified. There are no numbers where these allot no seats.
+pub fn votes_short_in(
     alloc: Global,
     con: &Constituency,
     view: &ConView,
@@ -52,7 +52,7 @@ fn numbers_in(
     requires view { FitsView con.now view.now }
     requires by_divisors { con.now.profile.method ≢ by_hare }
     ensures numbers { IfOk result (λ numbers.
-        IsLawfulView con.now view.now → view.now.certified ≡ true
+        (seats : List ℕ) → IsOutcome con.now view.now (allotted seats)
         → AreVotesShortIn con.now view.now numbers.items) }
     ensures fault { IfErr result (λ fault. fault ≡ Memory) }
 {
@@ -98,7 +98,7 @@ fn push_lists(
 }
 
 /// The number of the list at a place, if there is one.
-pub(crate) fn votes_short_at(numbers: &[Option<u64>], place: usize) -> Option<u64>
+pub fn votes_short_at(numbers: &[Option<u64>], place: usize) -> Option<u64>
     ensures { result ≡ slice_index_or numbers.now place None }
 {
     match numbers.get(place) {
@@ -123,7 +123,7 @@ fn push_list(
 }
 
 /// A number of votes, or a dash where there is none, at the right of a column of twelve places.
-pub(crate) fn push_votes(text: &mut String, number: Option<u64>) -> Result<(), AllocError>
+pub fn push_votes(text: &mut String, number: Option<u64>) -> Result<(), AllocError>
     ensures { OnOk result (string_bytes text.new ≡ string_bytes text.old ++ votes_column number) }
 {
     match number {

@@ -28,18 +28,23 @@ pub fn tally_text(alloc: Global, con: &Constituency, view: &ConView) -> Result<S
     let mut text = String::new(alloc);
     push_heading(&mut text, "TALLY", con)?;
     writeln!(text, "stations {} closed {}", view.stations, view.closed)?;
-    push_valid(&mut text, view)?;
+    push_valid(&mut text, &view.votes, view.blank, view.spoiled)?;
     push_lists(&mut text, con, view, &marks)?;
     Ok(text)
 }
 
 /// The line of the valid votes, which are those of the lists and the blank ones.
-fn push_valid(text: &mut String, view: &ConView) -> Result<(), AllocError>
-    requires { IsWithinVotes view.now.votes view.now.blank }
-    ensures { OnOk result (string_bytes text.new ≡ string_bytes text.old ++ valid_line view.now) }
+pub fn push_valid(
+    text: &mut String,
+    votes: &[u64],
+    blank: u64,
+    spoiled: u64,
+) -> Result<(), AllocError>
+    requires { IsWithinVotes votes.now blank }
+    ensures { OnOk result (string_bytes text.new
+        ≡ string_bytes text.old ++ valid_line votes.now blank spoiled) }
 {
-    let valid = base_of(Base::Valid, &view.votes, view.blank);
-    let (blank, spoiled) = (view.blank, view.spoiled);
+    let valid = base_of(Base::Valid, votes, blank);
     writeln!(text, "valid {valid} blank {blank} spoiled {spoiled}")
 }
 
@@ -78,7 +83,7 @@ fn push_list(
 }
 
 /// The columns of a list: its code, its votes, their share in the base, and whether it is eligible.
-pub(crate) fn push_votes_of(
+pub fn push_votes_of(
     text: &mut String,
     code: &str,
     votes: u64,

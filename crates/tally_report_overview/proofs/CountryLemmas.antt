@@ -12,10 +12,11 @@ use Rattle.tally_returns.specs.View.{FitsView, View}
 use Rattle.tally_returns.specs.declared.ask.Ask.TheVariants.{ShowCon}
 use Rattle.tally_returns.specs.declared.refusal.Refusal.{Refusal}
 use Rattle.tally_returns.specs.declared.refusal.Refusal.TheVariants.{Memory, Store}
+use Rattle.tally_machine_law.specs.Outcome.{IsLawfulView}
 use Rattle.tally_machine_law.specs.Step.{IsConStepSeen, IsNotAccepted, con_answer, no_change}
 use Rattle.tally_keeper.specs.Keeper.{Happens, request}
 use Rattle.tally_keeper.specs.Shown.{AnswersShowCon, IsOwnRefusal}
-use Rattle.tally_report_overview.specs.Views.{ShowsAll}
+use Rattle.tally_report_overview.specs.Views.{ShowsAll, ShowsAllWhole, ShowsWhole}
 
 -- ---- the constituency at a place
 
@@ -75,6 +76,32 @@ shown-more setup state i code views view (con, has, code_is, next) shows before 
     (all_zipped_more (λ (c : Constituency) (v : View). AnswersShowCon setup state c.code (Ok v) state) (take i setup) views con view before
     (subst (λ q. AnswersShowCon setup state q (Ok view) state) code_is shows))
 
+-- ---- one whole view more
+
+-- a keeper that has stayed shows it as it would have at first
+pub whole-at-first : (setup now : List Constituency) (first before after : Option State) (code : List ℕ) (shown r : Result View Refusal) → now ≡ setup → before ≡ first → shown ≡ r
+    → ShowsWhole now before code shown after → ShowsWhole setup first code r after
+whole-at-first setup now first before after code shown r setup_is before_is is shows =
+    subst (λ x. ShowsWhole setup first code x after) is (subst (λ s. ShowsWhole s first code shown after) setup_is (subst (λ b. ShowsWhole now b code shown after) before_is shows))
+
+-- the whole views of these constituencies, all shown in this state
+abbrev pub AreWholeOf : List Constituency → Option State → List Constituency → List View → Type 0
+AreWholeOf setup state cons views = AllZip (λ (con : Constituency) (view : View). ShowsWhole setup state con.code (Ok view) state) cons views
+
+pub whole-more : (setup : List Constituency) (state : Option State) (i : ℕ) (code : List ℕ) (views : List View) (view : View) → At setup i code
+    → ShowsWhole setup state code (Ok view) state → AreWholeOf setup state (take i setup) views → AreWholeOf setup state (take (i + 1) setup) (views ++ view ∷ [])
+whole-more setup state i code views view (con, has, code_is, next) shows before =
+    subst (λ (l : List Constituency). AreWholeOf setup state l (views ++ view ∷ [])) (sym next)
+    (all_zipped_more (λ (c : Constituency) (v : View). ShowsWhole setup state c.code (Ok v) state) (take i setup) views con view before
+    (subst (λ q. ShowsWhole setup state q (Ok view) state) code_is shows))
+
+pub lawful-more : (setup : List Constituency) (i : ℕ) (code : List ℕ) (views : List View) (view : View) → IsSetup setup → At setup i code
+    → ((found : Constituency) → constituency_with code setup ≡ Some found → IsLawfulView found view)
+    → AllZip IsLawfulView (take i setup) views → AllZip IsLawfulView (take (i + 1) setup) (views ++ view ∷ [])
+lawful-more setup i code views view limits (con, has, code_is, next) lawful before =
+    let found : constituency_with code setup ≡ Some con = subst (λ q. constituency_with q setup ≡ Some con) (sym code_is) (con-only setup con limits has) in
+    subst (λ (l : List Constituency). AllZip IsLawfulView l (views ++ view ∷ [])) (sym next) (all_zipped_more IsLawfulView (take i setup) views con view before (lawful con found))
+
 -- ---- one that is refused
 
 con-step : (s t : State) (code : List ℕ) (why : Refusal) (found : Constituency) → IsConStepSeen (Some found) s (ShowCon code) (Err why) t → ⊥
@@ -103,3 +130,8 @@ pub all-refused : (setup : List Constituency) (old new : Option State) (i : ℕ)
     → AnswersShowCon setup old code (Err why) new → ShowsAll setup old (Err why) new
 all-refused setup old new i code why limits (con, has, code_is, next) shows =
     refused setup old new code con why (subst (λ q. constituency_with q setup ≡ Some con) (sym code_is) (con-only setup con limits has)) shows.1
+
+pub whole-refused : (setup : List Constituency) (old new : Option State) (i : ℕ) (code : List ℕ) (why : Refusal) → IsSetup setup → At setup i code
+    → ShowsWhole setup old code (Err why) new → ShowsAllWhole setup old (Err why) new
+whole-refused setup old new i code why limits (con, has, code_is, next) shows =
+    refused setup old new code con why (subst (λ q. constituency_with q setup ≡ Some con) (sym code_is) (con-only setup con limits has)) shows

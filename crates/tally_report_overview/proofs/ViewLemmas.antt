@@ -26,7 +26,7 @@ use Rattle.tally_machine_law.specs.Step.{IsConStepSeen, after_change, con_shown}
 use Rattle.tally_keeper.specs.Keeper.{Happens, request}
 use Rattle.tally_keeper.specs.Shown.{AnswersShowCon}
 use Rattle.tally_returns.specs.declared.refusal.Refusal.{Refusal}
-use Rattle.tally_report_overview.specs.Views.{HasPastIf, ShowsFor, is_past}
+use Rattle.tally_report_overview.specs.Views.{HasPastIf, ShowsFor, ShowsWhole, is_past}
 
 -- ---- what is shown
 
@@ -126,3 +126,10 @@ pub enough-for : ViewsAreLawful → (setup : List Constituency) (old new : Optio
 enough-for law setup old new con which (Ok view) limits lawful is = λ found there needs.
     lawful-shown (is_past which) found view is.0 is.2 (shown-lawful law setup old new con (record view { past = is.0 }) found limits lawful there is.1)
 enough-for law setup old new con which (Err why) limits lawful is = tt
+
+-- ---- with certificates on record
+
+-- nothing changed where a constituency was shown whole
+pub kept-whole : (setup : List Constituency) (old new : Option State) (con : List ℕ) (r : Result View Refusal) → ShowsWhole setup old con r new → IfOk r (λ _. new ≡ old)
+kept-whole setup old new con (Ok view) is = shown-kept setup old new con view is
+kept-whole setup old new con (Err why) is = tt

@@ -15,14 +15,17 @@ abbrev pub shown_named : List ℕ → Option Shown
 shown_named name =
     if bytes_eq name (codes "progress") then Some shown.Progress
     else if bytes_eq name (codes "country") then Some shown.Country
+    else if bytes_eq name (codes "results") then Some shown.Results
+    else if bytes_eq name (codes "result") then Some shown.Result
     else if bytes_eq name (codes "returns") then Some (shown.Stations of_stations.Returns)
     else if bytes_eq name (codes "stations") then Some (shown.Stations of_stations.Stations)
     else option_map shown.Report (report_named name)
 
--- the progress and the country are of all constituencies, what else is shown is of one
+-- the progress, the country and the results are of all constituencies, what else is shown is of one
 abbrev pub needs_con : Shown → Bool
 needs_con shown.Progress = false
 needs_con shown.Country = false
+needs_con shown.Results = false
 needs_con other = true
 
 -- the text of a report that is made of stations

@@ -38,6 +38,18 @@ ShowsFor which setup old con shown new =
     (past : List PastSeats) × Happens setup old (request (ShowCon con) (con_with past shown)) new
     × HasPastIf (is_past which) past shown
 
+-- ---- a constituency, with its certificates on record
+
+-- a constituency that was shown, as the reply that showed it
+abbrev pub as_con : Result View Refusal → Result Reply Refusal
+as_con (Ok shown) = Ok (reply.Con shown)
+as_con (Err why) = Err why
+
+-- A ShowCon happens to a keeper, and is answered with this.
+abbrev pub ShowsWhole : List Constituency → Option State → List ℕ → Result View Refusal
+    → Option State → Type 0
+ShowsWhole setup old con shown new = Happens setup old (request (ShowCon con) (as_con shown)) new
+
 -- ---- the progress
 
 -- how far each constituency has come, as the reply that showed it
@@ -60,3 +72,19 @@ abbrev pub ShowsAll : List Constituency → Option State → Result (Vec View Gl
     → Option State → Type 0
 ShowsAll setup old (Ok views) new = IsCountryOf setup old views.items × (new ≡ old)
 ShowsAll setup old (Err why) new = IsOwnRefusal why × ((new ≡ old) ⊎ (new ≡ None))
+
+-- ---- all constituencies, with their certificates on record
+
+-- What is seen of each constituency, in the setup's order, and all of one state: it is the same
+-- before and after each of them is shown.
+abbrev pub AreSeenIn : List Constituency → Option State → List View → Type 0
+AreSeenIn setup state views =
+    AllZip (λ (con : Constituency) (view : View).
+    ShowsWhole setup state con.code (Ok view) state) setup views
+
+-- All constituencies are shown as they are in one state, which stays; or the office refuses to, as
+-- above.
+abbrev pub ShowsAllWhole : List Constituency → Option State → Result (Vec View Global) Refusal
+    → Option State → Type 0
+ShowsAllWhole setup old (Ok views) new = AreSeenIn setup old views.items × (new ≡ old)
+ShowsAllWhole setup old (Err why) new = IsOwnRefusal why × ((new ≡ old) ⊎ (new ≡ None))

@@ -13,4 +13,4 @@ pub use country::{country_report, country_text};
 pub use returns::returns_text;
 pub use shown::{Shown, StationsReport, stations_report_text};
 pub use stations::stations_text;
-pub use views::{all_views, progress_of, view_for};
+pub use views::{all_views, progress_of, view_for, whole_view, whole_views};

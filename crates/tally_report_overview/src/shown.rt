@@ -27,6 +27,10 @@ pub enum Shown {
     Progress,
     /// The seats and the votes of all constituencies.
     Country,
+    /// The results of all constituencies, as one JSON array.
+    Results,
+    /// The result of a constituency, as JSON.
+    Result,
     /// A report of a constituency, by its stations.
     Stations(StationsReport),
     /// A report of a constituency, by what it has come to.
@@ -41,6 +45,8 @@ impl Shown {
         match name {
             "progress" => Some(Shown::Progress),
             "country" => Some(Shown::Country),
+            "results" => Some(Shown::Results),
+            "result" => Some(Shown::Result),
             "returns" => Some(Shown::Stations(StationsReport::Returns)),
             "stations" => Some(Shown::Stations(StationsReport::Stations)),
             _ => Report::named(name).map(Shown::Report),
@@ -52,8 +58,8 @@ impl Shown {
         ensures { result ≡ needs_con self }
     {
         match self {
-            Shown::Progress | Shown::Country => false,
-            Shown::Stations(_) | Shown::Report(_) => true,
+            Shown::Progress | Shown::Country | Shown::Results => false,
+            Shown::Result | Shown::Stations(_) | Shown::Report(_) => true,
         }
     }
 }

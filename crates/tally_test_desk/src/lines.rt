@@ -25,7 +25,7 @@ pub(crate) fn message(alloc: Global, line: &str) -> Result<String, AllocError> {
 
 /// The type of a body: JSON, the CSV of returns, or a report.
 fn type_of(body: &str) -> &'static str {
-    if body.starts_with("{") {
+    if body.starts_with("{") || body.starts_with("[") {
         return "application/json";
     }
     if body.starts_with("station,") {

@@ -12,6 +12,8 @@ mod import;
 #[cfg(test)]
 mod imports;
 #[cfg(test)]
+mod recounts;
+#[cfg(test)]
 mod return_rows;
 #[cfg(test)]
 mod rows;

@@ -4,7 +4,7 @@ use crate::answers::fault_text;
 use crate::polls::{Poll, are_limits_kept, poll_of};
 use std::alloc::{AllocError, Global};
 use std::test::*;
-use tally_report::{Asked, allotment_text};
+use tally_report_allotment::{Asked, allotment_text};
 use tally_setup::Code;
 
 // The example of LOREG, article 163: the last seat is A's fourth, with 168,000 / 4 = 42,000. The

@@ -14,7 +14,11 @@ mod fractions;
 #[cfg(test)]
 mod polls;
 #[cfg(test)]
+mod recounts;
+#[cfg(test)]
 mod reports;
+#[cfg(test)]
+mod results;
 #[cfg(test)]
 mod stations;
 #[cfg(test)]

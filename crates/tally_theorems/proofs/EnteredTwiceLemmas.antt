@@ -210,6 +210,8 @@ module _ (setup : List Constituency) (old new : Option State) (m : Message) (tex
   on-route route.Returns at tied is = shown-deed (of-kind setup old new route.Returns m text is)
   on-route route.Stations at tied is = shown-deed (of-kind setup old new route.Stations m text is)
   on-route route.Country at tied is = shown-deed (of-kind setup old new route.Country m text is)
+  on-route route.Result at tied is = shown-deed (of-kind setup old new route.Result m text is)
+  on-route route.Results at tied is = shown-deed (of-kind setup old new route.Results m text is)
   on-route (route.OnStation command) at tied is =
       at-named NoStation (station_in_target setup m.target.items) (station_in_target setup m.target.items) (λ code con. Orders setup old con (station_command command code) m)
       (λ named names orders. order-deed setup old new (station_command command named.0) m text named.1 (station-coded command named.0)

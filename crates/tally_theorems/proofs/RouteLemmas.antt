@@ -27,9 +27,9 @@ use Rattle.tally_desk_routes.specs.declared.routes.Route.{Route}
 use Rattle.tally_desk_routes.specs.declared.routes.Route.TheVariants as route
 use Rattle.tally_desk_routes.specs.declared.routes.StationCommand.{StationCommand}
 use Rattle.tally_theorems.specs.MessageLaws.{IsImportRoute}
-use Rattle.tally_desk.specs.Requests.{Asks, HasConText, HasProgressText, HasReportText, HasReturnText, ImportsBody, Named, AtCon, AtNamed, AtStation, Orders, ShowsRows, TriesBody, con_in_target, returns_answer, station_in_target, stations_answer}
+use Rattle.tally_desk.specs.Requests.{Asks, HasConText, HasProgressText, HasReportText, HasResultText, HasReturnText, ImportsBody, Named, AtCon, AtNamed, AtStation, Orders, ShowsRows, TriesBody, con_in_target, returns_answer, station_in_target, stations_answer}
 use Rattle.tally_desk.specs.Respond.{IsAnswerOn}
-use Rattle.tally_report_overview.specs.Views.{ShowsAll}
+use Rattle.tally_report_overview.specs.Views.{ShowsAll, ShowsAllWhole}
 use Rattle.tally_report.specs.declared.report.Report.{Report}
 
 -- ---- what is shown
@@ -52,6 +52,11 @@ con-idle : (con : Constituency) (text : List ℕ) (r : Result Reply Refusal) →
 con-idle con text (Ok (reply.Con view)) has = refl
 con-idle con text (Ok other) has = absurd has
 con-idle con text (Err why) has = refl
+
+result-idle : (con : Constituency) (text : List ℕ) (r : Result Reply Refusal) → HasResultText con r text → is_act r ≡ false
+result-idle con text (Ok (reply.Con view)) has = refl
+result-idle con text (Ok other) has = absurd has
+result-idle con text (Err why) has = refl
 
 report-idle : (con : Constituency) (which : Report) (text : List ℕ) (r : Result Reply Refusal) → HasReportText con which r text → is_act r ≡ false
 report-idle con which text (Ok (reply.Con view)) has = refl
@@ -101,6 +106,10 @@ all-came : (setup : List Constituency) (old new : Option State) (r : Result (Vec
 all-came setup old new (Ok views) is = inl is.1
 all-came setup old new (Err why) is = look-refused setup old new why is.0 is.1
 
+whole-came : (setup : List Constituency) (old new : Option State) (r : Result (Vec View Global) Refusal) → ShowsAllWhole setup old r new → IsShown setup old new
+whole-came setup old new (Ok views) is = inl is.1
+whole-came setup old new (Err why) is = look-refused setup old new why is.0 is.1
+
 -- what was tried changed nothing, or the office was shut at it
 tried-came : (setup : List Constituency) (old new : Option State) (d : Delivery) (r : Result ImportCount ImportFault) → Tries setup old d r new → IsShown setup old new
 tried-came setup old new d (Ok count) is = inl is.2
@@ -132,6 +141,8 @@ kind (route.Report which) = shown
 kind route.Returns = shown
 kind route.Stations = shown
 kind route.Country = shown
+kind route.Result = shown
+kind route.Results = shown
 kind (route.OnStation command) = order_on_station command
 kind (route.OnCon command) = order_on_con command
 kind (route.Import sep) = import sep
@@ -183,6 +194,10 @@ of-kind setup old new (route.Report which) m text is = report-on setup old new m
 of-kind setup old new route.Returns m text is = rows-on setup old new m returns_answer text is
 of-kind setup old new route.Stations m text is = rows-on setup old new m stations_answer text is
 of-kind setup old new route.Country m text is = all-came setup old new is.0 is.1
+of-kind setup old new route.Result m text is =
+    named-shown setup old new NoConstituency (con_in_target setup m.target.items) (λ code con. Asks setup old (ShowCon code) (HasResultText con)) text
+    (λ code con. asked setup old new (ShowCon code) (HasResultText con) text (con-brings code) (result-idle con text)) is
+of-kind setup old new route.Results m text is = whole-came setup old new is.0 is.1
 of-kind setup old new (route.OnStation command) m text is = is
 of-kind setup old new (route.OnCon command) m text is = is
 of-kind setup old new (route.Import sep) m text is = is

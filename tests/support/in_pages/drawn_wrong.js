@@ -37,7 +37,7 @@ for (const line of document.querySelectorAll(".majority")) {
 for (const e of document.querySelectorAll(".code"))
   if (e.textContent.length < 7 && e.getClientRects().length > 1)
     wrong.push(e.textContent + " is divided");
-for (const e of document.querySelectorAll(".scroll, pre"))
+for (const e of document.querySelectorAll(".scroll"))
   if (e.scrollWidth > e.clientWidth + 1 && e.tabIndex < 0 && !e.querySelector("a[href]"))
     wrong.push(e.textContent.trim().slice(0, 40) + " is not reached");
 const light = (colour) => colour.match(/[0-9.]+/g).slice(0, 3).map((c) => c / 255)

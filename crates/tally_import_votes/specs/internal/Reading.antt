@@ -11,8 +11,8 @@ use Rattle.tally_import_votes.specs.declared.fault.AllotTrouble.TheVariants as t
 use Rattle.tally_import_votes.specs.declared.fault.VotesFault.{VotesFault}
 use Rattle.tally_import_votes.specs.declared.fault.VotesFault.TheVariants as fault
 use Rattle.tally_import_votes.specs.declared.votes.Votes.{Votes}
-use Rattle.tally_report.specs.Question.{Question, question}
-use Rattle.tally_report.specs.declared.question.Asked.{Asked}
+use Rattle.tally_report_allotment.specs.Question.{Question, question}
+use Rattle.tally_report_allotment.specs.declared.question.Asked.{Asked}
 
 -- the votes as definitions see them
 abbrev pub votes_in : Votes → VotesRead

@@ -8,6 +8,8 @@ use Rattle.tally_report_overview.specs.declared.shown.Shown.{Shown}
 use Rattle.tally_report_overview.specs.declared.shown.Shown.TheVariants as shown
 use Rattle.tally_import_records.specs.declared.separator.Sep.{Sep}
 use Rattle.tally_office_commands.specs.Imported.{IsTextImported, IsTextTrouble}
+use Rattle.tally_office_commands.specs.Results.{AreResultsShown, IsResultShown, IsResultTrouble}
+use Rattle.tally_office_commands.specs.Results.{IsResultsTrouble}
 use Rattle.tally_office_commands.specs.Show.{AreStationsShown, IsCountryShown, IsCountryTrouble}
 use Rattle.tally_office_commands.specs.Show.{IsProgressShown, IsProgressTrouble, IsReportShown}
 use Rattle.tally_office_commands.specs.Show.{IsReportTrouble, IsStationsTrouble}
@@ -19,10 +21,13 @@ abbrev pub IsTextShown : List Constituency → Option State → Shown → Option
     → Option State → Type 0
 IsTextShown setup old shown.Progress code text new = IsProgressShown setup old text new
 IsTextShown setup old shown.Country code text new = IsCountryShown setup old text new
+IsTextShown setup old shown.Results code text new = AreResultsShown setup old text new
+IsTextShown setup old shown.Result (Some code) text new = IsResultShown setup old code text new
 IsTextShown setup old (shown.Stations which) (Some code) text new =
     AreStationsShown setup old code which text new
 IsTextShown setup old (shown.Report which) (Some code) text new =
     IsReportShown setup old code which text new
+IsTextShown setup old shown.Result None text new = ⊥
 IsTextShown setup old (shown.Stations which) None text new = ⊥
 IsTextShown setup old (shown.Report which) None text new = ⊥
 
@@ -31,10 +36,13 @@ abbrev pub IsShowTrouble : List Constituency → Option State → Shown → Opti
     → Option State → Type 0
 IsShowTrouble setup old shown.Progress code t new = IsProgressTrouble setup old t new
 IsShowTrouble setup old shown.Country code t new = IsCountryTrouble setup old t new
+IsShowTrouble setup old shown.Results code t new = IsResultsTrouble setup old t new
+IsShowTrouble setup old shown.Result (Some code) t new = IsResultTrouble setup old code t new
 IsShowTrouble setup old (shown.Stations which) (Some code) t new =
     IsStationsTrouble setup old code t new
 IsShowTrouble setup old (shown.Report which) (Some code) t new =
     IsReportTrouble setup old code which t new
+IsShowTrouble setup old shown.Result None t new = ⊥
 IsShowTrouble setup old (shown.Stations which) None t new = ⊥
 IsShowTrouble setup old (shown.Report which) None t new = ⊥
 

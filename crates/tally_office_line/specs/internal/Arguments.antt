@@ -45,6 +45,7 @@ abbrev pub has_arguments : Text × List Row → Bool
 has_arguments p =
     if bytes_eq p.0 (codes "check") then true
     else if bytes_eq p.0 (codes "allot") then has_seats p.1 && has (codes "method") p.1
+    else if bytes_eq p.0 (codes "recount") then has (codes "setup") p.1 && has (codes "con") p.1
     else if bytes_eq p.0 (codes "new") then has (codes "db") p.1 && has (codes "setup") p.1
     else if bytes_eq p.0 (codes "import")
     then has (codes "db") p.1 && (has (codes "con") p.1 && has (codes "csv") p.1)

@@ -1,7 +1,7 @@
 use Rattle.std.proofs.Common.{sym}
 use Rattle.tally_import_votes.specs.Wanted.{wanted}
 use Rattle.tally_import_votes.proofs.AnswerLemmas.{asked-end, found-trouble, notes-end, notes-fault, notes-trouble}
-use Rattle.tally_report.specs.Question.{question}
+use Rattle.tally_report_allotment.specs.Question.{question}
 use Rattle.tally_import_votes.proofs.allot.text_of_whole.Goals as goal
 
 pub returns-in-Err-clause-read : goal.returns-in-Err-clause-read

@@ -1,7 +1,6 @@
-use Rattle.std.proofs.Common.{◌≡◌, ◌++◌, [], drop, map}
-use Rattle.tally_import_votes.specs.Lot.{place_named, words_of}
+use Rattle.std.proofs.Common.{◌≡◌, take, map}
+use Rattle.tally_import_votes.specs.Lot.{bytes_of, place_named}
 use Rattle.tally_import_votes.proofs.lot.places_of.Given as goal
 
-abbrev pub invariant-loop-byte : goal.invariant-loop-byte
-invariant-loop-byte l =
-    l.places.items ++ map (place_named l.lists) (words_of l.word.items (drop l.byte-index l.text)) ≡ map (place_named l.lists) (words_of [] l.text)
+abbrev pub invariant-loop-word : goal.invariant-loop-word
+invariant-loop-word l = l.places.items ≡ map (place_named l.lists) (bytes_of (take l.word-index l.words))

@@ -24,7 +24,7 @@ returns-in_default c =
     let lot = c.deref.ensures.value ∙ ap (λ (v : View). v.lot) c.view.view_is in
     let Fault : Profile → ℕ → List ℕ → ℕ → List ℕ → Type 0 = λ profile seats votes blank lot. IsFaultOf (rule_of profile) (poll_of profile votes blank) seats lot c.in-Err.fault in
     let says : IsFaultOf (rule_in con) (poll_in con view) con.seats view.lot c.in-Err.fault = carried Fault profile seats votes blank lot c.in-Err.ensures.fault in record {
-      awards = λ lawful certified. absurd (allots c.laws_of_lots.ensures.groups c.laws_of_lots.ensures.never_both con view some lawful certified c.in-Err.fault says c.in_default.not-Memory);
+      awards = λ allotted_seats has. absurd (allots c.laws_of_lots.ensures.groups c.laws_of_lots.ensures.never_both con view some allotted_seats has c.in-Err.fault says c.in_default.not-Memory);
       each = λ i d lt. absurd (omega (arith, rw c.new.ensures.items at lt));
       fault = tt;
     }

@@ -1,5 +1,8 @@
 use Rattle.std.proofs.Common.{rules}
+use Rattle.tally_report.proofs.AwardLemmas.{certified-outcome}
 use Rattle.tally_report.proofs.short.short_text.Goals as goal
 
 pub returns-clause-text : goal.returns-clause-text
-returns-clause-text c = λ lawful. (c.in_ok-numbers.numbers.items, c.in_ok-numbers.ensures.numbers lawful (search rules), search rules)
+returns-clause-text c = λ lawful.
+    let view = c.args.view.now in
+    (c.in_ok-numbers.numbers.items, c.in_ok-numbers.ensures.numbers view.seats (certified-outcome c.args.con.now view lawful (search rules)), search rules)

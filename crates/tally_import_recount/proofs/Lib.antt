@@ -1,0 +1,5 @@
+pub mod TableLemmas
+pub mod TakenLemmas
+pub mod RowsLemmas
+pub mod LawfulLemmas
+pub mod FoundLemmas

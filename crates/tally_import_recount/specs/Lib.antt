@@ -1,0 +1,5 @@
+pub mod Counted
+pub mod Recounts
+pub mod Troubles
+pub mod Wanted
+pub mod internal

@@ -1,0 +1,4 @@
+pub mod Ends
+pub mod Line
+pub mod Recounted
+pub mod Streams

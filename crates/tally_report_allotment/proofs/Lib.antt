@@ -1,0 +1,3 @@
+pub mod CountedLemmas
+pub mod DecisiveLemmas
+pub mod FitsLemmas

@@ -1,0 +1,3 @@
+-- What only proofs speak of.
+pub mod Allotments
+pub mod Counting

@@ -1,0 +1,4 @@
+pub mod ArrayLemmas
+pub mod NumberLemmas
+pub mod PartLemmas
+pub mod ResultLemmas

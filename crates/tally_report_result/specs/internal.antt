@@ -1,0 +1,2 @@
+-- What only proofs speak of.
+pub mod Found

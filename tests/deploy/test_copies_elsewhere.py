@@ -1,0 +1,185 @@
+"""Copies and records that another computer keeps: what its key can do there, and what it cannot.
+
+`restrict` and `command=` are sshd's: here the forced command is given what was asked. That nobody
+else writes into a folder of another user is the system's.
+"""
+
+import contextlib
+import hashlib
+import io
+import os
+import sys
+from pathlib import Path
+from unittest import mock
+
+from tests.support.case import Case
+from tests.support.scripts import loaded
+
+COPY, LATER = "office-20261126T221400Z.db", "office-20261126T222400Z.db"
+RECORD = "commands-20261126T220000Z.log"
+
+
+def contents(folder):
+    """The bytes of each file of a folder, hidden ones too."""
+    return {file.name: file.read_bytes() for file in Path(folder).iterdir()}
+
+
+class Copies(Case):
+    """A folder `kept` on the other computer, whose key may ask keep-copies alone."""
+
+    prefix = "office-copies-"
+
+    def setUp(self):
+        super().setUp()
+        for folder in ("kept", "copies"):
+            Path(folder).mkdir()
+        self.keep = loaded("keep-copies")
+
+    def asks(self, asked, data=b""):
+        """The answer to the key: status, output and errors."""
+        given = io.TextIOWrapper(io.BytesIO(data))
+        out, said = io.StringIO(), io.StringIO()
+        with (mock.patch.dict(os.environ, SSH_ORIGINAL_COMMAND=asked),
+              mock.patch.object(sys, "stdin", given),
+              contextlib.redirect_stdout(out), contextlib.redirect_stderr(said)):
+            status = self.keep.main(["kept"])
+        return status, out.getvalue(), said.getvalue()
+
+    def sends(self):
+        """The status and the errors of a send, whose other end is at hand, and what was asked of
+        it."""
+        send, asked, said = loaded("send-copies"), [], io.StringIO()
+
+        def ask(_, *words, file=None, at=0, size=0):
+            asked.append(" ".join(map(str, words)))
+            data = Path(file).read_bytes()[at:at + size] if file else b""
+            status, out, errors = self.asks(asked[-1], data)
+            if status:
+                raise send.Failed(errors)
+            return out
+
+        send.There.ask = ask
+        with contextlib.redirect_stderr(said):
+            status = send.main(["commands.log", "copies", "keeper@host.example"])
+        return status, said.getvalue(), asked
+
+    def again(self):
+        """The status and the errors for another user who keeps it all again."""
+        said = io.StringIO()
+        with contextlib.redirect_stderr(said):
+            status = self.keep.main(["--again", "kept", "again"])
+        return status, said.getvalue()
+
+    def test_what_is_sent(self):
+        """Each copy once, and of the record what is new; a record that does not go on with the one
+        that is kept is kept beside it."""
+        Path("copies", COPY).write_bytes(b"a copy")
+        Path("commands.log").write_bytes(b"one\n")
+        self.assertEqual(self.sends()[:2], (0, ""))
+        [record] = (name for name in contents("kept") if name != COPY)
+        self.assertRegex(record, r"^commands-\d{8}T\d{6}Z\.log$")
+        self.assertEqual(contents("kept"), {COPY: b"a copy", record: b"one\n"})
+        # (a name that no record of this second has)
+        os.rename(f"kept/{record}", f"kept/{RECORD}")
+        Path("copies", LATER).write_bytes(b"a later copy")
+        Path("commands.log").write_bytes(b"one\ntwo\n")
+        self.assertEqual(self.sends(), (0, "", ["list", f"append {RECORD} 4 4", f"add {LATER} 12"]))
+        kept = {COPY: b"a copy", LATER: b"a later copy", RECORD: b"one\ntwo\n"}
+        self.assertEqual(contents("kept"), kept)
+        self.assertEqual(self.sends(), (0, "", ["list"]))
+        for other in (b"ONE\ntwo\nthree\n", b"on"):
+            Path("commands.log").write_bytes(other)
+            self.assertEqual(self.sends()[:2], (0, ""))
+            [begun] = contents("kept").keys() - kept.keys()
+            self.assertEqual(contents("kept"), {**kept, begun: other})
+            Path("kept", begun).unlink()
+        Path("commands.log").unlink()
+        Path("copies", COPY).write_bytes(b"another")
+        self.assertEqual(self.sends(), (
+            1, f"send-copies: {COPY} that is kept there is another one\n", ["list"]))
+        self.assertEqual(contents("kept"), kept)
+
+    def test_what_the_key_cannot_do(self):
+        """Overwrite, shorten, remove, rename, read or run anything."""
+        Path("kept", COPY).write_bytes(b"a copy")
+        Path("kept", RECORD).write_bytes(b"one\ntwo\n")
+        Path("kept/link-20261126T221400Z.db").symlink_to(COPY)
+        Path("beside").write_bytes(b"beside")
+        before = contents("kept")
+        for asked, data in (
+            (f"add {COPY} 6", b"forged"), (f"add {RECORD} 3", b"ONE"), (f"add {COPY} 0", b""),
+            (f"append {RECORD} 0 3", b"ONE"), (f"append {RECORD} 4 3", b"TWO"),
+            (f"append {RECORD} 9 3", b"TWO"), (f"append {RECORD} -4 3", b"TWO"),
+            (f"append {COPY} 6 3", b"and"), (f"append {RECORD} 8 -8", b""),
+            ("append commands-20270101T000000Z.log 0 3", b"new"),
+            ("add ../beside 6", b"forged"), ("add ./beside 6", b"forged"),
+            (f"add ../kept/{COPY} 6", b"forged"), (f"add {COPY}\n 6", b"forged"),
+            (f"add /{COPY} 6", b"forged"), ("add .part-1 6", b"forged"),
+            ("add office-20261126T221400Z.db.new 6", b"forged"), ("add keep-copies 6", b"forged"),
+            (f"add  {LATER} 6", b"forged"), (f"add {LATER} 6 7", b"forged"),
+            (f"add {LATER} 6;rm {COPY}", b"forged"), (f"add {LATER} 9999999999999999", b""),
+            (f"rm {COPY}", b""), (f"remove {COPY}", b""), (f"mv {COPY} {LATER}", b""),
+            ("rsync --server -vlogDtpre.iLsfxCIvu --delete . .", b""), ("scp -t .", b""),
+            ("/usr/lib/openssh/sftp-server", b""), ("sh", b"rm -rf ."), ("list ", b""),
+            (f"list {COPY}", b""), (f"cat {COPY}", b""), ("--again . .", b""), ("", b""),
+        ):
+            with self.subTest(asked=asked):
+                status, out, said = self.asks(asked, data)
+                self.assertEqual((status, out), (1, ""))
+                self.assertTrue(said.startswith("keep-copies: "), said)
+                self.assertEqual(contents("kept"), before)
+        self.assertEqual(Path("beside").read_bytes(), b"beside")
+        # What it may see of what is kept.
+        hashed = hashlib.sha256(b"one\ntwo\n").hexdigest()
+        self.assertEqual(self.asks("list"), (0, f"{RECORD} 8 {hashed}\n{COPY} 6\n", ""))
+
+    def test_a_connection_that_breaks(self):
+        """A file that came in part is not kept; the record goes on with the part that came."""
+        Path("kept", RECORD).write_bytes(b"one\n")
+        self.assertEqual(self.asks(f"add {COPY} 10", b"half")[:2], (1, ""))
+        self.assertEqual(contents("kept"), {RECORD: b"one\n"})
+        self.assertEqual(self.asks(f"append {RECORD} 4 10", b"tw")[:2], (1, ""))
+        Path("commands.log").write_bytes(b"one\ntwo\nthree\n")
+        self.assertEqual(self.sends(), (0, "", ["list", f"append {RECORD} 6 8"]))
+        self.assertEqual(contents("kept"), {RECORD: b"one\ntwo\nthree\n"})
+
+    def test_a_disk_without_room(self):
+        keep = loaded("keep-copies")
+        keep.ROOM = 1 << 60
+        for act in (lambda: keep.add(Path("kept"), COPY, 1, None),
+                    lambda: keep.append(Path("kept"), RECORD, 0, 1, None)):
+            self.assertRaises(keep.Refused, act)
+        self.assertEqual(contents("kept"), {})
+
+    def test_what_another_user_keeps(self):
+        """It stays there, whatever the user does to whom it was sent; what was changed is named."""
+        Path("again").mkdir()
+        Path("kept", COPY).write_bytes(b"a copy")
+        Path("kept", LATER).write_bytes(b"a later copy")
+        Path("kept", RECORD).write_bytes(b"one\n")
+        Path("kept/notes").write_bytes(b"not sent")
+        self.assertEqual(self.again(), (0, ""))
+        with open(f"kept/{RECORD}", "ab") as it:
+            it.write(b"two\n")
+        self.assertEqual(self.again(), (0, ""))
+        kept = {COPY: b"a copy", LATER: b"a later copy", RECORD: b"one\ntwo\n"}
+        self.assertEqual(contents("again"), kept)
+        Path("kept", COPY).write_bytes(b"a copy and more")
+        self.assertEqual(self.again(), (1, f"keep-copies: {COPY} is longer than it was\n"))
+        self.assertEqual(contents("again"), kept)
+        Path("kept", COPY).write_bytes(b"forged")
+        Path("kept", LATER).unlink()
+        Path("kept", RECORD).write_bytes(b"ONE\ntwo\nthree\n")
+        self.assertEqual(self.again(), (
+            1, f"keep-copies: {RECORD} is not what it was\nkeep-copies: {COPY} is not what it was\n"
+            f"keep-copies: {LATER} is gone\n"))
+        Path("kept", RECORD).write_bytes(b"one\n")
+        Path("kept", COPY).unlink()
+        Path("kept", COPY).symlink_to("/etc/passwd")
+        os.mkfifo(f"kept/{LATER}")
+        self.assertRaises(OSError, self.keep.opened, f"kept/{COPY}")
+        self.assertRaises(self.keep.Refused, self.keep.opened, f"kept/{LATER}")
+        self.assertEqual(self.again(), (
+            1, f"keep-copies: {RECORD}: kept/{RECORD} is shorter than it was\n"
+            f"keep-copies: {COPY} is gone\nkeep-copies: {LATER} is gone\n"))
+        self.assertEqual(contents("again"), kept)
