@@ -40,6 +40,8 @@ from itertools import accumulate
 from pathlib import Path
 
 MILLION = 1_000_000
+# As many seats as the office gives a constituency: a file that says more would take all memory.
+MOST_SEATS = 500
 # Where this part of the ballots is expected to be counted, a count of all is hardly more work.
 NEARLY_ALL = 0.9
 RULES = {"dhondt": "D'Hondt", "sainte-lague": "Sainte-Laguë", "modified-sainte-lague": "the modified Sainte-Laguë",
@@ -88,6 +90,7 @@ def read_setup(file):
         entries = [rules[con["profile"]] | con for con in setup["constituency"]]
     for con in entries:
         need(con["method"] in RULES and con["base"] in BASES, f"{file}: the rule of {con['code']} is not known")
+        need(con["seats"] in range(1, MOST_SEATS + 1), f"{file}: {con['code']} has {con['seats']!r} seats, and not 1 to {MOST_SEATS}")
     keys = ("code", "name", "seats", "method", "threshold", "base")
     return [Constituency(*(con[key] for key in keys), [row["code"] for row in con[lists]],
                          {row["code"]: row["electors"] for row in con[stations]},

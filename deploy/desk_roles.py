@@ -61,7 +61,7 @@ TARGETS = [(kind, re.compile(pattern)) for kind, pattern in (
     ("page", "/clerk.html"),
     ("logout", "/logout"),
     ("setup", "/setup.json"),
-    ("file", "/(?P<file>[A-Za-z0-9_-][A-Za-z0-9_.-]*)?"),
+    ("file", "/(?P<file>([a-z]{2}/)?([A-Za-z0-9_-][A-Za-z0-9_.-]*)?)"),
 )]
 # Of these a target with a question is the same without.
 FILES = ("page", "logout", "setup", "file")

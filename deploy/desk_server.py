@@ -245,7 +245,9 @@ class Handler(http.server.BaseHTTPRequestHandler):
         self.send(200, self.server.house.setup, KINDS[".json"])
 
     def answer_file(self, found):
-        file = self.server.house.pages / (found.file or "index.html")
+        # (the pages of another language are in a folder of their own)
+        is_folder = not found.file or found.file.endswith("/")
+        file = self.server.house.pages / found.file / ("index.html" if is_folder else "")
         try:
             body = file.read_bytes() if file.is_file() and not file.is_symlink() else None
         except OSError:

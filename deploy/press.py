@@ -4,7 +4,8 @@
     python3 deploy/press.py http://127.0.0.1:8080 [ADDRESS..] FOLDER [--every SECONDS] [--setup FILE] [--head FILE] [--site FOLDER]
 
 It asks the office by GET alone, once a round for the results of all constituencies, and writes into FOLDER: index.html, what
-they are together; count.html, how far the count is; a page for each constituency; and the same numbers as CSV and JSON. Where
+they are together; count.html, how far the count is; a page for each constituency and for each list, and small ones for other
+sites; the elected; and the same numbers as CSV and JSON. Where
 there are several offices the pages are those of all. With the setup file it also writes setup.json, which the clerks' page reads,
 draws the threshold, has turnout, names the candidates who are gone, and writes for each certificate the returns of its stations,
 as one CSV and as pages; where there is no certificate, those that are closed so far. With the head that the recorder writes, each
@@ -30,6 +31,7 @@ import json
 import math
 import os
 import re
+import shutil
 import signal
 import sys
 import time
@@ -44,10 +46,15 @@ from pathlib import Path
 from press_data import (ACTS, OF_HASH, OPEN, STATION, adds_up, con_csv, con_json, datapackage, feed, goes_on,
                         index_csv, index_json, json_text, manifest, record_csv, results_csv,
                         returns_csv, returns_in, schemas)
-from press_pages import (aged, con_bodies, con_page, count_pages, details_page, index_pages,
-                         stations_pages, unaged)
+from press_country import together
+from press_embed import con_embedded, country_embedded
+from press_image import shared_image
+from press_lists import elected_csv, elected_pages, list_pages
+from press_pages import aged, con_bodies, con_page, count_pages, details_page, index_pages, unaged
+from press_places import find_json, places_csv
 from press_results import NoAnswer, read_results, read_stations
-from press_site import Site, Wrong, fault_of
+from press_site import LANGUAGES, Site, Wrong, fault_of
+from press_stations import places_pages, stations_pages
 from press_templates import TemplateError
 
 # How long an answer may take: an import may have the office before.
@@ -131,24 +138,35 @@ def read_setup(file):
 # ---- files
 
 
+# Where a file says its moment. No title or name can say it there: in these places each is escaped.
+MOMENTS = {".json": '"time": "([^"]+)"', ".atom": "<updated>([^<]+)<", ".html": '<time datetime="([^"]+)">'}
+
+
 def put(folder, name, text):
     """Writes a file, and the same compressed, each beside and renamed. What would be the same stays as it is."""
     data = text.encode()
     file, compressed = folder / name, folder / f"{name}.gz"
     if file.exists() and compressed.exists() and file.read_bytes() == data:
         return
-    for target, content in ((compressed, gzip.compress(data, 6, mtime=0)), (file, data)):
-        beside = folder / f".{target.name}.new"
-        beside.write_bytes(content)
-        os.replace(beside, target)
+    put_bytes(compressed, gzip.compress(data, 6, mtime=0))
+    put_bytes(file, data)
+
+
+def put_bytes(file, data):
+    """Writes a file beside and renames it. What would be the same stays as it is."""
+    if file.exists() and file.read_bytes() == data:
+        return
+    beside = file.with_name(f".{file.name}.new")
+    beside.write_bytes(data)
+    os.replace(beside, file)
 
 
 def put_dated(folder, name, write, moment):
     """Writes a file that says its moment, by a function of the moment. One that says the same of an earlier moment keeps that. The
     moment that it says."""
     before = text_of(folder / name)
-    found = re.search(r'"time": "([^"]+)"|<updated>([^<]+)<|<time datetime="([^"]+)">', before)
-    since = datetime.fromisoformat(found[found.lastindex]) if found else moment
+    found = re.search(MOMENTS[Path(name).suffix], before)
+    since = datetime.fromisoformat(found[1]) if found else moment
     text = write(since)
     if text != unaged(before):
         since, text = moment, write(moment)
@@ -190,8 +208,15 @@ def put_head(folder, file):
 
 def con_of(page):
     """The constituency that a page is of, by its name, or None."""
-    found = re.fullmatch(r"con-([\w-]+)\.html|(?:details|stations)-([\w-]+)-\d+\.html", page)
+    found = re.fullmatch(r"(?:con|embed)-([\w-]+)\.html|(?:details|stations|places?)-([\w-]+)-\d+\.html", page)
     return found and (found[1] or found[2])
+
+
+def remove_languages(folder, site):
+    """Removes the pages of each language that the site no longer has beside its own: nobody would renew them."""
+    for language in LANGUAGES.keys() - {one.language for one in site.others}:
+        if (folder / language).is_dir():
+            shutil.rmtree(folder / language)
 
 
 def mark_old(site, file):
@@ -297,7 +322,7 @@ def write_open(office, folder, site, code, con, entry, seen, may_ask):
         if stations:
             put(folder, name, closed)
             states = {station: found[0] if found else "missing" for station, found in stations.items()}
-            write_stations(folder, site, code, con, entry, name, states)
+            write_stations(folder, site, code, con, entry, seen, name, states)
         seen.stations[code] = key, now, text
     return {OPEN: name} if (folder / name).exists() else {}
 
@@ -313,9 +338,19 @@ def acts_of(folder, code, edition, returns):
     return [(one[0], one[1], one[2]) for one in found if one]
 
 
-def write_stations(folder, site, code, con, entry, file, states=None):
-    """Writes the pages of the stations from a file of returns."""
-    write_parts(folder, f"stations-{code}", stations_pages(site, code, con, entry, text_of(folder / file), states) if file else [])
+def write_stations(folder, site, code, con, entry, seen, file, states=None):
+    """Writes the pages of the stations and of the places from a file of returns; without one no station is closed."""
+    text = text_of(folder / file) if file else ""
+    for one, into in site.editions(folder):
+        pages, seen.starts[one.language, code] = stations_pages(one, code, con, entry, text, states) if file else ([], [])
+        write_parts(into, f"stations-{code}", pages)
+        of_each, of_table, places = places_pages(one, code, con, entry, text, states)
+        write_parts(into, f"place-{code}", of_each)
+        write_parts(into, f"places-{code}", of_table)
+    if places:
+        put(folder, f"places-{code}.csv", places_csv(con, places))
+    else:
+        remove(folder, f"places-{code}.csv")
 
 
 def write_parts(folder, name, pages):
@@ -339,13 +374,17 @@ def write_parts(folder, name, pages):
 @dataclass
 class Seen:
     """The state of an election as it was seen: its constituencies, and of each what was written last, and the moment that its page says; of one
-    without a certificate its stations, and when they were asked for; of each the electors of the stations that are counted; the
-    seconds that the last round left for stations, fewer than none where it waited longer."""
+    without a certificate its stations, and when they were asked for; of each the electors of the stations that are counted, and the
+    places of those with which its pages of stations begin; the constituencies of which the pages of lists were made; in each language, of
+    which beginnings find.json was made; the seconds that the last round left for stations, fewer than none where it waited longer."""
     cons: dict = field(default_factory=dict)
     written: dict = field(default_factory=dict)
     moments: dict = field(default_factory=dict)
     stations: dict = field(default_factory=dict)
     electors: dict = field(default_factory=dict)
+    starts: dict = field(default_factory=dict)
+    lists: dict = field(default_factory=dict)
+    found: dict = field(default_factory=dict)
     left: float = 0.0
 
 
@@ -369,30 +408,70 @@ def write_con(folder, site, code, con, entry, returns, seen):
     row = con["progress"]
     now = datetime.now().astimezone()
     electors = seen.electors[code] = electors_counted(folder, con, entry, returns)
-    body, *more = con_bodies(site, code, con, row, entry, returns, electors)
-    moment = put_dated(folder, f"con-{code}.html", lambda moment: con_page(site, con, row, body, moment), now)
-    write_parts(folder, f"details-{code}", [partial(details_page, site, code, con, row, of_page) for of_page in more])
     if OPEN not in returns:
-        write_stations(folder, site, code, con, entry, returns.get(row["edition"]) if row["certified"] and entry else None)
+        file = returns.get(row["edition"]) if row["certified"] and entry else None
+        if file or not con["tally"]["closed"] or not entry:
+            write_stations(folder, site, code, con, entry, seen, file)
         remove(folder, open_file(code))
+    has_places = (folder / f"places-{code}-1.html").exists()
+    moments = []
+    for one, into in site.editions(folder):
+        body, *more = con_bodies(one, code, con, row, entry, returns, electors, has_places)
+        moments.append(put_dated(into, f"con-{code}.html", partial(con_page, one, con, row, body), now))
+        put_dated(into, f"embed-{code}.html", con_embedded(one, code, con, head_of(body)), now)
+        write_parts(into, f"details-{code}", [partial(details_page, one, code, con, row, of_page) for of_page in more])
     put(folder, f"con-{code}.csv", con_csv(con))
     put_dated(folder, f"con-{code}.json", lambda moment: con_json(con, moment), now)
-    seen.cons[code], seen.written[code], seen.moments[code] = con, returns, moment
+    seen.cons[code], seen.written[code], seen.moments[code] = con, returns, moments[0]
 
 
 def write_index(folder, site, cons, setup, electors, seen, head):
     """Writes the files of all constituencies; `electors` are those of the stations that are counted, by constituency."""
     moment, changed = datetime.now().astimezone(), max((seen.moments[code] for code in cons if code in seen.moments), default=None)
-    first, *more = index_pages(site, cons, setup, moment, changed, electors)
-    put(folder, "index.html", first)
-    write_parts(folder, "cons", more)
-    first, *more = count_pages(site, cons, moment, changed, head)
-    put(folder, "count.html", first)
-    write_parts(folder, "count", more)
+    for one, into in site.editions(folder):
+        first, *more = index_pages(one, cons, setup, moment, changed, electors)
+        put(into, "index.html", first)
+        write_parts(into, "cons", more)
+        first, *more = count_pages(one, cons, moment, changed, head)
+        put(into, "count.html", first)
+        write_parts(into, "count", more)
+        starts = {code: seen.starts.get((one.language, code), []) for code in cons}
+        if seen.found.get(one.language) != starts:
+            put(into, "find.json", find_json(cons, setup, one, starts))
+            seen.found[one.language] = starts
     progress = [con["progress"] for con in cons.values()]
     put(folder, "index.csv", index_csv(progress))
     put_dated(folder, "index.json", lambda since: index_json(progress, since), moment)
     put(folder, "results.csv", results_csv(cons, setup))
+
+
+def head_of(body):
+    """The lines under the title, of the parts of a page."""
+    return {key: body[key] for key in ("headline", "counted_line")}
+
+
+def write_lists(folder, site, cons, setup, electors, seen):
+    """Writes the page of each list, those of the elected and the part of the country for other sites, where a constituency has
+    changed: shares are of the country."""
+    if len(cons) == len(seen.lists) and all(con is seen.lists.get(code) for code, con in cons.items()):
+        return
+    country, moment = together(cons, setup, electors), datetime.now().astimezone()
+    if site.about.get("address"):
+        put_bytes(folder / "share.png", shared_image(site, country))
+    codes = {party.code for party in country.parties}
+    for one, into in site.editions(folder):
+        put_dated(into, "embed.html", country_embedded(one, country, cons), moment)
+        for party in country.parties:
+            first, *more = list_pages(one, country, party, cons)
+            put_dated(into, f"list-{party.code}.html", first, moment)
+            write_parts(into, f"lists-{party.code}", more)
+        for page in into.glob("list*-*.html"):
+            found = re.fullmatch(r"list-(.+)|lists-(.+)-\d+", page.stem)
+            if found and not {found[1], found[2]} & codes:
+                remove(into, page.name)
+        write_parts(into, "elected", elected_pages(one, cons))
+    put(folder, "elected.csv", elected_csv(cons))
+    seen.lists = dict(cons)
 
 
 def write_about(folder, site, cons, codes, setup, seen, head):
@@ -403,7 +482,8 @@ def write_about(folder, site, cons, codes, setup, seen, head):
     for name, text in {"openapi.json": text_of(ROUTES), **schemas()}.items():
         put(folder, name, text)
     put(folder, "datapackage.json", datapackage(published(folder), seen.cons, site))
-    put(folder, "manifest.json", manifest(published(folder, "manifest.json"), head, moment))
+    pages = [file for _, into in site.editions(folder) for file in published(into, "manifest.json")]
+    put(folder, "manifest.json", manifest(pages, head, moment, folder))
 
 
 def results_of(offices):
@@ -442,16 +522,21 @@ class Round:
 
     def leave_as_it_is(self):
         """A file of all offices has all of them, or stays as it is."""
-        pages = [file for file in self.folder.glob("*.html") if con_of(file.name) not in self.cons]
-        for page in pages:
-            self.mark_old(page)
+        pages = [(site, page) for site, page in self.pages() if con_of(page.name) not in self.cons]
+        for site, page in pages:
+            self.mark_old(site, page)
         self.failures[-1] += f"; left as they are: {len(pages)} pages"
 
-    def mark_old(self, page):
+    def pages(self):
+        """The pages that are there, each with the site of its language."""
+        return [(site, page) for site, into in self.site.editions(self.folder) for page in into.glob("*.html")]
+
+    def mark_old(self, site, page):
         """Says on a page how old it is; that of a constituency is written again once there is an answer."""
-        mark_old(self.site, page)
+        mark_old(site, page)
         self.seen.written.pop(con_of(page.name), None)
         self.seen.stations.pop(con_of(page.name), None)
+        self.seen.lists.clear()
 
     def each(self, act, order=None):
         """Does this for each constituency that has not failed."""
@@ -461,9 +546,9 @@ class Round:
             try:
                 act(code, self.cons[code])
             except NoAnswer as error:
-                for page in self.folder.glob("*.html"):
+                for site, page in self.pages():
                     if con_of(page.name) == code:
-                        self.mark_old(page)
+                        self.mark_old(site, page)
                 self.failed.add(code)
                 self.failures.append(str(error))
 
@@ -494,6 +579,7 @@ class Round:
             # (of one whose returns could not be read nobody knows whose electors are counted)
             electors = {code: many for code, many in self.seen.electors.items() if code not in self.failed}
             write_index(self.folder, self.site, self.cons, self.setup, electors, self.seen, shown)
+            write_lists(self.folder, self.site, self.cons, self.setup, electors, self.seen)
         if self.cons:
             cons = {code: self.seen.cons[code] for code in self.cons if code not in self.failed}
             write_about(self.folder, self.site, cons, list(self.cons) if self.whole else None, self.setup, self.seen, shown)
@@ -538,6 +624,9 @@ def main():
         put(given.folder, "site.json", json_text(known))
     else:
         remove(given.folder, "site.json")
+    remove_languages(given.folder, site)
+    for _, folder in site.editions(given.folder):
+        folder.mkdir(exist_ok=True)
     signal.signal(signal.SIGTERM, lambda *_: sys.exit(0))
     offices, entries, seen, asked = [Office(address) for address in given.office], {entry["code"]: entry for entry in setup}, Seen(), 0
     while True:

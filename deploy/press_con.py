@@ -2,16 +2,18 @@
 
 import math
 from datetime import datetime
+from fractions import Fraction
 
-from press_country import seats_before, shares_before
+from press_country import loser, seats_before, shares_before
 from press_data import OPEN
 from press_figures import bars, half_circle
-from press_head import Standing, counted_line, has_won, leads
+from press_head import Standing, con_outlook, counted_line, has_won, leads
 from press_parts import (COUNTED, NOTHING, TABLE_ROOM, Head, Part, by_votes, changed, changing,
-                         details_links, divided, hundredths, list_name, numbers, pieces,
+                         details_links, divided, hundredths, list_link, list_name, numbers, pieces,
                          progress_bar, room_beside, rounded, row_of, sections, sections_on,
-                         shown_share, size, table, tables, together, votes_said)
-from press_results import provisional_seats
+                         shown_share, size, stacked_row, table, tables, together, votes_said)
+from press_results import RULES, lot_of, provisional_seats
+from press_templates import Markup
 
 # Columns of quotients side by side, as many as a sheet has room for.
 QUOTIENTS_WIDE = 8
@@ -19,7 +21,7 @@ QUOTIENTS_WIDE = 8
 # has the first of these with which it is no longer than a page may be: the other rows are on the
 # pages on which it goes on.
 TABLES_OF_CON = ((math.inf, math.inf), (math.inf, 12_000), (math.inf, 6_000), (10_000, 6_000),
-                 (6_000, 4_000))
+                 (6_000, 4_000), (4_000, 2_000), (2_000, 1_000), (1_000, 500))
 
 
 # ---- seats and votes
@@ -37,11 +39,11 @@ def seats_sections(site, code, con, row, entry, room):
     """The seats, with as many rows of their table as have room, and the others."""
     macros = site.templates.of_con
     if not con["view"]["certified"]:
-        why = "why_returns" if row["closed"] < row["stations"] else "why_board"
-        none = "none_withdrawn" if con["past"] else "none_open"
+        none, why = why_none(site, con)
         if provisional_seats(con):
             return provisional_sections(site, con, none, why, room)
-        return [Part(macros.no_seats(none, why))]
+        count = site.said("seats_count", many=con["rule"]["seats"])
+        return [Part(macros.no_seats(none, why, count))]
     given, total = con["seats"]["seats"], con["seats"]["total"]
     before, _ = former_con(site, code, con, entry)
     rows = [row_of(site, list_name(site, one["code"], one["name"]),
@@ -55,8 +57,55 @@ def seats_sections(site, code, con, row, entry, room):
     # (of Hare's rule a list has one claim to a seat, for which the order is as it was drawn)
     turned = entry and entry["lot"] == "alternating" and entry["method"] != "hare"
     seats = macros.seats(certified_said(site, con, entry), circle, first,
-                         site.say("lot_then").join(lot), turned)
+                         site.say("lot_then").join(lot), turned, last_seat(site, con))
     return [Part(seats, first.heads), *sections_on(site, more)]
+
+
+def why_none(site, con):
+    """That there is no certificate, and what it needs."""
+    tally, lot = con["tally"], lot_of(con)
+    if tally["closed"] < tally["stations"]:
+        why = site.said("why_returns")
+    elif lot:
+        why = site.said("why_lot", many=lot[1], lists=site.listed(lot[0]))
+    else:
+        why = site.said("may_change" if con["past"] else "why_board")
+    return "none_withdrawn" if con["past"] else "none_open", why
+
+
+def last_seat(site, con):
+    """Why the last seat went where it did, in sentences; none where no quotient decided it."""
+    if not con.get("awards"):
+        return []
+    unit, divisor = RULES[con["rule"]["method"]]
+    votes = {row["code"]: row["votes"] for row in con["tally"]["lists"]}
+
+    def quotient(code, of_list):
+        return Fraction(votes[code] * unit, divisor(of_list))
+
+    def said(words, code, of_list, **more):
+        by = Fraction(divisor(of_list), unit)
+        return site.said(words, list=list_name(site, code), votes=site.number(votes[code]),
+                         divisor=site.decimal(f"{float(by):g}"),
+                         quotient=site.number(int(quotient(code, of_list))), **more)
+
+    award = con["awards"][-1]
+    found = [said("last_seat_said", award["list"], award["of_list"],
+                  seat=site.number(award["seat"]))]
+    left = {code: 1 + sum(won for _, won in row) for code, row in con["quotients"]}
+    best = max(left, key=lambda code: quotient(code, left[code]))
+    level = [code for code in left if quotient(code, left[code]) == quotient(best, left[best])]
+    if quotient(best, left[best]) == quotient(award["list"], award["of_list"]):
+        found.append(site.said("last_seat_level",
+                               lists=Markup(", ").join(list_name(site, code) for code in level)))
+    else:
+        found.append(said("last_seat_next", best, left[best]))
+    if short := [row for row in con["short"] if row["short"] is not None]:
+        least = min(short, key=lambda row: row["short"])
+        found.append(site.said("last_seat_short", list=list_name(site, least["list"]),
+                               votes=site.number(least["short"]),
+                               loser=list_name(site, loser(con, least["list"]))))
+    return found
 
 
 def provisional_sections(site, con, none, why, room):
@@ -64,28 +113,29 @@ def provisional_sections(site, con, none, why, room):
     given, said, tally = provisional_seats(con), con["provisional"], con["tally"]
     names = {row["code"]: row["name"] for row in tally["lists"]}
     total, question, word = con["rule"]["seats"], said["question"], site.templates.parts.provisional
-    ordered = sorted(given, key=lambda code: (-given[code], list(names).index(code)))
-    rows = [row_of(site, list_name(site, code, names[code]), word(site.number(given[code])))
-            for code in ordered]
+    rows = [row_of(site, list_name(site, code, names[code]),
+                   word(site.number(given[code]), code in said["group"])) for code in given]
     if question:
         rows.append(row_of(site, site.said("by_lot"), word(site.number(question))))
     rows.append(row_of(site, site.said("total"), word(site.number(total))))
     values = {"share": site.per_cent(hundredths(tally["closed"], tally["stations"])),
               "closed": site.number(tally["closed"]), "stations": site.number(tally["stations"])}
+    whole = tally["closed"] == tally["stations"]
     heads = (site.said("list"), numbers(site.said("seats_provisional")))
     first, *more = tables(site, site.said("table_provisional", **values), heads, rows, "totalled",
                           room=room)
-    circle = half_circle(site, {}, total, question, provisional=given)
-    lot = question and site.said("provisional_lot", seats=site.number(question),
-                                 lists=", ".join(said["group"]))
+    circle = half_circle(site, {}, total, [("seats_by_lot", question)], provisional=given)
+    # What a lot has to decide where all is counted is said above as what the certificate needs.
+    lot = question and not whole and site.said("lot_would", many=question,
+                                               lists=site.listed(said["group"]))
+    words = "provisional_said_all" if whole and not con["past"] else "provisional_said"
     seats = site.templates.of_con.provisional_seats(
-        none, why, site.said("provisional_said", seats=site.number(total), **values), lot, circle,
-        first)
+        none, why, site.said(words, many=total, **values), lot, circle, first)
     return [Part(seats, first.heads), *sections_on(site, more)]
 
 
 def certified_said(site, con, entry):
-    values = {"edition": con["seats"]["edition"], "seats": site.number(con["seats"]["total"])}
+    values = {"edition": con["seats"]["edition"], "many": con["seats"]["total"]}
     if not entry:
         return site.said("certified_in", **values)
     return site.said("certified_by", **values, method=site.words["methods"][entry["method"]])
@@ -95,9 +145,10 @@ def votes_sections(site, code, con, entry, room):
     """The votes, with as many rows of their table as have room, and the others."""
     _, before = former_con(site, code, con, entry)
     lists = [row | {"share": share_of(con, entry, row)} for row in by_votes(con)]
-    rows = [row_of(site, list_name(site, row["code"], row["name"]), site.number(row["votes"]),
-                   changed(site, row["code"], row["share"], before, site.per_cent, " %"),
-                   site.said("yes" if row["eligible"] else "no")) for row in lists]
+    rows = [stacked_row(site, list_link(site, row["code"], row["name"]),
+                        site.number(row["votes"]),
+                        changed(site, row["code"], row["share"], before, site.share, site.per_cent),
+                        takes_part(site, con, row)) for row in lists]
     base = site.say(f"base_{entry['base']}") if entry else site.say("base_valid")
     threshold, limit = entry["threshold"] if entry else 0, ""
     if threshold:
@@ -105,11 +156,18 @@ def votes_sections(site, code, con, entry, room):
     shares = site.said("shares_of", base=base) if entry else site.said("shares_in")
     heads = (site.said("list"), numbers(site.said("votes").lower()),
              changing(site, "share", before), site.said("takes_part"))
-    first, *more = tables(site, site.said("table_votes"), heads, rows, room=room)
+    first, *more = tables(site, site.said("table_votes"), heads, rows, "stacked", room=room)
     votes = site.templates.of_con.votes(
         con["tally"]["closed"], con["tally"]["stations"], bars(site, lists, threshold, limit),
         first, shares, before is not None)
     return [Part(votes, first.heads), *sections_on(site, more)]
+
+
+def takes_part(site, con, row):
+    """Whether a list takes part in the award of seats, once something is counted."""
+    if not con["tally"]["closed"]:
+        return "–"
+    return site.said("yes" if row["eligible"] else "no")
 
 
 def share_of(con, entry, row):
@@ -128,35 +186,38 @@ def base_of(con, entry):
 
 
 def con_head(site, con, entry, electors):
-    """The lines under the title: who has won or who leads, and how much is counted. The electors
-    are those of the stations that are counted, or None."""
+    """The lines under the title: how much is counted, the seats, what is missing, and who has won
+    or who leads. The electors are those of the stations that are counted, or None."""
     tally, seats = con["tally"], con.get("seats")
     standings = [Standing(row["name"], row["votes"], seats["seats"][row["code"]] if seats else 0)
                  for row in tally["lists"]]
     headline = (has_won(site, standings, seats["total"]) if seats
-                else leads(site, standings, base_of(con, entry)))
+                else leads(site, standings, base_of(con, entry),
+                           tally["closed"] == tally["stations"]))
     counted = counted_line(site, tally["closed"], tally["stations"],
                            tally["valid"] + tally["spoiled"], electors)
-    return {"headline": headline, "counted_line": counted}
+    return {"headline": headline, "counted_line": counted, "outlook": con_outlook(site, con)}
 
 
-def counted_section(site, code, con, row, entry, published):
-    tally, turnout, link = con["tally"], None, None
-    said = site.said("con_counted", closed=site.number(row["closed"]),
-                     stations=site.number(row["stations"]))
+def counted_section(site, code, con, row, entry, published, has_places):
+    tally, turnout, links = con["tally"], None, []
+    said = site.said("con_counted", closed=site.number(row["closed"]), many=row["stations"])
     if entry and tally["closed"] == tally["stations"]:
         papers = tally["valid"] + tally["spoiled"]
         electors = sum(station["electors"] for station in entry["stations"])
         turnout = site.said("turnout", share=site.per_cent(rounded(papers, electors)),
                             papers=site.number(papers), electors=site.number(electors))
+    if has_places:
+        links.append((f"places-{code}-1.html", site.said("places_link")))
     if published:
-        link = f"stations-{code}-1.html"
+        links.append((f"stations-{code}-1.html", site.said("stations_link")))
     heads = [numbers(site.said(key)) for key in COUNTED]
     counts = row_of(site, *(site.number(row[key]) for key in COUNTED))
-    returns = table(site, site.said("table_returns"), heads, [counts], wide=True)
+    returns = table(site, site.said("table_returns"), heads, [counts], "turned")
     counted = site.templates.of_con.counted(
         said, progress_bar(site, said, row["closed"], row["stations"]), returns, turnout,
-        votes_said(site, tally["valid"], tally["blank"], tally["spoiled"]), bool(entry), link)
+        votes_said(site, tally["valid"], tally["blank"], tally["spoiled"]), links,
+        bool(entry) and not published)
     return Part(counted, returns.heads)
 
 
@@ -268,7 +329,8 @@ def past_sections(site, con, order, returns):
 def files_section(site, code, edition, returns):
     """Links to the acts of the certificate, and to the same numbers for programs."""
     links = [(f"con-{code}.csv", site.said("file_con")),
-             (f"con-{code}.json", site.said("file_con_json"))]
+             (f"con-{code}.json", site.said("file_con_json")),
+             (f"embed-{code}.html", site.said("file_embed"))]
     links += [(returns[which], site.said(words, edition=edition))
               for which, words in ((edition, "file_returns"), (OPEN, "file_open"))
               if which in returns]
@@ -280,15 +342,15 @@ def files_section(site, code, edition, returns):
 # ---- pages
 
 
-def con_bodies(site, code, con, row, entry, returns, electors=None):
+def con_bodies(site, code, con, row, entry, returns, electors=None, has_places=False):
     """The parts of the page of a constituency, and, where that is too long for one, the pages on
     which it goes on; `entry` is what the setup says of the constituency, or None, and `electors`
-    are those of the stations that are counted, or None."""
+    are those of the stations that are counted, or None. Its places have pages, or not."""
     head = con_head(site, con, entry, electors)
     order = {listed["code"]: place for place, listed in enumerate(by_votes(con))}
     names = {listed["code"]: listed["candidates"] for listed in entry["lists"]} if entry else {}
     published = (row["edition"] if row["certified"] else OPEN) in returns
-    counted = counted_section(site, code, con, row, entry, published)
+    counted = counted_section(site, code, con, row, entry, published, has_places)
     details = [*holders_sections(site, con, order, names), *awards_sections(site, con),
                *quotients_sections(site, con, order), *quota_sections(site, con, order),
                *past_sections(site, con, order, returns)]
@@ -329,12 +391,14 @@ def colours(site, con):
 def con_page(site, con, row, body, moment):
     """The page of a constituency, which has this."""
     return site.templates.page(
-        "con.html", name=con["tally"]["name"], state=state_of(con, row), edition=row["edition"],
-        moment=moment, colours=colours(site, con), **body)
+        "con.html", here=f"con-{row['con']}.html", name=con["tally"]["name"],
+        state=state_of(con, row), edition=row["edition"], moment=moment,
+        colours=colours(site, con), **body)
 
 
 def details_page(site, code, con, row, body, moment):
     """A page on which that of a constituency goes on."""
     return site.templates.page(
-        "details.html", code=code, name=con["tally"]["name"], state=state_of(con, row),
-        edition=row["edition"], moment=moment, colours=colours(site, con), **body)
+        "details.html", here=f"con-{code}.html", code=code,
+        name=con["tally"]["name"], state=state_of(con, row), edition=row["edition"],
+        moment=moment, colours=colours(site, con), **body)

@@ -25,6 +25,7 @@ class Country:
     certified: int = 0  # seats
     provisional: int = 0  # seats in constituencies without a certificate
     question: int = 0  # seats there that a lot would decide
+    uncounted: int = 0  # seats in constituencies in which nothing is counted
     cons: int = 0
     certified_cons: int = 0
     withdrawn: list = field(default_factory=list)  # codes of constituencies
@@ -41,7 +42,7 @@ class Country:
     electors: int | None = 0
     # Electors of all stations that are counted; None where they are not known.
     counted_electors: int | None = 0
-    closest: list = field(default_factory=list)  # votes short, list, constituency
+    closest: list = field(default_factory=list)  # votes short, list, constituency, who would lose
     without_short: int = 0  # certified constituencies whose rule has no votes short
 
     @property
@@ -53,14 +54,26 @@ class Country:
         return self.certified_cons == self.cons
 
     @property
+    def open(self):
+        """Seats that are not certified, and of which nothing else is said."""
+        return self.chamber - self.certified - self.provisional - self.question - self.uncounted
+
+    @property
+    def kinds(self):
+        """How many seats are of each kind, by the words for it."""
+        return (("seats_kind_certified", self.certified),
+                ("seats_kind_provisional", self.provisional), ("seats_kind_lot", self.question),
+                ("seats_kind_uncounted", self.uncounted), ("seats_kind_open", self.open))
+
+    @property
     def base(self):
         """Votes of which shares are: the valid ones, or those of the lists where every rule says so."""
         return sum(party.votes for party in self.parties) if self.bases == {"lists"} else self.valid
 
 
 def together(cons, setup, counted):
-    """The country, of its constituencies, whose setups may be missing. `counted` are the electors of the stations that are counted,
-    by constituency."""
+    """The country, of its constituencies, whose setups may be missing. `counted` are the electors of
+    the stations that are counted, by constituency."""
     found, parties = Country(cons=len(cons)), {}
     for code, con in cons.items():
         found.chamber += con["rule"]["seats"]
@@ -105,8 +118,14 @@ def add_seats(found, parties, code, con):
     found.certified += con["seats"]["total"]
     for of_list, many in con["seats"]["seats"].items():
         parties[of_list].seats += many
-    found.closest += [(row["short"], row["list"], code) for row in con.get("short", ()) if row["short"] is not None]
+    found.closest += [(row["short"], row["list"], code, loser(con, row["list"])) for row in con.get("short", ())
+                      if row["short"] is not None]
     found.without_short += "short" not in con
+
+
+def loser(con, code):
+    """Who would lose a seat, had this list the votes that it lacked for one more: that of the last award to another list."""
+    return next(award["list"] for award in reversed(con["awards"]) if award["list"] != code)
 
 
 def add_provisional(found, parties, con):
@@ -115,6 +134,7 @@ def add_provisional(found, parties, con):
         parties[of_list].provisional += many
         found.provisional += many
     found.question += con["provisional"]["question"] if given else 0
+    found.uncounted += 0 if con["tally"]["closed"] else con["rule"]["seats"]
 
 
 def electors(entry):

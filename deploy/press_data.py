@@ -13,7 +13,7 @@ from press_results import provisional_seats
 
 # Of the form of the files. The first number is raised when something goes or means something else,
 # the second when something is added.
-VERSION = "2.0.0"
+VERSION = "2.1.0"
 
 # In the name of a file of returns, in the place of the edition of a certificate.
 OPEN = "open"
@@ -66,6 +66,19 @@ RECORD = {
 STATION = {
     "station": described(CODE, "Code of the station."), "slip": described(CODE, "Code of the paper that the return is from."),
     "blank": described(COUNT, "Blank votes."), "spoiled": described(COUNT, "Spoiled votes."),
+}
+PLACE = {
+    "place": described(TEXT, "Name of the place."), "stations": described(COUNT, "Stations of the place."),
+    "closed": described(COUNT, "Returns of these that are closed. Only their votes count."),
+    "electors": described(COUNT, "Electors of the stations whose returns are closed."), "blank": BLANK, "spoiled": SPOILED,
+}
+
+
+ELECTED = {
+    "con": PROGRESS["con"], "con_name": RESULTS["con_name"], "list": LIST["list"],
+    "seat": described(FROM_ONE, "Which of the list’s seats in the constituency it is."),
+    "order": described(FROM_ONE, "Place of the candidate within the list; missing where the seat is empty."),
+    "candidate": described(TEXT, "Name of the candidate; missing where the seat is empty."),
 }
 
 
@@ -143,6 +156,12 @@ SCHEMAS = {
         "lists": an_array(an_object({"code": CODE, "name": TEXT, "candidates": an_array(TEXT)})),
         "stations": an_array(an_object({"code": CODE, "electors": COUNT, "agents": described(
             COUNT, "Those who may vote there beyond its electors; missing where there are none.")}, "agents"))}))),
+    "find": ("The names that the search of the first page finds: find.json", an_object(
+        {"version": HEAD["version"], "constituencies": an_array(an_object({
+            "con": PROGRESS["con"], "name": RESULTS["con_name"],
+            "places": described(an_array(TEXT), "Names of places: that of the first has the page place-CODE-1.html, and so on."),
+            "stations": described(an_array(CODE), "Codes of stations."), "names": described(an_array(TEXT), "Their names, or empty texts."),
+            "starts": described(an_array(COUNT), "How many stations are before the first one of each page of stations.")}))})),
     "manifest": ("All files: manifest.json", an_object(
         {"version": HEAD["version"], "time": described(MOMENT, "When the office was last asked. Of the files for programs this one alone is new each time."),
          "record": described(an_object(RECORD), "The record of commands at that time."),
@@ -163,6 +182,8 @@ def schemas():
 QUOTED = "One that begins with = + - or @ has an apostrophe in front."
 IN_CSV = {"share": {"type": "number"}, "time": {"type": "datetime"}, "takes_part": {"type": "boolean", "trueValues": ["yes"], "falseValues": ["no"]},
           "name": {"description": f"{LIST['name']['description']} {QUOTED}"},
+          "candidate": {"description": f"{ELECTED['candidate']['description']} {QUOTED}"},
+          "place": {"description": f"{PLACE['place']['description']} {QUOTED}"},
           "con_name": {"description": f"{RESULTS['con_name']['description']} {QUOTED}"}}
 
 
@@ -188,18 +209,27 @@ def resource_of(file, cons):
     if file.name == "results.csv":
         return resource(file.name, "Votes and seats of all constituencies.", RESULTS, "con", "list",
                         foreignKeys=[{"fields": ["con"], "reference": {"resource": "index", "fields": ["con"]}}])
+    if file.name == "elected.csv":
+        return resource(file.name, "Who holds the seats of certified constituencies.", ELECTED, "con", "list", "seat")
     if file.name == "record.csv":
         return resource(file.name, "The heads of the record of commands that were shown.", RECORD, "lines", "sha256")
     if found := re.fullmatch(r"con-(.+)\.csv", file.name):
         return resource(file.name, f"Votes and seats of {named(found[1], cons)}.", LIST, "list")
+    if found := re.fullmatch(r"places-(.+)\.csv", file.name):
+        return resource(file.name, f"Votes in the places of {named(found[1], cons)}.", PLACE | lists_in(file, found[1], cons, len(PLACE)), "place")
     if found := re.fullmatch(rf"stations-(.+)-(\d+|{OPEN})\.csv", file.name):
-        with file.open(encoding="utf-8", newline="") as lines:
-            codes = next(csv.reader(lines))[len(STATION):]
-        names = {row["code"]: row["name"] for row in cons[found[1]]["tally"]["lists"]} if found[1] in cons else {}
-        lists = {code: described(COUNT, f"Votes of {names.get(code, code)}.") for code in codes}
+        lists = lists_in(file, found[1], cons, len(STATION))
         which = "that are closed so far" if found[2] == OPEN else f"of edition {found[2]}"
         return resource(file.name, f"The returns {which} of {named(found[1], cons)}.", STATION | lists, "station")
     return None
+
+
+def lists_in(file, code, cons, first):
+    """The columns of lists of a file, from this one on."""
+    with file.open(encoding="utf-8", newline="") as lines:
+        codes = next(csv.reader(lines))[first:]
+    names = {row["code"]: row["name"] for row in cons[code]["tally"]["lists"]} if code in cons else {}
+    return {of: described(COUNT, f"Votes of {names.get(of, of)}.") for of in codes}
 
 
 def named(code, cons):
@@ -315,10 +345,10 @@ def index_json(progress, moment):
     return dated(moment, constituencies=progress)
 
 
-def manifest(files, head, moment):
-    """The hash of each file, with the head of the record of commands."""
+def manifest(files, head, moment, folder):
+    """The hash of each file by its name within the folder, with the head of the record of commands."""
     record = {"record": {"time": head["time"], "lines": head["n"], "sha256": head["hash"]}} if head else {}
-    return dated(moment, **record, files={file.name: hashlib.sha256(file.read_bytes()).hexdigest() for file in files})
+    return dated(moment, **record, files={str(file.relative_to(folder)): hashlib.sha256(file.read_bytes()).hexdigest() for file in files})
 
 
 # ---- the feed (Atom, RFC 4287)

@@ -15,15 +15,17 @@ LABEL_STEP, LETTER_WIDTH = 11.5, 7.4
 
 
 def bars(site, rows, threshold=0, limit=""):
-    """Shares of the first lists, and the threshold as a line across them."""
+    """Shares of the first lists, and the threshold as a line across them. The track is half of the
+    votes, or all where a list has more."""
     rows, more = rows[:SHOWN_BARS], len(rows) - SHOWN_BARS
-    full = max([*(row["share"] for row in rows), threshold, 1]) * 1.02
+    full = 5_000 if max([*(row["share"] for row in rows), threshold]) <= 5_000 else 10_000
     said = ", ".join(site.say("per_cent_said", list=row["code"], share=site.per_cent(row["share"]))
                      for row in rows)
     return {
         "said": said, "limit": limit, "more": more,
+        "scale": site.say("bars_scale", share=site.number(full // 100)),
         "line": f"{threshold / full * 100:.2f}" if threshold else None,
-        "bars": [row | {"share": site.per_cent(row["share"]),
+        "bars": [row | {"share": site.share(row["share"]),
                         "width": f"{row['share'] / full * 100:.2f}"} for row in rows]}
 
 
@@ -56,29 +58,32 @@ def places_of_dots(count):
     return sorted(found, key=lambda dot: (-dot[0], dot[1])), size
 
 
-def half_circle(site, seats, total, open_seats=0, majority=None, provisional=None):
-    """The seats as a half circle of dots, by list in the order of seats, then the open ones; each
-    list is named beside its own. Provisional seats are hollow dots after those of the list, which
-    is then named without a number: the word is not beside it."""
+def half_circle(site, seats, total, left=(), majority=None, provisional=None):
+    """The seats as a half circle of dots, by list in the order of seats, then those that are left,
+    each kind with its words; each list is named beside its own. Certified seats are full dots, with
+    a bar across each where the colour is much like that of the list before. Provisional seats are
+    hollow dots after those of the list, and their number is after a plus: the word is in the
+    caption."""
     provisional = provisional or {}
     sums = {code: (seats.get(code, 0), provisional.get(code, 0))
             for code in dict.fromkeys([*seats, *provisional])}
     groups = sorted(((code, *of) for code, of in sums.items() if any(of)),
                     key=lambda group: -sum(group[1:]))
-    named = [*groups, *([(None, open_seats, 0)] if open_seats else [])]
+    named = [*groups, *((None, many, words) for words, many in left if many)]
     dots, size = places_of_dots(total)
     at = majority_angle(dots, majority) if majority else None
-    drawn, labels, start, ring, before = [], [], 0, False, None
+    drawn, labels, start, barred, before = [], [], 0, False, None
     for code, many, more in named:
+        words, more = (more, 0) if code is None else (None, more)
         own, start = dots[start:start + many + more], start + many + more
-        ring = bool(code and before and not ring
-                    and like(site.colours_of(before), site.colours_of(code)))
-        drawn += [group_of_dots(code, own[:many], size, ring)] if many else []
+        barred = bool(code and before and not barred
+                      and like(site.colours_of(before), site.colours_of(code)))
+        drawn += [group_of_dots(code, own[:many], size, barred)] if many else []
         drawn += [group_of_dots(code, own[many:], size, hollow=True)] if more else []
         before = code
         middle = (own[0][0] + own[-1][0]) / 2
-        label = code or site.say("open_seats")
-        labels.append((clear_of(at, middle), label if more else f"{label} {many}"))
+        said = f"{many}+{more}" if more else f"{many}"
+        labels.append((clear_of(at, middle), f"{code or site.say(words)} {said}"))
     sides, lines, width, top, bottom = placed_labels(labels, 100 + size)
     return {
         "said": ", ".join(dots_said(site, *group) for group in named),
@@ -90,20 +95,22 @@ def half_circle(site, seats, total, open_seats=0, majority=None, provisional=Non
 
 
 def dots_said(site, code, many, more):
-    said = f"{code or site.say('open_seats')} {many}"
-    if not more:
+    said = f"{code or site.say(more)} {many}"
+    if not more or code is None:
         return said
     return site.say("circle_provisional", list=code, many=more) if not many else (
         site.say("circle_both", said=said, many=more))
 
 
-def group_of_dots(code, dots, size, ring=False, hollow=False):
+def group_of_dots(code, dots, size, barred=False, hollow=False):
     """The dots of a list, as lines of no length with round ends, as wide as the picture says; of
-    the open seats where there is no list."""
-    path = "".join(f"M{radius * math.cos(angle):.1f} {-radius * math.sin(angle):.1f}h0"
-                   for angle, radius in dots)
-    hole = 1.45 * size if hollow else size if ring else 0 if code else 2 * size - 1.6
-    return {"code": code, "path": path, "hole": f"{hole:.1f}" if hole else None}
+    the open seats where there is no list. A bar goes across the dot, from edge to edge."""
+    places = [(radius * math.cos(angle), -radius * math.sin(angle)) for angle, radius in dots]
+    path = "".join(f"M{x:.1f} {y:.1f}h0" for x, y in places)
+    hole = 1.45 * size if hollow else 0 if code else 2 * size - 1.6
+    bars = "".join(f"M{x - size:.1f} {y:.1f}h{2 * size:.1f}" for x, y in places if barred)
+    return {"code": code, "path": path, "hole": f"{hole:.1f}" if hole else None,
+            "bars": bars, "bar": f"{0.5 * size:.1f}"}
 
 
 def majority_angle(dots, majority):
@@ -160,12 +167,22 @@ def spread(heights):
 # ---- a map
 
 
-def map_shape(shape, cons):
-    """A shape of the map; that of a constituency has the colour of its first list."""
-    kind, code, places, inner = shape
+def map_shape(shape, cons, first=None):
+    """A shape of the map; that of a constituency has the colour of its first list, whose code is
+    shown by a text within it that has none of its own."""
+    kind, code, places, inner, text = shape
     con, found = cons.get(code), None
     if con:
-        found = {"name": con["tally"]["name"], "first": first_list(con),
+        first = first_list(con)
+        found = {"code": code, "name": con["tally"]["name"], "first": first,
                  "pale": not con["view"]["certified"]}
-    return {"kind": kind, "places": places, "con": found,
-            "inner": [map_shape(part, cons) for part in inner]}
+    return {"kind": kind, "places": places, "con": found, "text": text or first or "",
+            "inner": [map_shape(part, cons, first) for part in inner]}
+
+
+def map_key(cons):
+    """In how many constituencies each list has the most votes."""
+    found = {}
+    for first in filter(None, map(first_list, cons.values())):
+        found[first] = found.get(first, 0) + 1
+    return sorted(found.items(), key=lambda one: -one[1])

@@ -1,4 +1,4 @@
-"""The pages of the country, of the count and of stations, from what `press.py` read.
+"""The pages of the country and of the count, from what `press.py` read.
 
 The page of a constituency is made by press_con.py, and the HTML of all by the templates in the
 folder `templates`, in the words of a site's language.
@@ -6,36 +6,35 @@ folder `templates`, in the words of a site's language.
 
 import math
 import re
-import unicodedata
 from datetime import datetime
-from functools import partial
 
-from press_con import colours, con_bodies, con_page, details_page
-from press_country import first_list, seats_before, shares_before, together
-from press_data import returns_in
-from press_figures import MOST_DOTS, MOST_LABELS, bars, half_circle, map_shape
-from press_head import Standing, counted_line, has_won, leads
-from press_names import isolated
-from press_parts import (AGE, COUNTED, NOTHING, PAGE_ROOM, Head, Part, by_votes, changed,
-                         changing, details_links, divided, framed, hundredths, list_name, numbers,
+from press_con import con_bodies, con_page, details_page
+from press_country import CLOSEST, first_list, seats_before, shares_before, together
+from press_figures import MOST_DOTS, MOST_LABELS, bars, half_circle, map_key, map_shape
+from press_head import Standing, country_outlook, counted_line, has_won, leads
+from press_names import in_order, label
+from press_parts import (AGE, COUNTED, NOTHING, PAGE_ROOM, Head, Part, changed, changing,
+                         details_links, divided, framed, hundredths, list_link, list_name, numbers,
                          progress_bar, room_beside, rounded, row_of, searched, sections, size,
-                         table, tables, unaged, votes_said)
-from press_results import provisional_seats
+                         stacked_row, table, tables, unaged, votes_said)
+from press_results import by_seats, lot_of, provisional_seats
 
 __all__ = ["aged", "con_bodies", "con_page", "count_pages", "details_page", "index_pages",
-           "stations_pages", "unaged"]
+           "unaged"]
 
-# Lists without a seat that the page of the country shows, and letters of a name in a link.
-SHOWN_WITHOUT_SEAT, LETTERS = 20, 24
-# Bytes of rows that the table of lists may have on the page of the country.
-TABLES_OF_COUNTRY = (math.inf, 16_000, 12_000, 8_000, 4_000)
+# Lists without a seat that the page of the country shows.
+SHOWN_WITHOUT_SEAT = 20
+# Bytes of rows that the table of lists may have on the page of the country, and how many of the
+# closest seats.
+TABLES_OF_COUNTRY = ((math.inf, 10), (16_000, 10), (12_000, 10), (8_000, 10), (6_000, 5),
+                     (4_400, 1))
 
 
 # ---- the page of the country
 
 
 def certified_said(site, country):
-    values = {"chamber": site.number(country.chamber), "cons": site.number(country.cons),
+    values = {"many": country.chamber, "cons": site.number(country.cons),
               "seats": site.number(country.certified),
               "certified": site.number(country.certified_cons)}
     if country.whole:
@@ -45,15 +44,20 @@ def certified_said(site, country):
 
 
 def provisional_said(site, country):
-    """How many seats are provisional, with how much is counted; None where none is."""
+    """How many seats are provisional, with how much is counted, and how many are neither certified
+    nor provisional; None where none is."""
     if not country.provisional + country.question:
         return None
+    whole = country.closed == country.stations and not country.withdrawn
     share = site.per_cent(hundredths(country.closed, country.stations))
-    said = site.said("provisional_country", share=share, seats=site.number(country.provisional),
-                     cons=site.number(country.cons - country.certified_cons))
-    if not country.question:
-        return said
-    return said + " " + site.said("provisional_country_lot", seats=site.number(country.question))
+    said = [site.said("provisional_country_all" if whole else "provisional_country", share=share,
+                      many=country.provisional),
+            site.said("cons_not_certified",
+                      cons=site.number(country.cons - country.certified_cons))]
+    said += [site.said(words, seats=site.number(many)) for words, many in (
+        ("provisional_country_lot", country.question),
+        ("provisional_country_uncounted", country.uncounted)) if many]
+    return NOTHING.join([said[0], *(" " + one for one in said[1:])])
 
 
 def circle_of(site, country):
@@ -63,8 +67,9 @@ def circle_of(site, country):
     total, labels = country.chamber, sum(any(of) for of in zip(seats.values(), more.values()))
     if not 0 < total <= MOST_DOTS or not 0 < labels <= MOST_LABELS:
         return None
-    return half_circle(site, seats, total, total - country.certified - country.provisional,
-                       country.majority, more)
+    left = (("seats_by_lot", country.question), ("seats_uncounted", country.uncounted),
+            ("seats_open", country.open))
+    return half_circle(site, seats, total, left, country.majority, more)
 
 
 def chart_of(site, country):
@@ -90,75 +95,92 @@ def parties_table(site, country, former, room):
     rows = []
     for party in country.parties[:given + SHOWN_WITHOUT_SEAT]:
         cells = party_cells(site, country, party, seats, shares)
-        rows.append(row_of(site, *cells))
+        rows.append(stacked_row(site, *cells))
         room -= sum(map(size, cells))
         if room < 0:
             break
     shown, left = country.parties[:len(rows)], country.parties[len(rows):]
     if left:
-        rows.append(row_of(site, *others_cells(site, country, left)))
-    rows.append(row_of(site, site.said("total"), site.number(country.certified),
-                       *provisional_cell(site, country, country.provisional),
-                       site.number(sum(party.votes for party in country.parties)), ""))
-    more = [numbers(site.said("seats_provisional"))] if country.provisional else []
-    heads = (site.said("list"),
-             changing(site, "seats_certified" if country.provisional else "seats", seats), *more,
+        rows.append(stacked_row(site, *others_cells(site, country, left)))
+    total = seats_cells(site, country, country.certified, country.provisional,
+                        site.number(country.certified))
+    rows.append(stacked_row(site, site.said("total"), *total,
+                            site.number(sum(party.votes for party in country.parties)), ""))
+    heads = (site.said("list"), *seats_heads(site, country, seats),
              numbers(site.said("votes").lower()), changing(site, "share", shares))
-    wide = bool(country.provisional)
-    return table(site, site.said("table_country"), heads, rows, "totalled", wide), shown
+    kind = "totalled stacked under" + (" spare" if is_mixed(country) else "")
+    return table(site, site.said("table_country"), heads, rows, kind), shown
 
 
-def provisional_cell(site, country, seats):
-    """The cell of seats that are not certified, where the country has some."""
-    if not country.provisional:
-        return []
-    return [site.templates.parts.provisional(site.number(seats)) if seats else "–"]
+def is_mixed(country):
+    """Whether some seats are certified and some provisional."""
+    return bool(country.certified and country.provisional)
+
+
+def seats_heads(site, country, seats):
+    """The heads of the columns of seats: where some are certified and some provisional, of their
+    sum, of those and of these."""
+    certified = changing(site, "seats" if country.whole else "seats_certified", seats)
+    provisional = numbers(site.said("seats_provisional"))
+    if is_mixed(country):
+        return [numbers(site.said("seats_together")), certified, provisional]
+    return [provisional if country.provisional else certified]
+
+
+def seats_cells(site, country, certified, provisional, said):
+    """The cells of these seats of a list, of which the certified ones are said so."""
+    word = site.templates.parts.provisional
+    more = word(site.number(provisional)) if provisional else "–"
+    if is_mixed(country):
+        together = site.number(certified + provisional)
+        return [word(together) if provisional else together, said, more]
+    return [more if country.provisional else said if country.certified else "–"]
 
 
 def party_cells(site, country, party, seats, shares):
-    given = "–"
-    if country.certified:
-        given = changed(site, party.code, party.seats, seats, site.number)
+    given = changed(site, party.code, party.seats, seats, site.number)
     share = rounded(party.votes, country.base)
-    return [list_name(site, party.code, party.name), given,
-            *provisional_cell(site, country, party.provisional), site.number(party.votes),
-            changed(site, party.code, share, shares, site.per_cent, " %")]
+    return [list_link(site, party.code, party.name),
+            *seats_cells(site, country, party.seats, party.provisional, given),
+            site.number(party.votes),
+            changed(site, party.code, share, shares, site.share, site.per_cent)]
 
 
 def others_cells(site, country, parties):
     votes, seats, more = (sum(getattr(party, what) for party in parties)
                           for what in ("votes", "seats", "provisional"))
     words = "others" if seats or more else "others_without"
-    said = site.said(words, number=site.number(len(parties)))
-    share = site.per_cent(rounded(votes, country.base))
-    given = site.number(seats) if country.certified else "–"
-    return [said, given, *provisional_cell(site, country, more), site.number(votes), f"{share} %"]
+    share = site.share(rounded(votes, country.base))
+    return [site.said(words, many=len(parties)),
+            *seats_cells(site, country, seats, more, site.number(seats)),
+            site.number(votes), share]
 
 
 def turnout_said(site, country):
-    """The turnout of the constituencies whose returns are all closed."""
-    if not country.whole_cons or not country.electors:
+    """The turnout of what is counted, which is under the title too, with its numbers."""
+    if not country.closed or not country.counted_electors:
         return None
-    words = "turnout" if country.whole_cons == country.cons else "turnout_part"
-    share = site.per_cent(rounded(country.papers, country.electors))
-    return site.said(words, cons=site.number(country.whole_cons), share=share,
-                     papers=site.number(country.papers), electors=site.number(country.electors))
+    papers = country.valid + country.spoiled
+    words = "turnout" if country.closed == country.stations else "turnout_part"
+    return site.said(words, share=site.per_cent(rounded(papers, country.counted_electors)),
+                     papers=site.number(papers), electors=site.number(country.counted_electors))
 
 
-def country_head(site, country):
-    """The lines under the title of the pages of the country: who has won, once all is certified, or
-    who leads; and how much is counted."""
+def country_head(site, country, cons):
+    """The lines under the title of the pages of the country: how much is counted, the seats, what
+    is missing, and who has won, once all is certified, or who leads."""
     standings = [Standing(party.name, party.votes, party.seats) for party in country.parties]
     headline = (has_won(site, standings, country.certified, country.majority) if country.whole
-                else leads(site, standings, country.base))
+                else leads(site, standings, country.base, country.closed == country.stations))
     counted = counted_line(site, country.closed, country.stations,
                            country.valid + country.spoiled, country.counted_electors)
-    return {"headline": headline, "counted_line": counted}
+    return {"headline": headline, "counted_line": counted,
+            "outlook": country_outlook(site, country, cons)}
 
 
 def programs(site, setup):
     """The files for programs that the page of the country links."""
-    files = {"results.csv": "file_results", "index.csv": "file_index",
+    files = {"embed.html": "file_embed", "results.csv": "file_results", "index.csv": "file_index",
              "index.json": "file_index_json", "manifest.json": "file_hashes"}
     files |= {"setup.json": "file_setup"} if setup else {}
     return [(file, site.said(words)) for file, words in files.items()]
@@ -170,19 +192,21 @@ def country_values(site, country, cons):
     share = site.per_cent(hundredths(country.closed, country.stations))
     return {
         "title": title_of(site), "certified": certified_said(site, country),
+        "certified_cons": country.certified_cons,
         "provisional": provisional_said(site, country),
         "withdrawn": [(code, names[code]) for code in country.withdrawn],
+        "withdrawn_why": "withdrawn_provisional" if country.provisional else "withdrawn_why",
         "circle": circle_of(site, country), "chart": chart_of(site, country),
         "base": site.say(f"base_{'lists' if country.bases == {'lists'} else 'valid'}"),
         "counted": site.said("counted", closed=site.number(country.closed), share=share,
-                             stations=site.number(country.stations)),
+                             many=country.stations),
         "done": f"{country.closed / max(country.stations, 1) * 100:.2f}",
         "turnout": turnout_said(site, country),
         "votes": votes_said(site, country.valid, country.blank, country.spoiled),
-        "closest": [{"votes": short, "code": code, "con": con, "name": names[con]}
-                    for short, code, con in country.closest],
+        "closest": [{"votes": short, "code": code, "con": con, "name": names[con], "loser": of}
+                    for short, code, con, of in country.closest],
         "without_short": country.without_short,
-        "map": map_shape(site.map, cons) if site.map else None}
+        "map": map_shape(site.map, cons) if site.map else None, "map_key": map_key(cons)}
 
 
 def index_pages(site, cons, setup, moment, changed, electors):
@@ -191,21 +215,23 @@ def index_pages(site, cons, setup, moment, changed, electors):
     stations that are counted, by constituency."""
     country = together(cons, setup, electors)
     values, former = country_values(site, country, cons), former_of(site, country, cons)
-    head = country_head(site, country)
+    head = country_head(site, country, cons)
     values |= head | {"programs": programs(site, setup), "moment": moment, "last_change": changed,
                "compared_seats": former[0] is not None, "compared_shares": former[1] is not None}
     rows = cons_rows(site, cons)
     firsts = {first_list(con) for con in cons.values()}
-    for own, room in [(True, math.inf), *((False, room) for room in TABLES_OF_COUNTRY)]:
-        links, pages = NOTHING, []
+    closest = values["closest"]
+    for own, room, many in [(True, math.inf, CLOSEST), *((False, *of) for of in TABLES_OF_COUNTRY)]:
+        links, pages, values["closest"] = NOTHING, [], closest[:many]
         if not own:
             links, pages = cons_pages(site, rows, cons, moment, changed, head)
         parties, shown = parties_table(site, country, former, room)
         codes = shown_codes(values, shown, firsts if own or site.map else set())
         text = site.templates.page(
-            "index.html", parties=parties, cons=cons_table(site, rows) if own else links,
-            own=own, colours=site.colours_in(party.code for party in country.parties
-                                             if party.code in codes), **values)
+            "index.html", here="index.html", parties=parties,
+            cons=cons_table(site, rows) if own else links, own=own,
+            colours=site.colours_in(party.code for party in country.parties if party.code in codes),
+            **values)
         if size(text) <= PAGE_ROOM:
             break
     return [text, *pages]
@@ -215,17 +241,18 @@ def shown_codes(values, parties, firsts):
     """The lists that are on the page of the country, whose colours it needs."""
     of_circle = values["circle"]["groups"] if values["circle"] else []
     of_chart = values["chart"]["bars"] if values["chart"] else []
-    return {*(party.code for party in parties), *firsts,
-            *(one["code"] for one in [*of_circle, *of_chart, *values["closest"]])}
+    return {*(party.code for party in parties), *firsts, *outlook_codes(values),
+            *(one["code"] for one in [*of_circle, *of_chart, *values["closest"]]),
+            *(one["loser"] for one in values["closest"])}
+
+
+def outlook_codes(head):
+    """The lists that are in the line of the seats, under the title."""
+    line = head["outlook"]["line"]
+    return [code for code, *_ in line["seats"]] if line else []
 
 
 # ---- the constituencies
-
-
-def in_order(text):
-    """The key by which a name is ordered: its letters without accents and case."""
-    letters = unicodedata.normalize("NFD", text.casefold())
-    return "".join(letter for letter in letters if not unicodedata.combining(letter))
 
 
 def names_of(cons):
@@ -237,28 +264,38 @@ def cons_rows(site, cons):
     macros, rows, names = site.templates.of_country, [], names_of(cons)
     for code in sorted(cons, key=lambda code: in_order(names[code])):
         con = cons[code]
-        first = first_list(con)
-        seats, not_final = seats_of(con), provisional_seats(con)
-        given = [(of, many) for of, many in seats or not_final.items() if many]
-        rows.append((code, row_of(
-            site, macros.con_cell(code, names[code], state_of(con)),
-            list_name(site, first) if first else "–",
-            macros.seats_cell(given, bool(not_final)) if given else "–",
-            site.per_cent(hundredths(con["tally"]["closed"], con["tally"]["stations"])) + " %")))
+        first, counted = first_list(con), con["tally"]
+        rows.append((code, stacked_row(
+            site, macros.con_cell(code, names[code], state_of(con), site.share(
+                hundredths(counted["closed"], counted["stations"]))),
+            list_name(site, first) if first else "–", con_seats(site, con))))
     return rows
 
 
+def con_seats(site, con):
+    """The seats of a constituency by list, with those that a lot would decide; how many there are
+    where none is given."""
+    macros, lot = site.templates.of_country, lot_of(con)
+    seats, not_final = seats_of(con), provisional_seats(con)
+    given = [(of, many) for of, many in seats or not_final.items() if many]
+    left = [("seats_by_lot", lot[1])] if lot else []
+    if not given and not left:
+        words = "seats_open" if con["tally"]["closed"] else "seats_uncounted"
+        left = [(words, con["rule"]["seats"])]
+    return macros.seats_cell(given, bool(not_final), left)
+
+
 def cons_table(site, rows):
-    heads = (site.said("con"), site.said("first"), site.said("seats").lower(),
-             numbers(site.said("counted_head")))
-    return framed(site, site.said("table_cons"), heads, [row for _, row in rows], "searched cons")
+    heads = (site.said("con"), site.said("first"), site.said("seats").lower())
+    return framed(site, site.said("table_cons"), heads, [row for _, row in rows],
+                  "searched cons stacked")
 
 
 def seats_of(con):
     """The seats of a certificate, in their order."""
     if "seats" not in con:
         return []
-    return sorted(con["seats"]["seats"].items(), key=lambda pair: -pair[1])
+    return list(by_seats(con, con["seats"]["seats"]).items())
 
 
 def state_of(con):
@@ -273,14 +310,14 @@ def cons_pages(site, rows, cons, moment, changed, head):
     def written(rows, links):
         firsts = [first_list(cons[code]) for code, _ in rows]
         return site.templates.page(
-            "cons.html", title=site.said("cons"), links=links, table=cons_table(site, rows),
-            colours=site.colours_in(dict.fromkeys(filter(None, firsts))), moment=moment,
+            "cons.html", here="index.html", title=site.said("cons"), links=links,
+            table=cons_table(site, rows),
+            colours=site.colours_in(dict.fromkeys([*filter(None, firsts), *outlook_codes(head)])),
+            moment=moment,
             last_change=changed, **head)
 
     names = names_of(cons)
-    said = [names[code] for code, _ in rows]
-    labels = [isolated(name if len(name) <= LETTERS else f"{name[:LETTERS - 1]}…")
-              for name in said]
+    labels = [label(names[code]) for code, _ in rows]
     texts = [row for _, row in rows]
     groups, links = searched(site, "cons", texts, labels, written([], NOTHING))
     left = iter(rows)
@@ -298,8 +335,9 @@ def count_sections(site, cons):
         said = site.said(state)
         if state == "state_certified":
             said = site.said("state_certified_in", edition=row["edition"])
-        rows.append(row_of(site, site.templates.parts.con_link(code, con["tally"]["name"]), said,
-                           *(site.number(row[key]) for key in COUNTED)))
+        rows.append(stacked_row(
+            site, site.templates.parts.con_link(code, con["tally"]["name"]), said,
+            *(site.number(row[key]) for key in COUNTED)))
     certified = sum(con["view"]["certified"] for con in cons.values())
     said = site.said("certified_cons", certified=site.number(certified),
                      cons=site.number(len(cons)))
@@ -308,20 +346,22 @@ def count_sections(site, cons):
     heads = (Head(site.said("con")), Head(site.said("certificate")),
              *(numbers(site.said(key)) for key in COUNTED))
     return sections(site, site.said("cons"),
-                    tables(site, site.said("table_count"), heads, rows, "count", wide=True),
+                    tables(site, site.said("table_count"), heads, rows, "count stacked"),
                     progress_said)
 
 
 def count_pages(site, cons, moment, changed, head=None):
     """The page of the count: how many returns of each constituency are in which state; and those
     on which it goes on. `head` is that of the record of commands."""
-    counted = counted_line(site, *(sum(con["tally"][key] for con in cons.values())
-                                   for key in ("closed", "stations")))
+    country = together(cons, {}, {})
+    under_title = {"counted_line": counted_line(site, country.closed, country.stations),
+                   "outlook": country_outlook(site, country, cons)}
 
     def written(sections, links):
-        return site.templates.page("count.html", title=site.said("count_title"), colours=[],
-                                   links=links, sections=sections, moment=moment,
-                                   last_change=changed, counted_line=counted)
+        return site.templates.page(
+            "count.html", here="count.html", title=site.said("count_title"),
+            colours=site.colours_in(outlook_codes(under_title)), links=links, sections=sections,
+            moment=moment, last_change=changed, **under_title)
 
     def links(groups, here):
         if len(groups) == 1:
@@ -336,57 +376,6 @@ def count_pages(site, cons, moment, changed, head=None):
         parts.append(Part(record))
     groups = divided(parts, room_beside(written([], NOTHING)), links)
     return [written(group, links(groups, here)) for here, group in enumerate(groups)]
-
-
-# ---- pages of stations
-
-
-def stations_pages(site, code, con, entry, text, states=None):
-    """The pages of the stations of a constituency, from the file of their returns, each as a
-    function of its moment. Where there is no certificate they are the closed returns so far, and
-    each station's return has a state."""
-    columns, returns = returns_in(text)
-    order = {listed["code"]: place for place, listed in enumerate(by_votes(con))}
-    lists = sorted(range(4, len(columns)), key=lambda place: order[columns[place]])
-    found = {row[0]: row for row in returns}
-    heads = [site.said("station"), *([site.said("state")] if states else []),
-             site.said("electors"), *(list_name(site, columns[place]) for place in lists),
-             site.said("blank"), site.said("spoiled")]
-    rows = [station_row(site, station, found.get(station["code"]), (*lists, 2, 3), states)
-            for station in entry["stations"]]
-    words = stations_said(site, con, len(returns), len(entry["stations"]), states)
-    papers = sum(int(value) for row in returns for value in row[2:])
-    electors = sum(one["electors"] for one in entry["stations"] if one["code"] in found)
-    counted = counted_line(site, len(returns), len(entry["stations"]), papers, electors)
-
-    def written(rows, links, moment):
-        caption = site.said("table_stations")
-        returns = framed(site, caption, heads, rows, "searched stations", wide=True)
-        return site.templates.page(
-            "stations.html", code=code, name=con["tally"]["name"], said=words, links=links,
-            table=returns, moment=moment, colours=colours(site, con), counted_line=counted)
-
-    codes = [station["code"] for station in entry["stations"]]
-    empty = written([], NOTHING, datetime.now().astimezone())
-    groups, links = searched(site, f"stations-{code}", rows, codes, empty)
-    return [partial(written, group, links(groups, here)) for here, group in enumerate(groups)]
-
-
-def stations_said(site, con, closed, stations, states):
-    values = {"closed": site.number(closed), "stations": site.number(stations)}
-    if states:
-        return site.said("stations_open", **values)
-    return site.said("stations_said", edition=con["seats"]["edition"], **values)
-
-
-def station_row(site, station, row, places, states):
-    """A station, with the figures of its return where that is closed, at these places of its
-    row."""
-    code = station["code"]
-    state = [site.words["states"][states[code]]] if states else []
-    figures = (site.number(int(row[place])) if row else "–" for place in places)
-    return row_of(site, site.templates.parts.station(code, site.names.get(code)), *state,
-                  site.number(station["electors"]), *figures)
 
 
 # ---- what all pages have

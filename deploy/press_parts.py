@@ -12,7 +12,7 @@ from press_templates import Markup
 
 # Bytes of a page, which is then below 60 kB with a line that says how old it is too; and of rows
 # in a table, where there is more than one page.
-PAGE_ROOM, TABLE_ROOM = 56_000, 26_000
+PAGE_ROOM, TABLE_ROOM = 56_900, 26_000
 # The counts of a constituency's returns, by their states.
 COUNTED = ("stations", "missing", "received", "queried", "corrected", "closed")
 NOTHING = Markup("")
@@ -68,17 +68,31 @@ def list_name(site, code, name=None):
     return site.templates.parts.list_name(code, name)
 
 
+def list_link(site, code, name):
+    return site.templates.parts.list_link(code, name)
+
+
 def row_of(site, first, *cells):
     """A row, of texts and parts; the first is its head."""
     return site.templates.parts.row(first, cells)
 
 
+def stacked_row(site, first, *cells):
+    """A row of a table of the kind `stacked`."""
+    return site.templates.parts.stacked_row(first, cells)
+
+
 def framed(site, caption, heads, rows, kind="", wide=False):
     """A table of such rows, whose classes name the columns of numbers by their places. One that
-    may be wider than a phone is `wide`."""
+    may be wider than a phone is `wide`. The kind `stacked` has the head of each row above its cells
+    on a phone, so that no name is broken; there `under` has the last cell under the one before it,
+    `spare` not the fourth, which the others say too, and `count` not the fifth to the seventh."""
     heads = [head if isinstance(head, Head) else Head(head) for head in heads]
     classes = [*kind.split(), *(f"n{place}" for place, head in enumerate(heads, 1) if head.numbers)]
-    table = site.templates.parts.table(caption, heads, rows, " ".join(classes), wide)
+    fewer = {"under": 1, "spare": 1, "count": 3}
+    columns = len(heads) - 1 - sum(fewer.get(one, 0) for one in classes)
+    table = site.templates.parts.table(caption, heads, rows, " ".join(classes), wide,
+                                       columns if "stacked" in classes else 0)
     return Part(table, [caption])
 
 
@@ -104,10 +118,13 @@ def sections_on(site, parts):
     return [Part(site.templates.parts.section_on(part), part.heads) for part in parts]
 
 
-def changed(site, code, value, before, written, unit=""):
-    """A number of a list, and how much it is more or less than before, where that is known."""
-    change = None if before is None else site.change(value - before.get(code, 0), written)
-    return site.templates.parts.changed(written(value) + unit, change)
+def changed(site, code, value, before, written, of_change=None):
+    """A number of a list, and how much it is more or less than before, where that is known. The
+    change is written without a unit, by a function of its own."""
+    change = None
+    if before is not None:
+        change = site.change(value - before.get(code, 0), of_change or written)
+    return site.templates.parts.changed(written(value), change)
 
 
 def changing(site, words, before):
@@ -139,6 +156,13 @@ def shown_share(votes, base, threshold, is_eligible):
     the threshold, and the list does not reach it."""
     share = rounded(votes, base)
     return share if is_eligible or share < threshold else hundredths(votes, base)
+
+
+def base_of(con):
+    """The votes of which shares are, by the rule of a constituency."""
+    if con["rule"]["base"] == "lists":
+        return sum(row["votes"] for row in con["tally"]["lists"])
+    return con["tally"]["valid"]
 
 
 def by_votes(con):

@@ -94,7 +94,20 @@ def provisional_seats(con):
     shown = con.get("provisional", {"status": "certified"})
     if shown["status"] in ("certified", "no_eligible"):
         return {}
-    return dict(sorted(shown["seats"].items(), key=lambda pair: -pair[1]))
+    return by_seats(con, shown["seats"])
+
+
+def by_seats(con, seats):
+    """Seats by list, those with most first, and of as many that with more votes."""
+    votes = {row["code"]: row["votes"] for row in con["tally"]["lists"]}
+    return dict(sorted(seats.items(), key=lambda pair: (-pair[1], -votes[pair[0]])))
+
+
+def lot_of(con):
+    """The lists among which a lot would decide, and how many seats it would; None where none is
+    needed, or seats may not be shown before they are certified."""
+    shown = con.get("provisional", {"status": "certified"})
+    return (shown["group"], shown["question"]) if shown["status"] == "lot" else None
 
 
 def of_certificate(result):

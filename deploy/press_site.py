@@ -10,6 +10,7 @@ import xml.etree.ElementTree as ET
 from collections import defaultdict
 from contextlib import suppress
 from datetime import date, datetime
+from functools import cache
 from pathlib import Path
 from zoneinfo import ZoneInfo, ZoneInfoNotFoundError
 
@@ -30,15 +31,25 @@ LANGUAGES = {file.stem.removeprefix("press_"): file
              for file in Path(__file__).resolve().parent.glob("press_*.toml")}
 ABOUT = {"title": str, "date": date, "authority": str, "licence": str, "language": str,
          "contact": str, "accessibility": str, "place": str, "board": list, "timezone": str,
-         "provisional": bool}
+         "provisional": bool, "languages": list,
+         "address": str}
+# What is of the whole site: the table of a language does not have it.
+WHOLE = {"language", "languages", "provisional"}
 # What to write in the place of a value of another kind.
 WANTED = {str: 'a text in quotes, such as "Montehondo"', date: "a day such as 2026-11-29",
-          list: "tables [[board]], each with a name and a role", bool: "true or false"}
+          list: "tables [[board]], each with a name and a role, or languages such as [\"es\"]",
+          bool: "true or false"}
+# Letters of a name of a station or of a place: a row has to have room on a page.
+LONGEST_NAME = 300
 # Bytes of a logo, which is in each page.
 LOGO_ROOM = 6_000
-SHAPES = {"svg", "g", "path", "polygon", "polyline", "rect", "circle", "ellipse", "line"}
+# Bytes of a map, which is in the first page.
+MAP_ROOM = 100_000
+SHAPES = {"svg", "g", "path", "polygon", "polyline", "rect", "circle", "ellipse", "line", "text"}
+# How many of them may be within one another.
+DEEPEST = 30
 PLACES = {"viewBox", "d", "points", "x", "y", "width", "height", "cx", "cy", "r", "rx", "ry",
-          "x1", "y1", "x2", "y2", "transform"}
+          "x1", "y1", "x2", "y2", "transform", "font-size", "text-anchor"}
 
 
 class Wrong(Exception):
@@ -111,21 +122,47 @@ def read_about(file):
         raise Wrong(f"{file}: {error}") from error
     if "date" in about:
         about["date"] = day_of(about["date"])
-    for key, kind in ABOUT.items():
-        if key in about and not isinstance(about[key], kind):
-            raise Wrong(f"{file}: {key} is {about[key]!r}: write {WANTED[kind]}")
-    if about.get("language", "en") not in LANGUAGES:
-        raise Wrong(f"{file}: no texts of the language {about['language']!r}")
+    check_values(file, about)
+    check_languages(file, [about.get("language", "en"), *about.get("languages", ())])
+    for language in LANGUAGES:
+        check_values(file, own := about.get(language, {}))
+        if wrong := WHOLE.intersection(own):
+            raise Wrong(f"{file}: {min(wrong)} is of all languages, not of [{language}] alone")
+    return about
+
+
+def check_values(file, about):
+    """Each value is what it has to be; in the table of a language too."""
+    check_kinds(file, about)
     try:
         ZoneInfo(about.get("timezone", "UTC"))
     except (ZoneInfoNotFoundError, ValueError, OSError) as error:
         raise Wrong(f"{file}: no time zone {about['timezone']!r}") from error
     if not re.fullmatch(r"https?://\S+|[\w.-]+|", about.get("accessibility", "")):
         raise Wrong(f"{file}: accessibility is not an address such as https://example.org/access")
+    if not re.fullmatch(r"(https?://[^\s?#]+[^\s?#/])?", about.get("address", "")):
+        raise Wrong(f"{file}: address is not one such as https://results.example.org")
     for member in about.get("board", ()):
         if not is_member(member):
             raise Wrong(f"{file}: board is not tables, each with a name and a role")
-    return about
+
+
+def check_kinds(file, about):
+    """Each value is of its kind."""
+    if not isinstance(about, dict):
+        raise Wrong(f"{file}: {about!r} is no table of texts of a language")
+    for key, kind in ABOUT.items():
+        if key in about and not isinstance(about[key], kind):
+            raise Wrong(f"{file}: {key} is {about[key]!r}: write {WANTED[kind]}")
+
+
+def check_languages(file, languages):
+    """Each language has texts, and is named once."""
+    for place, language in enumerate(languages):
+        if not isinstance(language, str) or language not in LANGUAGES:
+            raise Wrong(f"{file}: no texts of the language {language!r}")
+        if language in languages[:place]:
+            raise Wrong(f"{file}: the language {language!r} is named twice")
 
 
 def day_of(value):
@@ -153,6 +190,15 @@ def read_colours(file):
     return found
 
 
+def read_stations(file):
+    """The names of stations, and perhaps of their places."""
+    rows = rows_of(file, "station", "name")
+    for row in rows:
+        if max(len(row["name"]), len(row.get("place") or "")) > LONGEST_NAME:
+            raise Wrong(f"{file}: {row['station']}: a name of more than {LONGEST_NAME} letters")
+    return rows
+
+
 def read_former(file):
     """A former result: per constituency its lists' votes and seats, and its valid votes where the
     file has them."""
@@ -172,19 +218,25 @@ def read_map(file):
     """The shapes of a map, and nothing else that may be in it."""
     if not file.exists():
         return None
+    text = text_of(file)
+    if len(text.encode()) > MAP_ROOM:
+        raise Wrong(f"{file}: more than {MAP_ROOM} bytes, which a map may have")
     try:
-        return shapes(ET.fromstring(text_of(file)))
+        return shapes(file, ET.fromstring(text))
     except ET.ParseError as error:
         raise Wrong(f"{file}: {error}") from error
 
 
-def shapes(element):
+def shapes(file, element, left=DEEPEST):
+    if not left:
+        raise Wrong(f"{file}: more than {DEEPEST} groups within one another")
     kind = element.tag.rpartition("}")[2]
     if kind not in SHAPES:
         return None
     places = {name: value for name, value in element.attrib.items() if name in PLACES}
-    inner = [found for child in element if (found := shapes(child))]
-    return kind, element.get("id"), places, inner
+    inner = [found for child in element if (found := shapes(file, child, left - 1))]
+    text = (element.text or "").strip() if kind == "text" else ""
+    return kind, element.get("id"), places, inner, text
 
 
 def read_logo(file):
@@ -204,24 +256,34 @@ def read_style(file):
     return text
 
 
-class Site:
-    """The settings of the folder, with the words of its language."""
+@cache
+def words_of(language):
+    return tomllib.loads(LANGUAGES[language].read_text(encoding="utf-8"))
 
-    def __init__(self, folder=None):
+
+class Site:
+    """The settings of the folder, with the words of its language, or of another one that it names:
+    then `first` is the site of its language, and its pages are in a folder of their own."""
+
+    def __init__(self, folder=None, language=None, first=None):
         folder = folder or Path("/nonexistent")
         self.about = read_about(folder / "site.toml")
-        self.language = self.about.get("language", "en")
+        self.language = language or self.about.get("language", "en")
+        self.about |= self.about.get(self.language, {})
+        self.languages = [self.about.get("language", "en"), *self.about.get("languages", ())]
+        # Where a page finds the files that are of all languages.
+        self.data = "../" if first else ""
         # Whether seats may be shown before they are certified.
         self.provisional = self.about.get("provisional", True)
-        self.words = tomllib.loads(LANGUAGES[self.language].read_text(encoding="utf-8"))
+        self.words = words_of(self.language)
         self.colours = read_colours(folder / "colours.csv")
-        stations = rows_of(folder / "stations.csv", "station", "name")
+        stations = read_stations(folder / "stations.csv")
         self.names = {row["station"]: row["name"] for row in stations}
         self.places = {row["station"]: row["place"] for row in stations if row.get("place")}
         self.former = read_former(folder / "before.csv")
         self.map = read_map(folder / "map.svg")
         self.logo = read_logo(folder / "logo.svg")
-        self.met = {}
+        self.met = first.met if first else {}
         self.templates = Templates(
             folder / "templates", read_style(folder / "site.css"), site=self, say=self.said,
             number=self.number, per_cent=self.per_cent,
@@ -230,6 +292,19 @@ class Site:
             self.templates.check()
         except TemplateError as error:
             raise Wrong(f"{folder / 'templates'}: {fault_of(error)}") from error
+        self.others = [] if first else [Site(folder, one, self) for one in self.languages[1:]]
+
+    def editions(self, folder):
+        """The site of each language, with the folder of its pages."""
+        return [(self, folder), *((other, folder / other.language) for other in self.others)]
+
+    def in_languages(self, name):
+        """Links to a page in each language: language, its name in it, and the address, which is
+        None for that of this page."""
+        for place, language in enumerate(self.languages):
+            to = name if not place else f"{language}/{name}"
+            yield (language, words_of(language)["language_name"],
+                   None if language == self.language else self.data + to)
 
     def for_clerks(self):
         """Names of stations and a former result, as the clerks' page has them; None where the
@@ -254,12 +329,37 @@ class Site:
 
     # ---- words
 
+    def form_of(self, key, values):
+        """The text of a key; of one that has two, that for one thing or that for `many` of them,
+        whose number is in its place {number}."""
+        text = self.words[key]
+        if isinstance(text, str):
+            return text, values
+        return text[values["many"] != 1], {"number": self.number(values["many"])} | values
+
     def say(self, key, **values):
-        return self.words[key].format(**values)
+        text, values = self.form_of(key, values)
+        return text.format(**values)
 
     def said(self, key, **values):
         """The text as a part of a page: escaped, but for values that templates made."""
-        return Markup.escape(self.words[key]).format(**values)
+        text, values = self.form_of(key, values)
+        return Markup.escape(text).format(**values)
+
+    def listed(self, names, word="and", vowel=("and_before_i", r"[ií](?![aeoáéó])")):
+        """Names one after the other, the last after the word for `and`, which is another one before
+        this vowel."""
+        *first, last = names
+        if not first:
+            return last
+        before, letter = vowel
+        word = before if re.match(rf"\W*h?{letter}", str(last), re.I) else word
+        joined = Markup(", ").join(first) if isinstance(last, Markup) else ", ".join(first)
+        return joined + self.words[word] + last
+
+    def one_of(self, names):
+        """Names of which one is meant, the last after the word for `or`."""
+        return self.listed(names, "or", ("or_before_o", "[oó]"))
 
     def number(self, value):
         return str(value) if value < 1000 else f"{value:,}".replace(",", self.words["thousands"])
@@ -269,6 +369,10 @@ class Site:
 
     def per_cent(self, hundredths):
         return self.decimal(f"{hundredths // 100}.{hundredths % 100:02}")
+
+    def share(self, hundredths):
+        """A share with its unit."""
+        return self.say("share_unit", share=self.per_cent(hundredths))
 
     def change(self, value, written):
         """A change with its sign."""
@@ -282,7 +386,9 @@ class Site:
         """A moment in the zone of the site, to the minute; in that of the server where the site has
         none."""
         if "timezone" not in self.about:
-            return f"{self.day(moment)}, {moment.strftime('%H:%M:%S %z')}"
+            zone = moment.strftime("%z")
+            zone = "UTC" if zone in ("", "+0000") else f"UTC{zone[:3]}:{zone[3:]}"
+            return f"{self.day(moment)}, {moment.strftime('%H:%M:%S')} {zone}"
         here = moment.astimezone(ZoneInfo(self.about["timezone"]))
         return f"{self.day(here)}, {here.strftime('%H:%M %Z')}"
 
@@ -291,6 +397,12 @@ class Site:
         if "timezone" not in self.about:
             return moment.strftime("%H:%M:%S")
         return moment.astimezone(ZoneInfo(self.about["timezone"])).strftime("%H:%M %Z")
+
+    def change_said(self, since_said, since, now):
+        """When something changed last, and how long ago that was, if it was a second ago or more."""
+        if (now - since).total_seconds() < 1:
+            return self.said("last_change_now", moment=since_said)
+        return self.said("last_change", moment=since_said, age=self.age_of(since, now))
 
     def age_of(self, since, now):
         return self.age(max((now - since).total_seconds(), 0))

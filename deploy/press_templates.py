@@ -7,8 +7,6 @@ or a label. One of a board may begin with `{% extends "office/NAME" %}`, and the
 changes only the blocks that it names.
 """
 
-import base64
-import hashlib
 import re
 import sys
 from functools import cached_property
@@ -21,12 +19,15 @@ try:
 except ModuleNotFoundError as missing:
     sys.exit(f"failed: Python lacks the module {missing.name}: apt-get install python3-jinja2")
 
+from page_script import hash_of, script_of
 from press_names import closed, isolated
 
 HERE = Path(__file__).resolve().parent
 OWN = FileSystemLoader(HERE / "templates")
-# Of a style: its comments, and the spaces in front of its lines.
+# Of a style: its comments, and the spaces in front of its lines. Of ours also those that nothing
+# needs: a page has room for little more.
 LEFT_OUT = re.compile(r"/\*.*?\*/\n?|^ +", re.S | re.M)
+NEEDLESS = re.compile(r"(?<=[:;{}]) | (?=\{)|;(?= \})")
 
 __all__ = ["Markup", "TemplateError", "Templates"]
 
@@ -56,7 +57,7 @@ class Templates:
 
     def page(self, name, /, **values):
         """The text of a page."""
-        empty = {"search": False, "counted_line": None, "headline": None}
+        empty = {"counted_line": None, "headline": None, "here": None, "outlook": None}
         return self.environment.get_template(name).render(empty | values)
 
     def macros(self, name):
@@ -83,16 +84,16 @@ class Templates:
 
     @cached_property
     def style(self):
-        text = (HERE / "press.css").read_text(encoding="utf-8") + self.own_style
-        return Markup(LEFT_OUT.sub("", text))
+        own = LEFT_OUT.sub("", (HERE / "press.css").read_text(encoding="utf-8"))
+        return Markup(NEEDLESS.sub("", own) + LEFT_OUT.sub("", self.own_style))
 
     @cached_property
-    def search(self):
-        """The only script, of a page with a table that can be searched."""
-        source, *_ = self.environment.loader.get_source(self.environment, "search.js")
-        return Markup(f"\n{source}")
+    def script(self):
+        """The only script: it searches, and renews a page."""
+        source, *_ = self.environment.loader.get_source(self.environment, "page.js")
+        return Markup(script_of(source))
 
     @cached_property
-    def search_hash(self):
-        """As the policy of such a page names the script."""
-        return base64.b64encode(hashlib.sha256(self.search.encode()).digest()).decode()
+    def script_hash(self):
+        """As the policy of a page names the script."""
+        return hash_of(self.script)

@@ -194,6 +194,8 @@ def read_setup(text):
         con["rule"] = rule = rules[con["profile"]]
         if rule["method"] not in METHODS or rule["base"] not in ("valid", "lists"):
             raise ValueError(f"{con['code']}: an unknown rule")
+        if con["seats"] not in range(1, 501):
+            raise ValueError(f"{con['code']}: not 1 to 500 seats")
         con["most"] = {it["code"]: it["electors"] + it.get("agents", 0) for it in con["station"]}
         if len(con["station"]) > (20_000 if con.get("size") == "large" else 5_000):
             raise ValueError(f"{con['code']}: too many stations")

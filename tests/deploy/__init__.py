@@ -24,8 +24,10 @@ addresses of its own (127.0.0.0/8).
 - The papers that a board signs: test_papers, test_papers_of_an_evening.
 - The press pages: test_press_pages, test_country_page, test_first_election, test_site_files,
   test_weights, test_country, test_templates, test_names, test_published_of_one_moment,
-  test_another_column. In a browser: test_shown_pages, test_pictures.
-- The published data: test_data, test_station_files, test_published, test_feed, test_site_openapi.
+  test_another_column, test_first_screen, test_places, test_languages. In a browser:
+  test_shown_pages, test_renewed_pages, test_pictures.
+- The published data: test_data, test_station_files, test_published, test_feed, test_site_openapi,
+  test_export.
 - The clerks' page: test_clerks_page, test_clerk_page, test_slips, test_typed_slips,
   test_second_entry.
 - The audit: test_audit_rule, test_audit_commands, test_audit_at_its_limits.

@@ -91,6 +91,14 @@ class Rules(Case):
                 ran = audit(*"plan --setup setup.toml --returns returns.csv --risk 5".split())
                 self.assertEqual((ran.status, ran.out, ran.err.count("\n")), (2, "", 1))
 
+    def test_a_setup_with_more_seats_than_the_office_takes(self):
+        write("returns.csv", RETURNS)
+        for seats, status in ((0, 2), (500, 0), (501, 2), (10**9, 2), ('"3"', 2)):
+            with self.subTest(seats=seats):
+                write("setup.toml", SETUP.replace("seats = 3", f"seats = {seats}"))
+                ran = audit(*"plan --setup setup.toml --returns returns.csv --risk 5".split())
+                self.assertEqual((ran.status, "not 1 to 500" in ran.err), (status, status == 2))
+
     def test_one_list_and_a_threshold_of_all_votes(self):
         """Its votes are the base: no paper for it, and no spoiled one, changes the difference."""
         con = con_of("dhondt", 3, 1, [100], 10000, "lists")

@@ -24,7 +24,9 @@ from tests.support.model import Office
 from tests.support.office import with_stations
 from tests.support.pages import press
 from tests.support.rounds import DEPLOY, copy_of_deploy
+from tests.support.scripts import module
 
+page_script = module("page_script")
 ENGLISH = (DEPLOY / "clerk/texts_en.toml").read_text(encoding="utf-8")
 SPANISH = (DEPLOY / "clerk/texts_es.toml").read_text(encoding="utf-8")
 
@@ -60,14 +62,14 @@ class Building(Case):
                     self.assertEqual(build(folder, "--check"), ("", 0))
 
     def test_the_hashes_of_scripts(self):
-        """The policy of each page names its script, and that of the proxy the search."""
+        """The policy of each page names its script, and the proxy's that of the press pages."""
         for name in ("clerk.html", "clerk_es.html"):
             page = (DEPLOY / "www" / name).read_text(encoding="utf-8")
             with self.subTest(page=name):
                 self.assertIn(f"script-src 'sha256-{sha256_of(script_of(page))}';", page)
-        search = (DEPLOY / "templates/search.js").read_text(encoding="utf-8")
+        script = (DEPLOY / "templates/page.js").read_text(encoding="utf-8")
         policy = (DEPLOY / "nginx/policy.conf").read_text(encoding="utf-8")
-        self.assertIn(f"script-src 'sha256-{sha256_of(chr(10) + search)}';", policy)
+        self.assertIn(f"script-src 'sha256-{sha256_of(page_script.script_of(script))}';", policy)
 
     def test_a_language_file_that_is_refused(self):
         said = "failed: texts_es.toml: "

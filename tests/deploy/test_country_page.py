@@ -22,8 +22,9 @@ press_site = module("press_site")
 
 
 def htmls(folder="pages"):
-    """The pages of a folder."""
-    return sorted(name for name in os.listdir(folder) if name.endswith(".html"))
+    """The pages of a folder, but for the parts for other sites."""
+    return sorted(name for name in os.listdir(folder)
+                  if name.endswith(".html") and not name.startswith("embed"))
 
 
 def drawn(name="index.html"):
@@ -41,44 +42,49 @@ class CountryPage(SiteCase):
             press(port, "--setup", "setup.toml")
             page, text = page_of("index.html"), shown_text(read("index.html"))
             for sentence in (
-                "Certified: 5 of 10 seats, in 2 of 4 constituencies. Open: 5 seats.",
-                "Certificate withdrawn: Sur. No certified seat of theirs is counted here.",
+                "Certified: 5 of 10 seats, in 2 of 4 constituencies. Not certified: 5.",
+                "Certificate withdrawn: Sur. No certified seat of theirs is counted here; their "
+                "seats are provisional again.",
                 # In Sur A 10 (5), B 20 (10); in Oeste D 90 (45, 30), A 7, B 3.
-                "Provisional, with 83.33% of the polling stations counted: 5 more seats, as if the "
+                "Provisional, with 83.33% of the polling stations counted: 5 seats, as if the "
                 "votes counted so far were all the votes. They are not the result, and may still "
-                "change. Open constituencies: 2.",
+                "change. Constituencies without a certificate: 2.",
                 "The line marks the majority: 6 of 10 seats.",
-                "5 of 6 returns are closed, 83.33 per cent",
-                # Norte 203 of 1,000, Este 120 of 400, Sur 30 of 300.
-                "Turnout in the 3 constituencies whose returns are all closed: 20.76 per cent, 353 "
-                "of 1,700 electors.", "Valid votes 450, blank ones among them 5; spoiled 3."):
+                "5 of 6 polling stations are counted, 83.33 per cent",
+                # Norte 203 of 1,000, Este 120 of 400, Sur 30 of 300, and of Oeste 100 of 400.
+                "Turnout of what is counted: 21.57 per cent, 453 of 2,100 electors.",
+                "Valid votes 450, blank ones among them 5; spoiled 3."):
                 with self.subTest(sentence=sentence):
                     self.assertIn(sentence, text)
             self.assertEqual(page.tables["Seats and votes of each list"], [
-                ["List", "certified seats", "provisional seats", "votes", "share"],
-                ["B Beta", "3", "2 provisional", "193", "42.89 %"],
-                ["D Delta", "0", "3 provisional", "90", "20.00 %"],
-                ["A Alpha", "2", "–", "147", "32.67 %"], ["C Gamma", "0", "–", "15", "3.33 %"],
-                ["Total", "5", "5 provisional", "445", ""]])
+                ["List", "seats, certified and provisional", "certified seats", "provisional seats",
+                 "votes", "share"],
+                ["B Beta", "5 provisional", "3", "2 provisional", "193", "42.89%"],
+                ["D Delta", "3 provisional", "0", "3 provisional", "90", "20.00%"],
+                ["A Alpha", "2", "2", "–", "147", "32.67%"],
+                ["C Gamma", "0", "0", "–", "15", "3.33%"],
+                ["Total", "10 provisional", "5", "5 provisional", "445", ""]])
             self.assertIn('aria-label="Seats as a half circle of dots: B 3 and 2 provisional, '
                           'D 3 provisional, A 2.', read("index.html"))
-            # Those of D and two of B are hollow, and the labels of both have no number.
+            # Those of D and two of B are hollow, and their numbers are after a plus.
             self.assertEqual(drawn(), [("list-B", 3, False), ("list-B", 2, True),
                                        ("list-D", 3, True), ("list-A", 2, False)])
             self.assertEqual(sorted(re.findall("<text [^>]*>([^<]*)</text>", read("index.html"))),
-                             ["10", "A 2", "B", "D"])
-            self.assertIn("Hollow dots are provisional seats, which are not the result.", text)
+                             ["10", "A 2", "B 3+2", "D 0+3"])
+            self.assertIn("Hollow dots, and the numbers after a plus, are provisional seats, which "
+                          "are not the result.", text)
             self.assertEqual([shown_text(item) for item
                               in re.findall("<li>(.*? one more seat .*?)</li>",
                                             read("index.html"))], [
-                f"{of} would have one more seat in {con} with {votes} more votes"
-                for votes, of, con in ((11, "B", "Norte"), (11, "A", "Este"), (31, "C", "Este"),
-                                       (46, "C", "Norte"), (170, "A", "Norte"))])
+                f"{of} would have one more seat in {con}, and {loser} one fewer, with {votes} more "
+                "votes" for votes, of, con, loser in (
+                    (11, "B", "Norte", "A"), (11, "A", "Este", "B"), (31, "C", "Este", "B"),
+                    (46, "C", "Norte", "A"), (170, "A", "Norte", "B"))])
             self.assertEqual(page.tables["Constituencies in the order of their names"][1:], [
-                ["Este certified", "B", "B 2", "100.00 %"],
-                ["Norte certified", "A", "A 2 B 1", "100.00 %"],
-                ["Óeste <3> no certificate yet", "D", "provisional: D 3", "50.00 %"],
-                ["Sur certificate withdrawn", "B", "provisional: B 2", "100.00 %"]])
+                ["Este certified, 100.00% counted", "B", "B 2"],
+                ["Norte certified, 100.00% counted", "A", "A 2 B 1"],
+                ["Óeste <3> no certificate yet, 50.00% counted", "D", "provisional: D 3"],
+                ["Sur certificate withdrawn, 100.00% counted", "B", "provisional: B 2"]])
             self.assertEqual([row[0] for row
                               in page_of("count.html").tables["Progress of the constituencies"][
                                   1:]], ["Norte", "Este", "Sur", "Óeste <3>"])
@@ -133,19 +139,19 @@ class CountryPage(SiteCase):
             self.assertEqual(read("con-norte.csv").splitlines()[1], "A,Alpha,0,0.00,no,,")
             done(office, "/station/n1/close", {"rev": 1})
             text = pages()
-            self.assertIn("No certificate yet. A certificate needs every return closed. "
+            self.assertIn("No certificate yet. A certificate needs every polling station counted. "
                           "Provisional, with 50.00% of the polling stations counted (1 of 2): how "
                           "the 3 seats would go if the votes counted so far were all the votes. "
-                          "They are not the result, and may still change. A lot among A, B would "
-                          "decide 1 of these seats.", text)
+                          "They are not the result, and may still change. If the votes counted so "
+                          "far were all, a lot between A and B would decide 1 seat.", text)
             self.assertEqual(page_of("con-norte.html").tables[
                 "Provisional seats of each list, with 50.00% of the polling stations counted"], [
-                    ["List", "provisional seats"], ["A Alpha", "1 provisional"],
-                    ["B Beta", "1 provisional"], ["C Gamma", "0 provisional"],
-                    ["By lot", "1 provisional"], ["Total", "3 provisional"]])
+                    ["List", "provisional seats"], ["A Alpha", "1 provisional or by lot"],
+                    ["B Beta", "1 provisional or by lot"], ["C Gamma", "0 provisional"],
+                    ["Lot pending", "1 provisional"], ["Total", "3 provisional"]])
             self.assertEqual(drawn("con-norte.html"), [
                 ("list-A", 1, True), ("list-B", 1, True), ("open-seats", 1, True)])
-            self.assertIn("Seats that a lot would decide: 1.", shown_text(read("index.html")))
+            self.assertIn("Seats that a lot decides: 1.", shown_text(read("index.html")))
             self.assertEqual(read("con-norte.csv").splitlines()[1], "A,Alpha,1,50.00,yes,,1")
             self.assertEqual(json.loads(read("con-norte.json"))["provisional"], {
                 "status": "lot", "question": 1, "group": ["A", "B"],
@@ -154,7 +160,8 @@ class CountryPage(SiteCase):
             text = pages("es", site='language = "es"\n')
             self.assertIn("con el 50,00 % de las mesas escrutado (1 de 2)", text)
             text = pages("none", site="provisional = false\n")
-            self.assertIn("A certificate needs every return closed. No seat is given.", text)
+            self.assertIn("A certificate needs every polling station counted. 3 seats. No seat is "
+                          "given.", text)
             for name in os.listdir("none"):
                 if not name.endswith((".gz", ".schema.json", ".csv")) and name not in (
                         "datapackage.json", "openapi.json"):
@@ -165,8 +172,10 @@ class CountryPage(SiteCase):
             done(office, "/station/n2/close", {"rev": 1})
             done(office, "/con/norte/draw", {"edition": 1, "order": ["B", "A"]})
             text = pages()
-            self.assertIn("Every return is closed; the board has not certified. Provisional, with "
-                          "100.00% of the polling stations counted (2 of 2)", text)
+            self.assertIn("Every polling station is counted; the board has not certified. "
+                          "Provisional, with 100.00% of the polling stations counted (2 of 2): all "
+                          "votes are counted, and the 3 seats are not the result until the board "
+                          "certifies.", text)
             self.assertNotIn("would decide", text)
             self.assertEqual(drawn("con-norte.html"), [("list-B", 2, True), ("list-A", 1, True)])
             done(office, "/con/norte/certify", {"edition": 2})
@@ -211,8 +220,9 @@ class CountryPage(SiteCase):
             now, then = re.findall(r'<time datetime="([^"]*)">', read("index.html"))[:2]
             self.assertEqual(then,
                              re.search(r'<time datetime="([^"]*)">', read("con-oeste.html"))[1])
-            ago = re.search(r"The last change was on <time .*?</time>, (\d+ \w+) before\.",
-                            read("index.html"))[1]
+            # Within a second nothing is said of how long ago.
+            ago = re.search(r"The last change was on <time .*?</time>(?:, (\d+ \w+) before)?\.",
+                            read("index.html"))[1] or "0 seconds"
             seconds = (datetime.fromisoformat(now) - datetime.fromisoformat(then)).total_seconds()
             self.assertIn(ago, [press_site.Site().age(many) for many in (seconds - 1, seconds)],
                           (ago, then, now))
@@ -231,7 +241,7 @@ class CountryPage(SiteCase):
 
         with desk_with(answered) as port, answering_desk(sixty_lists()) as (long, _):
             press(long, folder="long")
-            self.assertEqual(htmls("long")[2:4], ["details-c1-1.html", "details-c1-2.html"])
+            self.assertLess({"cons-1.html", "details-c1-2.html"}, set(htmls("long")))
             process = subprocess.Popen([sys.executable, DEPLOY / "press.py",
                                         f"http://127.0.0.1:{port}", "pages", "--setup",
                                         "setup.toml", "--every", "0.1"], stdout=subprocess.PIPE,
@@ -239,7 +249,7 @@ class CountryPage(SiteCase):
             try:
                 self.assertIn(" failed 0 ", process.stdout.readline())
                 first = {name: read(name) for name in htmls()}
-                self.assertEqual(len(first), 2 + 4 + 4)
+                self.assertEqual(len(first), 2 + 4 + 4 + 4 + 1)
                 for text in [*first.values(), *(read(name, "long") for name in htmls("long"))]:
                     with self.subTest(text=text):
                         header = text[text.index("<header>"):text.index("</header>")]
@@ -272,13 +282,13 @@ class CountryPage(SiteCase):
         with four() as (_, port):
             press(port, "--setup", "setup.toml", *site_folder(before=FOUR_BEFORE))
         lists = page_of("index.html").tables["Seats and votes of each list"]
-        self.assertEqual([row[:2] for row in lists], [
+        self.assertEqual([[row[0], row[2]] for row in lists], [
             ["List", "certified seats change"], ["B Beta", "3 +1"], ["D Delta", "0 ±0"],
             ["A Alpha", "2 −1"], ["C Gamma", "0 ±0"], ["Total", "5"]])
         self.assertEqual(page_of("con-norte.html").tables["Votes of each list"], [
             ["List", "votes", "share change", "takes part"],
-            ["A Alpha", "100", "50.00 % +30.00", "yes"], ["B Beta", "90", "45.00 % +15.00", "yes"],
-            ["C Gamma", "5", "2.50 % +2.50", "yes"]])
+            ["A Alpha", "100", "50.00% +30.00", "yes"], ["B Beta", "90", "45.00% +15.00", "yes"],
+            ["C Gamma", "5", "2.50% +2.50", "yes"]])
         self.assertEqual(
             page_of("con-norte.html").tables["Seats of each list"][1:],
             [["A Alpha", "2 ±0"], ["B Beta", "1 ±0"], ["C Gamma", "0 ±0"], ["Total", "3"]])
@@ -297,4 +307,5 @@ class CountryPage(SiteCase):
         self.assertEqual(page_of("con-norte.html", "lists").tables["Votes of each list"][0],
                          without)
         self.assertEqual(page_of("index.html", "north").tables["Seats and votes of each list"][0],
-                         ["List", "certified seats", "provisional seats", "votes", "share"])
+                         ["List", "seats, certified and provisional", "certified seats",
+                          "provisional seats", "votes", "share"])

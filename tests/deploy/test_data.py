@@ -68,7 +68,7 @@ class Data(SiteCase):
                         shutil.rmtree("pages", ignore_errors=True)
                         publish(answers, *words)
                         self.assertEqual(json_files(), sorted([
-                            "con-c1.json", "index.json", "manifest.json",
+                            "con-c1.json", "find.json", "index.json", "manifest.json",
                             *(["setup.json"] if words else []),
                             *(["con-c2.json"] if "/con/c2" in answers else [])]))
                         for name in json_files():

@@ -30,6 +30,7 @@ TARGETS = [
     *(f"/now/con/c1/{name}" for name in REPORTS), "/now/station/s1/history",
     *(f"/station/s1/{act}" for act in OF_STATION), *(f"/con/c1/{act}" for act in OF_CON),
     "/clerk.html", "/logout", "/setup.json", "/", "/index.html", "/con-c1.json", "/feed.atom",
+    "/embed.html", "/embed-c1.html", "/es/embed-c1.html", "/es/index.html",
     # These are not there, or are the names of files.
     "/progress/", "/Progress", "/station", "/station/", "/station/s.1", f"/station/{TOO_LONG}",
     "/station/s1/draw", "/station/s1/lodge/x", "/station/s1/import", "/con/c1/lodge",
@@ -51,6 +52,7 @@ KINDS = {
 OTHER_KINDS = {
     "/clerk.html": "page", "/logout": "logout", "/setup.json": "setup", "/": "file",
     r"/\.": None, "/health": None, "@no_health": None,
+    r"^/([a-z]{2}/)?embed(-[A-Za-z0-9_-]{1,16})?\.html$": "file",
 }
 
 

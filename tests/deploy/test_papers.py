@@ -567,7 +567,7 @@ class Printed(OfPapers):
         copy_of(*large(60, 40))
         Path("site").mkdir()
         Path("site/stations.csv").write_text("station,name\n" + "".join(
-            f"s{n:02},{'School of the Lady with its Yard and Stairs ' * 9}end{n:02}\n"
+            f"s{n:02},{'School of the Lady with its Yard and Stairs ' * 6}end{n:02}\n"
             for n in range(1, 41)), encoding="utf-8")
         out, _ = papers("count", COPY, "out", "--site", "site", "--pdf", "--language", "es")
         sheets = printed(out.strip())

@@ -40,7 +40,7 @@ class PressPages(SiteCase):
                          [["List", "seats"], ["A Alpha", "1"], ["B Beta", "2"], ["Total", "3"]])
         self.assertEqual(
             page.tables["Votes of each list"][1:],
-            [["A Alpha", "100", "50.00 %", "yes"], ["B Beta", "100", "50.00 %", "yes"]])
+            [["A Alpha", "100", "50.00%", "yes"], ["B Beta", "100", "50.00%", "yes"]])
         self.assertEqual(page.tables["Holders of the seats"][1:],
                          [["A", "1", "Ana"], ["B", "1", "Bea"], ["B", "–", "empty"]])
         self.assertEqual(page.tables["Awards in order"][1:], [
@@ -112,10 +112,12 @@ class PressPages(SiteCase):
                         self.assertIn(f"<p>{said}{more if turned else ''}</p>",
                                       read("con-c1.html", folder))
                 self.assertEqual([entry["lot"] for entry in json.loads(read("setup.json"))], [lot])
-                least = "AB"[seats.index(1)]
+                least, most = "AB" if seats == [1, 2] else "BA"
                 for folder, said in (
-                    ("pages", f"{least} would have one more seat in Twin Town with 1 more vote"),
-                    ("es", f"{least} tendría un escaño más en Twin Town con 1 voto más")):
+                    ("pages", f"{least} would have one more seat in Twin Town, and {most} one "
+                              "fewer, with 1 more vote"),
+                    ("es", f"{least} tendría un escaño más en Twin Town, y {most} uno menos, con 1 "
+                           "voto más")):
                     with self.subTest(folder=folder, said=said):
                         text = shown_text(read("index.html", folder))
                         self.assertEqual((said in text, "lacked 1" in text),
@@ -149,7 +151,7 @@ class PressPages(SiteCase):
                 with answering_desk(desk) as (port, _):
                     press(port)
                 page, text = page_of("con-c1.html"), read("con-c1.html")
-                self.assertIn(f">{state}, edition 4</p>\n<h1><bdi>Twin Town</bdi></h1>", text)
+                self.assertIn(f">{state}</p>\n<h1><bdi>Twin Town</bdi></h1>", text)
                 self.assertIn(f"<b>{state}.</b>", text)
                 self.assertNotIn("Seats of each list", page.tables)
                 self.assertEqual((page.figures, text.count('class="hole"')), (2, 2))
@@ -158,7 +160,7 @@ class PressPages(SiteCase):
                     ["Twin Town", state.lower()])
                 self.assertEqual(
                     page_of("index.html").tables["Constituencies in the order of their names"][1],
-                    [f"Twin Town {state.lower()}", "–", "provisional: B 2 A 1", "100.00 %"])
+                    [f"Twin Town {state.lower()}, 100.00% counted", "–", "provisional: B 2 A 1"])
                 withdrawn = ('<b>Certificate withdrawn:</b> '
                              '<a href="con-c1.html"><bdi>Twin Town</bdi></a>.')
                 self.assertEqual(withdrawn in read("index.html"), desk is REOPENED)
@@ -178,8 +180,8 @@ class PressPages(SiteCase):
                 with answering_desk(desk) as (port, _):
                     press(port)
                 page_of("con-c1.html")
-                self.assertEqual("<b>Not all votes.</b> 1 of 3 returns are closed, and these are "
-                                 "their votes." in read("con-c1.html"), partly)
+                self.assertEqual("<b>Not all votes.</b> 1 of 3 polling stations are counted, and "
+                                 "these are their votes." in read("con-c1.html"), partly)
                 self.assertEqual("Not all votes" in read("con-c1.html"), partly)
 
     def test_a_page_by_quotas(self):
@@ -293,7 +295,7 @@ class PressPages(SiteCase):
                                           if 'class="old"' in read(name)], list(old))
                         self.assertEqual(
                             page_of("index.html").tables["Seats and votes of each list"][1:3],
-                            [["B Beta", "2", "100", "50.00 %"], ["A Alpha", "1", "100", "50.00 %"]])
+                            [["B Beta", "2", "100", "50.00%"], ["A Alpha", "1", "100", "50.00%"]])
                         answers[broken] = TWIN[broken]
                         round_with(" pages 2 failed 0 ")
                         self.assertEqual(read("con-c1.html"), first)

@@ -108,7 +108,7 @@ class Published(SiteCase):
         since = [json.loads(read(name))["time"] for name in names]
         found = self.rewritten((two, 7), (two, 9), (vacated, 9))
         self.assertEqual(found, [{"manifest.json"}, {"manifest.json", "record.csv"},
-                                 {"manifest.json", "con-c1.json", "feed.atom"}])
+                                 {"manifest.json", "con-c1.json", "elected.csv", "feed.atom"}])
         times = [json.loads(read(name))["time"] for name in names]
         self.assertLess(since[0], times[0])
         self.assertEqual(since[1:], times[1:])

@@ -116,16 +116,16 @@ class ShownPages(SiteCase):
             press(port, "--setup", "setup.toml", folder="four")
         many_stations()
         with browser.browser(Path.cwd()) as it, web_server(Path.cwd()) as site:
-            it.open(f"{site}/four/index.html")
-            self.assertEqual(it.run(heads), ["Este", "Norte", "Óeste <3>", "Sur"])
-            for typed, found in (("OEST", ["Óeste <3>"]), ("beta", []), ("withdrawn", ["Sur"])):
+            it.open(f"{site}/four/elected-1.html")
+            elected = ["B1", "B2", "A1", "A2", "B1"]
+            self.assertEqual(it.run(heads), elected)
+            for typed, found in (("NÓRTE", ["A1", "A2", "B1"]), ("beta", []), ("a2", ["A2"])):
                 with self.subTest(typed=typed, found=found):
                     it.type(".search input", typed)
                     self.assertEqual((it.run(heads), it.text(".search output")),
                                      (found, str(len(found))))
-            erase(it, "withdrawn")
-            self.assertEqual((it.run(heads), it.text(".search output")),
-                             (["Este", "Norte", "Óeste <3>", "Sur"], ""))
+            erase(it, "a2")
+            self.assertEqual((it.run(heads), it.text(".search output")), (elected, ""))
             it.open(f"{site}/many/stations-c1-2.html")
             own = it.run(heads)
             self.assertEqual((own[0] > "s1", "s7" in own), (True, False))
@@ -136,6 +136,5 @@ class ShownPages(SiteCase):
             it.wait("return document.querySelector('.search output').textContent === ''")
             self.assertEqual(it.run(heads), own)
             it.command("Emulation.setScriptExecutionDisabled", value=True)
-            it.open(f"{site}/four/index.html")
-            self.assertEqual((it.run(heads), it.visible(".search")),
-                             (["Este", "Norte", "Óeste <3>", "Sur"], False))
+            it.open(f"{site}/four/elected-1.html")
+            self.assertEqual((it.run(heads), it.visible(".search")), (elected, False))

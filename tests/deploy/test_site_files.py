@@ -9,8 +9,9 @@ from pathlib import Path
 
 from tests.support.countries import four, many_stations, sixty_lists
 from tests.support.desks import answering_desk, done
-from tests.support.pages import page_of, press, read, shown_text, site_folder
+from tests.support.pages import TWIN, page_of, press, read, shown_text, site_folder
 from tests.support.running import PATIENCE
+from tests.support.scripts import module
 from tests.support.site import DEPLOY, SiteCase
 
 
@@ -53,9 +54,9 @@ class SiteFiles(SiteCase):
                                    shown_text(read(name))), [])
             self.assertIn("<h1>Elecciones &amp; más</h1>", read("index.html"))
             self.assertIn("29 de noviembre de 2026 · Junta", text)
-            self.assertIn("B tendría un escaño más en Norte con 11 votos más", text)
+            self.assertIn("B tendría un escaño más en Norte, y A uno menos, con 11 votos más", text)
             self.assertIn("42,89 %", text)
-            self.assertIn("353 de 1.700 electores", text)
+            self.assertIn("453 de 2.100 electores", text)
             for site, words in (('language = "xx"', "no texts of the language 'xx'"),
                                 ("title = ", "Invalid value"),
                                 ('date = "today"',
@@ -71,10 +72,29 @@ class SiteFiles(SiteCase):
         self.assertEqual(sorted(texts), ["press_en.toml", "press_es.toml"])
 
         def places(of):
-            return {key: sorted(re.findall(r"\{\w*\}", str(value)))
+            # (in the form for one thing the number may be a word)
+            return {key: sorted(set(re.findall(r"\{\w*\}", str(value))))
                     for key, value in {**of, **of["methods"]}.items()}
 
         self.assertEqual(places(texts["press_es.toml"]), places(texts["press_en.toml"]))
+
+    def test_a_name_that_no_page_has_room_for(self):
+        site = module("press_site")
+        for name, place in (("N" * 301, "P"), ("N", "P" * 301), ("N" * 300, "P" * 300)):
+            site_folder(stations=f"station,name,place\ns1,{name},{place}\n")
+            with self.subTest(name=len(name), place=len(place)):
+                if max(len(name), len(place)) == 300:
+                    self.assertEqual(site.Site(Path("site")).names, {"s1": name})
+                else:
+                    with self.assertRaisesRegex(site.Wrong, "s1: a name of more than 300 letters"):
+                        site.Site(Path("site"))
+
+    def test_a_title_that_looks_like_a_moment(self):
+        """A file says its moment in one place, and the rounds after it read it there."""
+        with answering_desk(TWIN) as (port, _):
+            for _ in range(2):
+                press(port, *site_folder(site="title = '\"time\": \"x\" <updated>x<'\n"))
+        self.assertIn('"time": "x" &lt;updated', read("feed.atom"))
 
     def test_the_day_in_quotes_or_without(self):
         with four() as (_, port):
@@ -86,8 +106,8 @@ class SiteFiles(SiteCase):
 
     def test_the_colours_of_lists(self):
         """Each has a contrast of 3 with every ground, light and dark, those of a file too;
-        certified neighbours in a half circle have one of 1.5, or one of them is drawn as rings. A
-        list has the same colour on each page."""
+        certified neighbours in a half circle have one of 1.5, or one of them has a bar across
+        each dot. No certified dot is hollow. A list has the same colour on each page."""
         self.assertEqual(
             (round(contrast("#000000", "#ffffff"), 2), round(contrast("#777777", "#ffffff"), 2)),
             (21.0, 4.48))
@@ -106,11 +126,11 @@ class SiteFiles(SiteCase):
                     self.refused_site(port, words, colours=wrong)
         with answering_desk(sixty_lists()) as (port, _):
             press(port, folder="sixty")
-        # A red and a green that differ by 1.07 only: B beside A is drawn as rings.
-        for folder, name, rings in (("pages", "con-norte", ["B"]), ("own", "con-norte", []),
+        # A red and a green that differ by 1.07 only: B beside A has a bar across each dot.
+        for folder, name, barred in (("pages", "con-norte", ["B"]), ("own", "con-norte", []),
                                     ("pages", "index", []), ("own", "index", []),
                                     ("sixty", "con-c1", None)):
-            with self.subTest(folder=folder, name=name, rings=rings):
+            with self.subTest(folder=folder, name=name, barred=barred):
                 text = read(f"{name}.html", folder)
                 given = {code: colours for code, *colours
                          in re.findall(r"\.list-([\w-]+)\{--light:(#\w{6});--dark:(#\w{6})\}",
@@ -122,18 +142,26 @@ class SiteFiles(SiteCase):
                                         (code, pair, ground))
                 # (provisional seats are hollow, and known by the labels beside them)
                 width = float(re.search(r'viewBox="[^"]+" stroke-width="([\d.]+)"', text)[1])
-                holes = [(code, float(re.search(r'class="hole".*stroke-width="([\d.]+)"', inner)[1])
-                          if "hole" in inner else 0)
-                         for code, inner in re.findall(r'<g class="list-([\w-]+)">(.*?)</g>', text)]
-                drawn = [(code, hole > 0, hole > 0.6 * width) for code, hole in holes]
+                drawn = []
+                for code, inner in re.findall(r'<g class="list-([\w-]+)">(.*?)</g>', text):
+                    kinds = re.findall('<path class="([^"]+)"', inner)
+                    drawn.append((code, "across" in kinds, "hole" in kinds))
+                    self.assertIn(kinds, ([], ["across"], ["hole"]))
+                    if "across" in kinds:  # lines as long as a dot is wide, of its whole row
+                        dots, bars = (re.findall(rf"M(\S+) (\S+?)h{length}(?=M|$)", path)
+                                      for path, length in zip(re.findall(r' d="([^"]+)"', inner),
+                                                              ("0", f"{width:.1f}")))
+                        self.assertEqual([y for _, y in bars], [y for _, y in dots])
                 self.assertGreater(len(drawn), 1)
-                for (one, ring, hollow), (other, next_ring, next_hollow) in zip(drawn, drawn[1:]):
-                    self.assertTrue(ring != next_ring or hollow or next_hollow
+                for (one, bar, hollow), (other, next_bar, next_hollow) in zip(drawn, drawn[1:]):
+                    self.assertTrue(bar != next_bar or hollow or next_hollow
                                     or all(contrast(a, b) >= 1.5
                                            for a, b in zip(given[one], given[other])), (one, other))
-                if rings is not None:
-                    self.assertEqual([code for code, ring, hollow in drawn if ring and not hollow],
-                                     rings)
+                if barred is not None:
+                    self.assertEqual([code for code, bar, _ in drawn if bar], barred)
+                # Hollow are provisional seats alone: on these pages, those of B and D in all.
+                self.assertEqual([code for code, _, hollow in drawn if hollow],
+                                 ["B", "D"] if name == "index" else [])
         of_pages = {re.search(r"\.list-A\{.*?\}", read(f"{name}.html"))[0]
                     for name in ("index", "con-norte", "con-este", "con-sur", "con-oeste")}
         self.assertEqual(of_pages, {".list-A{--light:#d1495b;--dark:#d1495b}"})
@@ -143,30 +171,39 @@ class SiteFiles(SiteCase):
             "#ffee00")
 
     def test_a_map(self):
-        """Its shapes have the colour of the first list, pale without a certificate; nothing else of
-        the file is on the page."""
+        """Its shapes have the colour of the first list, pale without a certificate, and are links;
+        an empty text within one shows the code of that list. How often each list is first is below
+        it, and nothing else of the file is on the page."""
         drawn = ('<svg xmlns="http://www.w3.org/2000/svg" viewBox="0 0 9 9" '
                  'onload="alert(1)"><script>alert(1)</script><style>*{fill:red}</style>'
                  '<image href="https://example.org/x.png"/><path id="norte" d="M0 0H4V4Z" '
                  'onclick="alert(1)" style="fill:red"/>'
-                 '<g id="este"><rect x="5" y="0" width="2" height="2"/></g><path id="oeste" d="M5 '
-                 '5h3v3z"/><path id="nowhere" d="M0 8h1"/></svg>')
+                 '<g id="este"><rect x="5" y="0" width="2" height="2"/><text x="6" y="1" '
+                 'font-size="1"/></g><path id="oeste" d="M5 5h3v3z"/><path id="nowhere" '
+                 'd="M0 8h1"/><text x="0" y="9">The &lt;sea&gt;</text></svg>')
         with four() as (_, port):
             press(port, "--setup", "setup.toml", *site_folder(map=drawn))
             text = read("index.html")
             page_of("index.html")
             picture = re.search(r'<figure class="map".*?</figure>', text, re.S)[0]
             self.assertNotRegex(picture, r"script|style|image|onclick|onload|nowhere")
-            for part in ('<path d="M0 0H4V4Z" class="con list-A">'
-                         '<title>\u2068Norte\u2069: A</title></path>',
-                         '<g class="con list-B"><title>\u2068Este\u2069: B</title>'
-                         '<rect x="5" y="0" width="2" height="2"></rect>',
-                         '<path d="M5 5h3v3z" class="con list-D pale">'
-                         '<title>\u2068Óeste &lt;3&gt;\u2069: D</title></path>',
-                         '<path d="M0 8h1"></path>'):
+            for part in ('<a href="con-norte.html" class="con list-A">'
+                         '<title>\u2068Norte\u2069: A</title><path d="M0 0H4V4Z"></path></a>',
+                         '<a href="con-este.html" class="con list-B"><title>\u2068Este\u2069: B'
+                         '</title><g><rect x="5" y="0" width="2" height="2"></rect>',
+                         '<text x="6" y="1" font-size="1">B</text>',
+                         '<a href="con-oeste.html" class="con list-D pale">'
+                         '<title>\u2068Óeste &lt;3&gt;\u2069: D (not certified)</title>'
+                         '<path d="M5 5h3v3z"></path></a>',
+                         '<path d="M0 8h1"></path>', '<text x="0" y="9">The &lt;sea&gt;</text>',
+                         '<b class="code list-B">B</b> 2</span>'):
                 with self.subTest(part=part):
                     self.assertIn(part, picture)
             self.refused_site(port, "map.svg", map="<svg")
+            self.refused_site(port, "map.svg: more than 30 groups within one another",
+                              map=f"<svg>{'<g>' * 400}{'</g>' * 400}</svg>")
+            self.refused_site(port, "map.svg: more than 100000 bytes",
+                              map=f"<svg><path d='{'M0 0' * 25_000}'/></svg>")
             Path("site/map.svg").write_bytes("<svg>é</svg>".encode("latin-1"))
             self.refused_site(port, "map.svg: not UTF-8")
             press(port, "--setup", "setup.toml", folder="none")
@@ -191,9 +228,9 @@ class SiteFiles(SiteCase):
             self.assertEqual(page_of("stations-oeste-1.html").tables["Returns station by station"],
                              [
                                  ["Station", "return", "electors", "D", "A", "B", "blank",
-                                  "spoiled"], ["o1", "closed", "400", "90", "7", "3", "0", "0"],
+                                  "spoiled"], ["o1", "counted", "400", "90", "7", "3", "0", "0"],
                                  ["o2", "none", "400", *"–––––"]])
-            self.assertIn("There is no certificate yet: 1 of 2 returns are closed here.",
+            self.assertIn("There is no certificate yet: 1 of 2 polling stations are counted.",
                           shown_text(read("stations-oeste-1.html")))
             self.assertEqual(read("stations-oeste-open.csv"),
                              "station,slip,blank,spoiled,A,B,D\no1,p1,0,0,7,3,90\n")
@@ -204,7 +241,7 @@ class SiteFiles(SiteCase):
             press(port, "--setup", "setup.toml", *site_folder(stations=names))
             self.assertEqual(page_of("stations-norte-1.html").tables["Returns station by station"][
                 1:], [
-                ["n1 School <old>, hall", "closed", "500", "60", "50", "5", "5", "1"],
+                ["n1 School <old>, hall", "counted", "500", "60", "50", "5", "5", "1"],
                 ["n2", "queried", "500", *"–––––"]])
             self.assertEqual([name for name in sorted(os.listdir("pages"))
                               if re.match(r"stations-norte-.*csv$", name)],
@@ -226,7 +263,7 @@ class SiteFiles(SiteCase):
             self.assertEqual([name for name in os.listdir("pages")
                               if re.match(r"stations-.*(html|open.csv)$", name)
                               and "norte" not in name and "este-1" not in name], [])
-            self.assertNotIn("The return of each station is published once it is closed.",
+            self.assertNotIn("The return of each polling station is published once it is counted.",
                              read("con-oeste.html"))
             self.assertNotIn("stations-oeste", read("con-oeste.html"))
         many_stations()

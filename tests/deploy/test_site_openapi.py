@@ -6,7 +6,7 @@ from pathlib import Path
 
 from tests.support.case import ROOT, needs
 from tests.support.office import with_stations
-from tests.support.pages import TWIN, read
+from tests.support.pages import TWIN, read, site_folder
 from tests.support.proxy import with_a_second
 from tests.support.published import (
     a_head, before_the_hour, of_readers, publish, published_site, schema_of,
@@ -29,6 +29,12 @@ def resolved(value):
     for part in value["$ref"].removeprefix("#/").split("/") if "$ref" in value else ():
         value = ROUTES[part] if value.get("$ref") else value[part]
     return value
+
+
+def with_places():
+    """The words for a site with a place and an address."""
+    return site_folder(stations="station,name,place\ns1,School,Town\n",
+                       site='address = "https://results.example.org"\n')
 
 
 class SiteOpenapi(SiteCase):
@@ -61,12 +67,12 @@ class SiteOpenapi(SiteCase):
                          routes | {(method, f"/now{target}") for method, target in routes
                                    if method == "GET"})
         Path("setup.toml").write_text(with_stations(1), encoding="utf-8")
-        publish(TWIN, "--setup", "setup.toml", *a_head(7))
-        self.assertEqual({target.removeprefix("/") for method, target in found if "." in target}
-                         - {"clerk.html"},
+        publish(TWIN, "--setup", "setup.toml", *a_head(7), *with_places())
+        self.assertEqual({target.removeprefix("/") for method, target in found if "." in target
+                          and not target.endswith(".html")},
                          {name for name in of_readers() if not name.endswith(".html")} - {
                              "openapi.json", "index.schema.json", "setup.schema.json",
-                             "manifest.schema.json"})
+                             "manifest.schema.json", "find.schema.json"})
         self.assertEqual(ROUTES["info"]["version"], json.loads(read("index.json"))["version"])
         # Each place of the proxy is described, but for the files that nobody gets.
         places = re.findall(r'location (=|~)? ?"?([^ "]+)"? {',
@@ -101,7 +107,7 @@ class SiteOpenapi(SiteCase):
         """Each path is answered what openapi.json says, and nothing else: with each role, from
         another site, by another method, with a body that it does not take, before the hour."""
         Path("setup.toml").write_text(with_stations(1), encoding="utf-8")
-        with published_site(TWIN, "--setup", "setup.toml", *a_head(7)) as front:
+        with published_site(TWIN, "--setup", "setup.toml", *a_head(7), *with_places()) as front:
             answered = {operation[1]: set() for operation in self.operations()}
             for public in (True, False):
                 with self.subTest(public=public):

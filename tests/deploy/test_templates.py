@@ -156,8 +156,7 @@ class Escaping(OfPages):
                      if isinstance(node, ast.Constant) and isinstance(node.value, str)]
             tags = [text for text in texts if re.search(r"</?[a-z]+\d?( [a-z-]+=|>)", text)]
             with self.subTest(file=file.name):
-                wanted = [r'"time": "([^"]+)"|<updated>([^<]+)<|<time datetime="([^"]+)">',
-                          r'<time datetime="([^"]+)">', "<bdi>{}</bdi>"]
+                wanted = ["<updated>([^<]+)<", r'<time datetime="([^"]+)">', "<bdi>{}</bdi>"]
                 self.assertEqual([text for text in tags if text not in wanted], [])
 
     def test_each_template_is_of_use(self):

@@ -13,7 +13,7 @@ from tests.support.pages import PAGE_BYTES, TWIN, page_of, press, read, shown_te
 from tests.support.scripts import module
 from tests.support.site import SiteCase
 
-press_pages = module("press_pages")
+press_stations = module("press_stations")
 press_site = module("press_site")
 
 LONGEST = 'Coalition "For all of us & more": ' + "Ñ" * 23  # 80 bytes
@@ -44,14 +44,19 @@ class Weights(SiteCase):
         """With 52 constituencies, 364 seats and a map each page is below 60 kB."""
         invented_country()
         pages = [name for name in os.listdir("country") if name.endswith(".html")]
-        self.assertEqual(len(pages), 2 + 52 + 52)
+        # The index and the count; of each constituency its page, its stations and its part for
+        # other sites; that of the country; five lists; the elected, on two.
+        # (the list with the most elected goes on on a second page)
+        self.assertEqual(len(pages), 2 + 3 * 52 + 1 + 6 + 2)
         for name in pages:
             page_of(name, "country")
         text = shown_text(read("index.html", "country"))
-        self.assertIn("Certified: 336 of 364 seats, in 48 of 52 constituencies. Open: 28 seats.",
-                      text)
-        self.assertEqual(len(re.findall('<rect [^>]*class="con ', read("index.html", "country"))),
-                         52)
+        self.assertIn("Certified: 336 of 364 seats, in 48 of 52 constituencies. Not certified: "
+                      "28.", text)
+        self.assertEqual(len(re.findall('<a href="con-c[0-9]+.html" class="con ',
+                                        read("index.html", "country"))), 52)
+        self.assertEqual(len(page_of("index.html", "country").tables[
+            "Constituencies in the order of their names"]), 53)
 
     def test_the_weight_of_a_constituency(self):
         """With 60 lists, 100 seats and names as long as they may be each page is below 60 kB, and
@@ -60,14 +65,14 @@ class Weights(SiteCase):
         answers = sixty_lists()
         with answering_desk(answers) as (port, _):
             press(port)
-        names = ["con-c1.html", *(f"details-c1-{n}.html" for n in range(1, 4))]
+        names = ["con-c1.html", *(f"details-c1-{n}.html" for n in range(1, 6))]
         self.assertEqual(sorted(name for name in os.listdir("pages")
                                 if re.match(r"(con|details)-.*\.html$", name)), names)
         found = {}
         for here, name in enumerate(names):
             with self.subTest(here=here, name=name):
-                tables, text = page_of(name).tables, read(name)
-                for caption, (heads, *cells) in tables.items():
+                tables, text = page_of(name).all_tables, read(name)
+                for caption, (heads, *cells) in tables:
                     shown = found.setdefault(caption, [heads])
                     self.assertEqual((heads, [row for row in cells if row in shown]),
                                      (shown[0], []), caption)
@@ -75,7 +80,7 @@ class Weights(SiteCase):
                 self.assertEqual(re.findall(r'href="(details-.*?)"', text),
                                  [other for other in names[1:] if other != name])
                 self.assertEqual(('<a href="con-c1.html"><bdi>Twin Town</bdi></a>' in text,
-                                  "Certified, edition 3</p>" in text), (here > 0, True))
+                                  ">Certified</p>" in text), (here > 0, True))
         rows = {caption: len(cells) - 1 for caption, cells in found.items()}
         quotients = [f"Quotients of each list, seats {first} to {min(first + 7, 42)}"
                      for first in range(1, 43, 8)]
@@ -92,7 +97,7 @@ class Weights(SiteCase):
         con, codes = json.loads(read("con-c1.json")), [f"LIST-{n:02}-{'X' * 8}" for n in range(60)]
         entry = {"stations": [{"code": f"station-{n:08}", "electors": 900_000} for n in range(200)]}
         returns = "".join(f"station-{n:08},p{n},0,0{',123456' * 60}\n" for n in range(200))
-        written = press_pages.stations_pages(
+        written, _ = press_stations.stations_pages(
             press_site.Site(), "c1", con, entry,
             f"station,slip,blank,spoiled,{','.join(codes)}\n{returns}")
         pages = [page(datetime.now().astimezone()) for page in written]
@@ -175,8 +180,7 @@ class Weights(SiteCase):
         links = re.findall('<a class="piece" href="(.*?)">(.*?)</a>', read("index.html", "large"))
         self.assertEqual(([link for link, _ in links], links[0][1][:28]),
                          (parts, f"\u2068000{'W' * 20}…\u2069 –"))
-        self.assertEqual(("searched" in read("index.html", "large"), pages["index.html"].scripts),
-                         (False, 0))
+        self.assertNotIn('class="searched', read("index.html", "large"))
         self.assertEqual(len(rows_of_pages(
             {name: page for name, page in pages.items() if name.startswith("count")},
             "Progress of the constituencies")), 200)
@@ -189,4 +193,4 @@ class Weights(SiteCase):
             press(port, folder="large")
         self.assertEqual(
             [name for name in os.listdir("large") if re.match(r"(cons|count)-.*\.html", name)], [])
-        self.assertEqual(page_of("index.html", "large").scripts, 1)
+        self.assertIn('class="searched', read("index.html", "large"))

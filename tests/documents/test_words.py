@@ -26,6 +26,7 @@ PYTHON = (
     "deploy/desk",
     "deploy/embargo",
     "deploy/entries",
+    "deploy/export",
     "deploy/make-deb",
     "deploy/office-site",
     "deploy/papers",

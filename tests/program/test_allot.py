@@ -150,6 +150,20 @@ next B
 """
 
 
+# B has 2.9 per cent of the valid votes, which is below the threshold. Its first quotient would be
+# 29; A's forty-first is less than 22.
+NONE_NEXT_BUT_THE_SECOND = """\
+ALLOT dhondt seats 40
+threshold 300 base valid rule fixed
+lot -
+valid 1000 blank 71
+B                         29    2.90 out     0           -
+A                        900   90.00 in     40           -
+total                    929                40
+next A
+"""
+
+
 # Rows below the header, and why two seats by D'Hondt are refused. `/` stands for a line feed.
 REFUSED = """
  = no_list
@@ -374,6 +388,8 @@ class Texts(ProgramCase):
         self.assertEqual(allot("--seats", "2", given=TWO_EQUAL).out.splitlines()[-1], "next -")
         ran = allot("--seats", "2", given=votes_of("A=1"))
         self.assertEqual(ran.out.splitlines()[-1], "next A")
+        words = ("--seats", "40", "--threshold", "300", "--blank", "71")
+        writes(NONE_NEXT_BUT_THE_SECOND, *words, given=votes_of("B=29 A=900"))
 
     def test_how_a_text_may_be_written(self):
         text = LAW.replace(",", ";").replace("A;", '"A";').replace("\n", "\r\n")
@@ -494,6 +510,18 @@ class Refusals(ProgramCase):
                 words = [] if lot == "none" else [f"--lot={lot}"]
                 refused(word, "--seats", seats, *words, given=votes_of(lists))
 
+    def test_a_lot_among_sixty_lists(self):
+        """Of 59 seats none is decided; of 61 each list has one, and a lot decides the last."""
+        codes = [f"L{n:015}" for n in range(1, 61)]
+        given = votes_of(" ".join(f"{code}=7" for code in codes))
+        for seats, question in (("59", 59), ("61", 1), ("119", 59)):
+            with self.subTest(seats=seats):
+                refused(f"lot_missing {question} {' '.join(codes)}", "--seats", seats, given=given)
+        lot = ",".join(codes[::-1])
+        ran = allot("--seats", "61", "--lot", lot, given=given)
+        self.assertEqual(seats_of(ran, 60), [1] * 59 + [2])
+        self.assertEqual(ran.out.splitlines()[2], f"lot {lot.replace(',', ' ')}")
+
 
 class Streams(ProgramCase):
     def test_streams_that_fail(self):
@@ -507,6 +535,8 @@ class Streams(ProgramCase):
         os.close(folder)
         for text, wanted in (
             (LAW[:30], failed),
+            (HEADER, failed),
+            (HEADER + "\n\n", failed),
             ("votes,list\nA", Ran(1, "", "refused: bad_header\n")),
             (HEADER + "A,x\nB", Ran(1, "", "refused: bad_row 1 bad_number\n")),
             ("votes,list", failed),

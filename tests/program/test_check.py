@@ -412,7 +412,7 @@ class Check(ProgramCase):
 
     def test_a_small_stack(self):
         def limited():
-            resource.setrlimit(resource.RLIMIT_STACK, (96 * 1024, 96 * 1024))
+            resource.setrlimit(resource.RLIMIT_STACK, (76 * 1024, 76 * 1024))
 
         for text, status in ((EXAMPLE, 0), ('"' + "x" * 2000000, 1), ('"' + "x\n" * 1000000, 1)):
             with self.subTest(text=text, status=status):

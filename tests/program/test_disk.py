@@ -147,7 +147,7 @@ class Disk(ProgramCase):
         shut = (503, '{"word":"unavailable"}')
         lodge = json.dumps({"slip": "p1", "votes": [100, 100], "blank": 0, "spoiled": 0})
         new(THREE_STATIONS)
-        desk = Desk("office.db", 6, env=library)
+        desk = Desk("office.db", 9, env=library)
         self.assertEqual(desk.ask("GET", "/progress")[0], 200)
         self.assertEqual(
             desk.ask("POST", "/station/s1/lodge", lodge)[::2], (200, '{"ok":"lodged","rev":1}')
@@ -158,6 +158,9 @@ class Disk(ProgramCase):
         for words in (
             ("GET", "/progress"),
             ("GET", "/con/c1/tally"),
+            ("GET", "/con/c1/provisional"),
+            ("GET", "/con/c1/result"),
+            ("GET", "/results"),
             ("POST", "/station/s3/lodge", lodge),
         ):
             with self.subTest(words=words):

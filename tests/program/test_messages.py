@@ -42,6 +42,8 @@ POST /con/c1/import/semicolon/
 NO_CODES = {
     "no_constituency": (
         "GET /con/zz/tally",
+        "GET /con/zz/result",
+        "GET /con/zz/provisional",
         "GET /con/c-1_Z",
         "GET /con/C1",
         "GET /con/ABCDEFGHIJKLMNOP",

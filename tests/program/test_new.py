@@ -190,6 +190,18 @@ class New(ProgramCase):
         failed("read", "new", "--db", "office.db", "--setup", "folder")
         only("folder")
 
+    def test_a_setup_in_another_folder(self):
+        """The one that is named is read, and not one of its name in the current folder."""
+        os.mkdir("folder")
+        write("folder/setup.toml", THREE_STATIONS)
+        write("setup.toml", SETUP)
+        paths = ("folder/setup.toml", os.path.abspath("folder/setup.toml"))
+        for db, path in zip(("one.db", "two.db"), paths):
+            with self.subTest(path=path):
+                done("constituencies 1\n", "new", "--db", db, "--setup", path)
+                self.assertEqual(rows(db)["setup"], [(1, 2, THREE_STATIONS)])
+        only("folder", "one.db", "two.db")
+
     def test_a_database_that_cannot_be_made(self):
         write("setup.toml", SETUP)
         os.mkdir("folder")

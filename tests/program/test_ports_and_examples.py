@@ -103,17 +103,24 @@ class HelpTexts(ProgramCase):
         return process
 
     def example(self, command):
-        """The files of a command's example, its line, and the text after that."""
+        """The files of a command's example, its line, and the text after that.
+
+        The setup of a recount is that of the example of `new`.
+        """
         text = re.search(r"^Example:\n(.*?)^Exit status:", help_of(command), re.M | re.S)[1]
-        files = re.findall(r"With this text in (\S+)\n(.*?)(?=\n  '|\Z)", text, re.S)
-        line, rest = re.search(r"'(office [^']*)'(.*)", text, re.S).groups()
+        files = re.findall(r"\bthis(?: text)? in (\S+)\n(.*?)(?=\n  '|\Z)", text, re.S)
+        line, rest = re.search(r"'(office (?!new --help)[^']*)'(.*)", text, re.S).groups()
         return {name: block(body) for name, body in files}, line, rest
 
     def test_the_examples_of_all_commands(self):
         """An office is made, takes a return, and closes it; each text is printed as it is shown."""
-        for command in ("check", "allot", "new", "import", "serve", "show"):
+        for command in ("check", "allot", "new", "recount", "import", "serve", "show"):
             with self.subTest(command=command):
                 files, line, rest = self.example(command)
+                if command == "recount":
+                    setup = "With the setup.toml that 'office new --help' shows, and this in"
+                    self.assertIn(setup, help_of(command))
+                    self.assertEqual(list(files), ["returns.csv"])
                 for name, text in files.items():
                     write(name, text)
                 if command == "serve":

@@ -253,6 +253,8 @@ class OfReturns(Case):
             setup.replace('"valid"', '"votes"'),
             setup.replace('base = "valid"\n', ""),
             setup.replace("electors", "voters"),
+            setup.replace("seats = 3", "seats = 501"),
+            setup.replace("seats = 3", "seats = 0"),
         ):
             with self.subTest(setup=wrong):
                 self.cannot_be_counted(self.given(wrong, c1=good))

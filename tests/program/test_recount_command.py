@@ -114,6 +114,68 @@ s2,p1,0,0,10,20/s2,p1,0,0,10,20/ = 1 1 30 0 0
 """
 
 
+# Two lists share 21 seats. With the 40 blank votes of s2 the 3 votes of B are 2.88 per cent of 104,
+# and below the threshold. Without them they are 4.68 per cent of 64: B's first quotient is 3, as
+# A's twentieth is, and A's twenty-first less. Without s3 they are 2.91 per cent of 103.
+BLANK_SETUP = (
+    profile("d0", threshold=300)
+    + constituency("c1", "Blank", 21, "d0")
+    + LISTS
+    + station("s1")
+    + station("s2")
+    + station("s3")
+)
+
+
+BLANK_RETURNS = HEADER + "s1,p1,0,0,60,3\ns2,p2,40,0,0,0\ns3,p3,1,5,0,0\n"
+
+
+BLANK_TEXT = """\
+RECOUNT c1 Blank
+stations 3 counted 3 without 0
+passed 0
+method dhondt seats 21
+threshold 300 base valid rule fixed
+lot -
+valid 104 blank 41 spoiled 5
+A                         60   57.69 in     21           - Alpha
+B                          3    2.88 out     0           - Beta
+total                     63                21
+next A
+"""
+
+
+# Two seats by Hare. Of 4 votes B's one leaves a remainder of 2, and so do C's three above the quota
+# of 2: C has more votes, and both seats. Without s2 each list has a vote, which is the quota.
+# Without s1 C has all votes.
+HARE_SETUP = (
+    profile("d0", "hare")
+    + constituency("c1", "Hare", 2, "d0")
+    + party_list("B", "Beta", "Bea")
+    + party_list("C", "Gamma", "Cleo")
+    + station("s1")
+    + station("s2")
+)
+
+
+HARE_RETURNS = "station,slip,blank,spoiled,B,C\ns1,p1,0,0,1,1\ns2,p2,0,0,0,2\n"
+
+
+HARE_TEXT = """\
+RECOUNT c1 Hare
+stations 2 counted 2 without 0
+passed 0
+method hare seats 2
+threshold 0 base valid rule fixed
+lot -
+valid 4 blank 0 spoiled 0
+B                          1   25.00 in      0 Beta
+C                          3   75.00 in      2 Gamma
+total                      4                 2
+decisive s2
+"""
+
+
 # Options after `recount`, which ask for nothing that can be done.
 WRONG = """
 --setup a.toml
@@ -168,6 +230,11 @@ def refused(word, *words, **how):
     same(recount(*words, **how), Ran(1, "", f"refused: {word}\n"), words)
 
 
+def padded(text):
+    """A part of a setup, with a comment at its end, so that it has a multiple of 64 bytes."""
+    return text + "#" * (63 - len(text) % 64) + "\n"
+
+
 def numbers_of(ran):
     """How many returns are counted, how many rows are passed, and the votes."""
     same((ran.status, ran.err), (0, ""))
@@ -214,6 +281,21 @@ class Texts(ProgramCase):
         rows = "s1,p1,0,0,100,100\ns2,p2,0,0,50,50\n"
         ran = recount("--decisive", "--lot", "B,A", given=HEADER + rows)
         self.assertEqual((ran.status, ran.out.splitlines()[-1]), (0, "next A"))
+
+    def test_a_station_whose_blank_votes_are_decisive(self):
+        ran = recount("--decisive", setup=BLANK_SETUP, given=BLANK_RETURNS)
+        same(ran, Ran(0, BLANK_TEXT + "decisive s1\ndecisive s2\n", ""))
+        ran = recount("--without", "s2", setup=BLANK_SETUP, given=BLANK_RETURNS)
+        self.assertEqual([int(line[41:46]) for line in ran.out.splitlines()[7:9]], [20, 1])
+
+    def test_a_station_that_is_decisive_by_quotas(self):
+        ran = recount("--decisive", setup=HARE_SETUP, given=HARE_RETURNS)
+        same(ran, Ran(0, HARE_TEXT, ""))
+        for station_, seats in (("s1", [0, 2]), ("s2", [1, 1])):
+            with self.subTest(without=station_):
+                ran = recount("--without", station_, setup=HARE_SETUP, given=HARE_RETURNS)
+                lines = ran.out.splitlines()[7:9]
+                self.assertEqual([int(line[41:46]) for line in lines], seats)
 
     def test_seats_by_quotas(self):
         setup = profile("d0", "hare") + SETUP.removeprefix(PROFILE)
@@ -273,6 +355,48 @@ class Counted(ProgramCase):
         self.assertEqual(ran.out.splitlines()[1], "stations 2 counted 1 without 1")
 
 
+class Setups(ProgramCase):
+    def test_a_setup_in_another_folder(self):
+        """The one that is named is read, and not one of its name in the current folder."""
+        os.mkdir("folder")
+        write("folder/setup.toml", SETUP)
+        other = party_list("C", "Gamma", "Cleo") + party_list("D", "Delta", "Dora")
+        write("setup.toml", SETUP.replace(LISTS, other))
+        for path in ("folder/setup.toml", os.path.abspath("folder/setup.toml")):
+            with self.subTest(path=path):
+                ran = office("recount", "--setup", path, "--con", "c1", given=RETURNS)
+                same(ran, Ran(0, TWIN_TOWN, ""))
+        ran = office("recount", "--setup", "setup.toml", "--con", "c1", given=RETURNS)
+        same(ran, Ran(1, "", "refused: bad_header\n"))
+
+    def test_a_setup_of_many_stations(self):
+        """Each part of it that is a multiple of 64 bytes, and has a station, is a setup too.
+
+        A has the one seat with the votes of the first station alone, and B with those of the last.
+        """
+        setup = padded(PROFILE + constituency("c1", "Long", 1, "d0") + LISTS)
+        setup += "".join(padded(station(f"s{n:04}")) for n in range(1, 2001))
+        self.assertGreater(len(setup), 100_000)
+        given = HEADER + "s0001,p1,0,0,10,5\ns2000,p2,0,0,1,100\n"
+        lines = recount("--decisive", setup=setup, given=given).out.splitlines()
+        self.assertEqual(lines[1:3], ["stations 2000 counted 2 without 0", "passed 0"])
+        self.assertEqual([int(line[41:46]) for line in lines[7:9]], [0, 1])
+        self.assertEqual(lines[11:], ["decisive s2000"])
+        cut = setup[: 64 * 1024]
+        ran = recount("--decisive", setup=cut, given=given)
+        self.assertEqual(ran.out.splitlines()[2:3], ["passed 1"])
+
+    def test_a_large_constituency(self):
+        """One of more than 5,000 stations, the last of which decides the seat."""
+        head = PROFILE + constituency("c1", "Large", 1, "d0") + 'size = "large"\n' + LISTS
+        setup = head + "".join(station(f"s{n}") for n in range(1, 5002))
+        given = HEADER + "s1,p1,0,0,10,5\ns5001,p2,0,0,1,100\n"
+        lines = recount("--decisive", setup=setup, given=given).out.splitlines()
+        self.assertEqual(lines[1:3], ["stations 5001 counted 2 without 0", "passed 0"])
+        self.assertEqual([int(line[41:46]) for line in lines[7:9]], [0, 1])
+        self.assertEqual(lines[11:], ["decisive s5001"])
+
+
 class Refusals(ProgramCase):
     def test_command_lines_that_are_wrong(self):
         for line in lines_of(WRONG):
@@ -315,6 +439,22 @@ class Refusals(ProgramCase):
         refused("wrong_lot", "--lot=", given=HEADER + "s1,p1,0,0,10,20\n")
 
 
+    def test_a_lot_among_sixty_lists(self):
+        """Of 59 seats none is decided; of 61 each list has one, and a lot decides the last."""
+        codes = [f"L{n:015}" for n in range(1, 61)]
+        lists = "".join(party_list(code, f"List {code}", "x") for code in codes)
+        given = f"station,slip,blank,spoiled,{','.join(codes)}\ns1,p1,0,0{',7' * 60}\n"
+        for seats, question in ((59, 59), (61, 1)):
+            with self.subTest(seats=seats):
+                setup = PROFILE + constituency("c1", "Sixty", seats, "d0") + lists
+                setup += station("s1", 420)
+                word = f"lot_missing {question} {' '.join(codes)}"
+                refused(word, setup=setup, given=given)
+                ran = recount("--lot", ",".join(codes[::-1]), setup=setup, given=given)
+                won = [int(line[41:46]) for line in ran.out.splitlines()[7:67]]
+                self.assertEqual(won, [0] + [1] * 59 if seats == 59 else [1] * 59 + [2])
+
+
 class Streams(ProgramCase):
     def test_streams_that_fail(self):
         """The first read fails, or one in the middle, or a write: the status says so, also where
@@ -331,6 +471,7 @@ class Streams(ProgramCase):
         os.close(folder)
         for text, wanted in (
             (RETURNS[:50], failed),
+            (HEADER, failed),
             ("slip\nA", Ran(1, "", "refused: bad_header\n")),
             ("slip", failed),
         ):

@@ -1,8 +1,20 @@
 """The result of a constituency in one answer, beside the reports of the same state."""
 
 import json
+from pathlib import Path
 
-from tests.support.office import DOUBLE, LISTS, PROFILE, constituency, party_list, profile, station
+from tests.support.beside import CON_REPORTS, OFFICE_REPORTS
+from tests.support.desk import serving
+from tests.support.office import (
+    DOUBLE,
+    LISTS,
+    PROFILE,
+    SETUP,
+    constituency,
+    party_list,
+    profile,
+    station,
+)
 from tests.support.program import (
     ProgramCase,
     Ran,
@@ -15,6 +27,7 @@ from tests.support.program import (
     rows,
     setup_of,
     show,
+    shows,
 )
 from tests.support.twin_town import twin_town
 
@@ -25,6 +38,22 @@ status threshold""".split()
 
 
 OF_A_LIST = ["code", "eligible", "name", "provisional", "seats", "short", "votes"]
+
+
+# The reports that are withheld until there is a certificate.
+WITHHELD = ("seats", "quotients", "awards", "quota", "short", "holders")
+
+
+# Three equal lists share five seats, without a lot.
+TWO_IN_QUESTION = """\
+PROVISIONAL c1 Village
+stations 1 closed 1
+lot 2 A B C
+A                   1 List A
+B                   1 List B
+C                   1 List C
+total               3
+"""
 
 
 def result(con="c1", report="result", db="office.db"):
@@ -230,6 +259,80 @@ class Result(ProgramCase):
         self.assertEqual((each(value, "provisional"), each(value, "short")), ([2, 0], [None, None]))
         self.assertEqual(each(value, "eligible"), [True, False])
         self.assertEqual(value["awards"][1], ["A", 2, 900, 2])
+
+    def two_in_question(self, method):
+        """Three equal lists and five seats: each list has one, and a lot decides two."""
+        new(setup_of(method, 5, "ABC"))
+        close_return("s1", "c1", [100, 100, 100])
+        shows("provisional", TWO_IN_QUESTION)
+        value = result()
+        self.agrees(value)
+        self.assertEqual((value["status"], value["certified"]), ("lot", False))
+        self.assertEqual((value["group"], value["question"]), (["A", "B", "C"], 2))
+        self.assertEqual(each(value, "provisional"), [1, 1, 1])
+        for name in ("seats", "short"):
+            self.assertEqual(each(value, name), [None] * 3)
+        for name in ("awards", "quota", "lot", "holders"):
+            self.assertEqual(value[name], [])
+        self.assertEqual(result(None, "results"), [value])
+        with serving("office.db", 3) as desk:
+            desk.get("/con/c1/provisional", TWO_IN_QUESTION)
+            for path, wanted in (("/con/c1/result", value), ("/results", [value])):
+                status, _, text = desk.ask("GET", path)
+                self.assertEqual((status, json.loads(text)), (200, wanted))
+        with database() as it:
+            it.execute("UPDATE cons SET edition = 2")
+        put("lots", ("c1", 1, 3), ("c1", 2, 1), ("c1", 3, 2))
+        drawn = result()
+        self.agrees(drawn)
+        self.assertEqual((drawn["status"], drawn["lot"]), ("open", ["C", "A", "B"]))
+        self.assertEqual(each(drawn, "provisional"), [2, 1, 2])
+        return drawn
+
+    def test_a_lot_that_decides_two_seats(self):
+        drawn = self.two_in_question("dhondt")
+        self.assertEqual(drawn["awards"][3:], [["C", 2, 100, 2], ["A", 2, 100, 2]])
+
+    def test_a_lot_that_decides_two_seats_by_quotas(self):
+        """The quota is 60 votes: what one leaves of 100 votes is 40, and five times that 200."""
+        drawn = self.two_in_question("hare")
+        self.assertEqual(drawn["quota"], [["A", 1, 200, 2], ["B", 1, 200, 1], ["C", 1, 200, 2]])
+
+    def test_each_office_shows_its_own_reports(self):
+        """Two offices in one folder, one of them in the file that the documents name."""
+        new(SETUP)
+        setup = PROFILE + constituency("c1", "Senate", 2, "d0")
+        new(setup + party_list("S", "Sigma", "Sol") + station("t1"), "senate.db")
+        close_return("t1", "c1", [7], db="senate.db")
+        for db, name, closed in (("senate.db", "Senate", 1), ("office.db", "Twin Town", 0)):
+            with self.subTest(db=db):
+                value = result(db=db)
+                self.assertEqual((value["name"], value["closed"]), (name, closed))
+                self.assertEqual(result(None, "results", db), [value])
+                country = show("country", None, db)
+                self.assertIn(f"\nstations 1 closed {closed}\n", country.out)
+                self.assertEqual(show("progress", None, db).out.split()[6], str(closed))
+                for report in ("tally", "provisional", "past", "stations"):
+                    self.assertIn(f" c1 {name}\n", show(report, db=db).out)
+
+    def test_what_is_shown_of_a_constituency_that_could_be_certified(self):
+        """Its votes decide, and it is not certified by being shown, on any way."""
+        new()
+        close_return("s1", "c1", [120, 100])
+        self.assertEqual((result()["status"], result()["edition"]), ("open", 1))
+        before, file = rows(), Path("office.db").read_bytes()
+        for report in (*CON_REPORTS, *OFFICE_REPORTS):
+            with self.subTest(report=report):
+                show(report)
+                self.assertEqual(rows(), before)
+                self.assertEqual(Path("office.db").read_bytes(), file)
+        paths = [f"/con/c1/{report}" for report in CON_REPORTS]
+        paths += ["/con/c1", "/station/s1", *(f"/{report}" for report in OFFICE_REPORTS)]
+        with serving("office.db", len(paths)) as desk:
+            for path in paths:
+                withheld = path.split("/")[-1] in WITHHELD
+                self.assertEqual(desk.ask("GET", path)[0], 409 if withheld else 200)
+        self.assertEqual(rows(), before)
 
     def test_all_constituencies(self):
         setup = PROFILE + constituency("c1", "Twin Town", 3, "d0") + LISTS + station("s1")

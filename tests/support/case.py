@@ -19,13 +19,17 @@ LONGEST = 7200
 FOLDERS = f"{os.environ.get('PATH', '')}:/usr/sbin:/usr/local/sbin"
 
 
-def program():
-    """The program that is tested: OFFICE_PROGRAM, or else what `./office` or `rt ci` built."""
-    built = ROOT / "crates/tally_office/out/tally_office"
-    return Path(os.environ.get("OFFICE_PROGRAM") or built).resolve()
+def program(variable, crate):
+    """A program that is tested: that of a variable of the environment, or else what `./office` or
+    `rt ci` built.
+    """
+    built = ROOT / "crates" / crate / "out" / crate
+    return Path(os.environ.get(variable) or built).resolve()
 
 
-PROGRAM = program()
+PROGRAM = program("OFFICE_PROGRAM", "tally_office")
+# The program of `check`, `allot` and `recount` alone.
+SMALL_PROGRAM = program("OFFICE_SMALL_PROGRAM", "tally_office_small")
 
 
 def find(name):

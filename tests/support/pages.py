@@ -93,12 +93,13 @@ def read(name, folder="pages"):
 class Page(html.parser.HTMLParser):
     """A page's tables by their captions, and what is wrong with it."""
 
-    VOID = {"meta", "link", "br", "hr", "img", "input"}
+    VOID = {"meta", "link", "br", "hr", "img", "input", "base"}
 
     def __init__(self, text):
         super().__init__()
         self.open, self.wrong, self.tables, self.all_tables, self.ids = [], [], {}, [], set()
-        self.figures = self.waiting = 0
+        # Those of the sections before.
+        self.figures = self.of_figures = self.of_tables = 0
         self.caption, self.cells, self.row = None, None, None
         self.policy, self.scripts = "", 0
         self.feed(text)
@@ -112,7 +113,6 @@ class Page(html.parser.HTMLParser):
         self.look(tag, attributes)
         if tag == "table":
             self.caption, self.cells = "", []
-            self.waiting = 0
         elif tag == "tr" and self.cells is not None:
             self.cells.append([])
         elif tag in ("td", "th") and self.cells is not None:
@@ -136,7 +136,7 @@ class Page(html.parser.HTMLParser):
                 self.wrong.append(f"id {attributes['id']} twice")
             self.ids.add(attributes["id"])
         if tag == "figure":
-            self.figures, self.waiting = self.figures + 1, self.waiting + 1
+            self.figures += 1
             if not attributes.get("aria-label"):
                 self.wrong.append("a figure without a label")
         if tag == "svg" and "figure" not in self.open:
@@ -146,11 +146,15 @@ class Page(html.parser.HTMLParser):
         if not self.open or self.open.pop() != tag:
             self.wrong.append(f"{tag} is closed and not open")
         if tag == "table":
-            self.tables[self.caption] = [[cell.strip() for cell in row] for row in self.cells]
+            # (whatever the width of a space, and whether a line may end there)
+            self.tables[self.caption] = [[" ".join(cell.split()) for cell in row]
+                                         for row in self.cells]
             self.all_tables.append((self.caption, self.tables[self.caption]))
             self.cells = None
-        if tag == "section" and self.waiting:
-            self.wrong.append("a figure without its table")
+        if tag == "section":
+            if self.figures > self.of_figures and len(self.all_tables) == self.of_tables:
+                self.wrong.append("a figure without its table")
+            self.of_figures, self.of_tables = self.figures, len(self.all_tables)
 
     def handle_data(self, data):
         if self.open[-1:] == ["script"]:
@@ -170,15 +174,13 @@ def sha256_in_base64(text):
 
 def page_of(name, folder="pages"):
     """A page that is well formed, below 60 kB, has no address elsewhere, and a table for each
-    picture. Only those with a search have a script, and the policy names it."""
+    picture. It has one script, which the policy names, and some have a search."""
     text = read(name, folder)
     page = Page(text)
     same(page.wrong, [])
-    # (the page of the country has none where the constituencies are on pages of their own)
-    own = 'href="cons-1.html"' in text
+    searches = bool(re.match(r"index\.|stations-|cons-|places-|elected", name))
     same((page.scripts, text.count('type="search"')),
-         (1, 1) if re.match(r"index\.|stations-|cons-", name) and not (own and name == "index.html")
-         else (0, 0))
+         (int(not name.startswith("embed")), int(searches)))
     assert page.policy.startswith("default-src 'none'; style-src 'unsafe-inline'"), page.policy
     assert len(text.encode()) < PAGE_BYTES, f"{name}: {len(text.encode())} bytes"
     return page

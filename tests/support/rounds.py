@@ -43,9 +43,10 @@ class OfPages(Case):
         return files is not None
 
     def pages(self, folder="pages"):
-        """The text of each page by its name."""
+        """The text of each page by its name, but for the parts for other sites."""
         return {file.name: file.read_text(encoding="utf-8")
-                for file in sorted(Path(folder).glob("*.html"))}
+                for file in sorted(Path(folder).glob("*.html"))
+                if not file.name.startswith("embed")}
 
 
 @contextlib.contextmanager

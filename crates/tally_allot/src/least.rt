@@ -76,9 +76,9 @@ fn least_by_quotas(alloc: Global, poll: &Poll, seats: u32) -> Result<Vec<u32>, A
     least_in(alloc, &contest)
 }
 
-/// One allotment, in which each list of the group that a lot is needed among has the fewest seats
-/// that a list of it has there: the lists of a group hold that many or one more, and each of them
-/// holds it where the lot names it last.
+/// One allotment, but each list of the group that a lot is needed among has only the fewest seats
+/// of any list of that group. The lists of a group have that many seats or one more. A list that
+/// the lot names last has the fewest.
 fn least_in<C: Contest>(alloc: Global, contest: &C) -> Result<Vec<u32>, AllotFault>
     requires sound { AreSound (C.terms contest.now) }
     ensures least { IfOk result (λ least. AreLeastOn (C.terms contest.now) least.items) }

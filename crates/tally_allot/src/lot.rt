@@ -1,4 +1,4 @@
-//! What is to be said of a lot.
+//! Whether a lot is the one to be taken.
 
 ghost use Rattle.std.specs.Prelude.{◌≢◌, IfErr, OnOk};
 ghost use Rattle.tally_law.specs.Poll.{HasEligible};
@@ -9,8 +9,8 @@ ghost use Rattle.tally_allot_award.specs.internal.Terms.{AreFairSeats, AreSound}
 use crate::fault::AllotFault;
 use tally_allot_award::{Contest, is_order_of, need_of};
 
-/// Whether the contest's lot is the one to be taken, seen from seats that the votes allow: none,
-/// where none is needed. Else what is wrong with it.
+/// Checks the contest's lot by seats that the votes allow. Where they leave a group of lists alike,
+/// it has to be an order of that group; elsewhere it has to be empty.
 pub(crate) fn check_lot<C: Contest>(contest: &C, seats: &[u32]) -> Result<(), AllotFault>
     requires sound { AreSound (C.terms contest.now) }
     requires eligible { HasEligible (C.terms contest.now).poll }

@@ -15,9 +15,9 @@ use tally_allot_award::Poll;
 use tally_frac::{Divisors, votes_rank_above};
 use tally_setup::Profile;
 
-/// The list, by its number from 0, whose next seat ranks above those of all other eligible lists by
-/// the votes alone, beside the seats that the lists hold, for a profile by a divisor rule. A list
-/// that is eligible alone is it. `None` where several share the highest rank, or none is eligible.
+/// The list that would win one more seat under a divisor rule, by its number from 0: by the votes
+/// alone its next seat ranks above that of each other eligible list. `held` has the seats that the
+/// lists have. `None` where several lists share the highest rank, or no list is eligible.
 pub fn next_list(
     profile: &Profile,
     seats: u32,

@@ -149,7 +149,8 @@ fn lowest_other<D: Divisors>(divisors: &D, poll: &Poll, held: &[u32], list: usiz
     lowest
 }
 
-/// The list with the lower last seat: the one found among the lists before, or this one.
+/// Of two lists the one whose last seat ranks lower. `before` is the lowest of the lists before
+/// `other`. A list without a seat has no last seat, and `list` itself is passed over.
 fn lower_of<D: Divisors>(
     divisors: &D,
     poll: &Poll,

@@ -12,8 +12,8 @@ use Rattle.tally_desk_answer.specs.declared.status.BodyType.TheVariants.{Json, T
 use Rattle.tally_report.specs.Fault.{IsRefused, divisors_fault}
 use Rattle.tally_report.specs.Reports.{IsEnoughFor, IsReport, report_fault}
 use Rattle.tally_report.specs.declared.fault.ReportFault.{ReportFault}
-use Rattle.tally_report.specs.declared.report.Report.{Report}
-use Rattle.tally_report.specs.declared.report.Report.TheVariants as report
+use Rattle.tally_report_names.specs.declared.report.Report.{Report}
+use Rattle.tally_report_names.specs.declared.report.Report.TheVariants as report
 use Rattle.tally_returns.specs.AskSeen.{AskSeen, ask_seen}
 use Rattle.tally_returns.specs.PastSeats.{PastSeats}
 use Rattle.tally_returns.specs.State.{State}

@@ -5,7 +5,7 @@ use Rattle.tally_returns.specs.View.{View}
 use Rattle.tally_report.specs.Reports.{IsReport, report_fault}
 use Rattle.tally_report.specs.declared.fault.ReportFault.{ReportFault}
 use Rattle.tally_report.specs.declared.fault.ReportFault.TheVariants as fault
-use Rattle.tally_report.specs.declared.report.Report.{Report}
+use Rattle.tally_report_names.specs.declared.report.Report.{Report}
 use Rattle.tally_desk_answer.specs.declared.status.AnswerStatus.TheVariants as status
 use Rattle.tally_desk_answer.specs.declared.status.BodyType.TheVariants as body
 use Rattle.tally_desk_answer.specs.declared.word.Word.TheVariants as word

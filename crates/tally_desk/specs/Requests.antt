@@ -31,10 +31,10 @@ use Rattle.tally_import.specs.Check.{count_text}
 use Rattle.tally_import.specs.ReturnRows.{text_coming}
 use Rattle.tally_import.specs.RowLines.{row_lines}
 use Rattle.tally_report_overview.specs.CountryText.{country_text}
-use Rattle.tally_report.specs.ProgressText.{progress_text}
+use Rattle.tally_report_overview.specs.ProgressText.{progress_text}
 use Rattle.tally_report_overview.specs.ReturnsText.{returns_text}
 use Rattle.tally_report_overview.specs.StationsText.{stations_text}
-use Rattle.tally_report.specs.declared.report.Report.{Report}
+use Rattle.tally_report_names.specs.declared.report.Report.{Report}
 use Rattle.tally_desk_message.specs.declared.message.Message.{Message}
 use Rattle.tally_desk_routes.specs.Routes.{con_of_target, station_of_target}
 use Rattle.tally_desk_routes.specs.Bodies.{IsBody}

@@ -20,7 +20,7 @@ use tally_desk_answer::Word;
 use tally_desk_message::{Message, MessageFault};
 use tally_desk_routes::{Route, route_of, takes, takes_get};
 use tally_keeper::Keeper;
-use tally_report_overview::StationsReport;
+use tally_report_names::StationsReport;
 
 /// An answer that is a word alone.
 fn say(alloc: Global, word: Word) -> Option<Vec<u8>>

@@ -14,7 +14,8 @@ use std::alloc::Global;
 use tally_desk_answer::BodyType;
 use tally_desk_message::Message;
 use tally_keeper::Keeper;
-use tally_report_overview::{StationsReport, returns_text, stations_text};
+use tally_report_names::StationsReport;
+use tally_report_overview::{returns_text, stations_text};
 use tally_returns::{Refusal, StationRow};
 use tally_setup::{Code, Setup};
 

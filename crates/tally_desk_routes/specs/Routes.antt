@@ -12,7 +12,7 @@ use Rattle.matchit.specs.Router.{RouteOf, route_from}
 use Rattle.matchit.specs.declared.error.InsertError.{InsertError}
 use Rattle.tally_setup.specs.Code.{code_of}
 use Rattle.tally_import_records.specs.declared.separator.Sep.TheVariants as separator
-use Rattle.tally_report.specs.declared.report.Report.TheVariants as report
+use Rattle.tally_report_names.specs.declared.report.Report.TheVariants as report
 use Rattle.tally_desk_routes.specs.declared.routes.ConCommand.TheVariants as on_con
 use Rattle.tally_desk_routes.specs.declared.routes.Route.{Route}
 use Rattle.tally_desk_routes.specs.declared.routes.Route.TheVariants as route

@@ -13,7 +13,7 @@ use matchit::{InsertError, Router};
 use std::alloc::Global;
 use std::str;
 use tally_import_records::Sep;
-use tally_report::Report;
+use tally_report_names::Report;
 
 /// The commands on a station.
 #[derive(Clone, Copy)]

@@ -77,7 +77,8 @@ impl Import {
         self.take(alloc, number, row)
     }
 
-    /// Takes the next row, by its number. It takes one layer off, which the prover needs.
+    /// Takes the next row, by its number. What a Lodge brings has a function of its own, since the
+    /// prover opens one enum at a time.
     fn take(&mut self, alloc: Global, number: u32, row: Row) -> Result<(), AllocError>
         requires so_far { (taken : Taken) × HasTaken taken self.old
             × (number ≡ length taken.rows + 1) }
@@ -101,7 +102,7 @@ impl Import {
     }
 
     /// Lodges what a Lodge brings, and names the row where that is refused. Another request has no
-    /// answer. It takes one layer off, which the prover needs.
+    /// answer.
     fn lodge_row(
         &mut self,
         alloc: Global,

@@ -10,7 +10,7 @@ use Rattle.tally_import_votes.specs.declared.fault.AllotTrouble.TheVariants as a
 use Rattle.tally_report_allotment.specs.Recount.{question_counted}
 use Rattle.tally_import_recount.specs.Counted.{recounted_rows}
 use Rattle.tally_import_recount.specs.Recounts.{AreKnown, AreRowsOf, IsTextOf, IsTroubleIn, Recounts}
-use Rattle.tally_import_recount.specs.Wanted.{Wanted}
+use Rattle.tally_import_votes.specs.WantedRecount.{Wanted}
 use Rattle.tally_import_recount.specs.declared.fault.RecountTrouble.{RecountTrouble}
 use Rattle.tally_import_recount.specs.declared.fault.RecountTrouble.TheVariants as trouble
 use Rattle.tally_import_recount.specs.internal.Finds.{IsOfReading}

@@ -21,7 +21,7 @@ use Rattle.tally_keeper.specs.declared.import.Row.TheVariants as row
 use Rattle.tally_import.specs.ReturnRows.{station_limits_in}
 use Rattle.tally_import_votes.specs.Lot.{lot_places, words_given}
 use Rattle.tally_report_allotment.specs.Recount.{Recounted}
-use Rattle.tally_import_recount.specs.Wanted.{Wanted}
+use Rattle.tally_import_votes.specs.WantedRecount.{Wanted}
 
 -- The constituency is one of a setup, in which no two stations have one code.
 abbrev pub IsOfSetup : Constituency → Type 0

@@ -1,5 +1,4 @@
 pub mod Counted
 pub mod Recounts
 pub mod Troubles
-pub mod Wanted
 pub mod internal

@@ -18,7 +18,7 @@ use Rattle.tally_import_votes.specs.declared.fault.VotesFault.TheVariants as fau
 use Rattle.tally_report_allotment.specs.Recount.{question_counted}
 use Rattle.tally_report_allotment.specs.RecountText.{IsRecountText}
 use Rattle.tally_import_recount.specs.Counted.{no_station, recounted_rows}
-use Rattle.tally_import_recount.specs.Wanted.{Wanted}
+use Rattle.tally_import_votes.specs.WantedRecount.{Wanted}
 use Rattle.tally_import_recount.specs.declared.fault.RecountTrouble.{RecountTrouble}
 use Rattle.tally_import_recount.specs.declared.fault.RecountTrouble.TheVariants as trouble
 

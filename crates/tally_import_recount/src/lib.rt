@@ -2,13 +2,12 @@
 #![tactic(auto)]
 
 mod fault;
-mod options;
 mod recount;
 mod register;
 mod rows;
 mod without;
 
 pub use fault::RecountTrouble;
-pub use options::RecountOptions;
 pub use recount::{recount_csv, recount_watched};
 pub use tally_import_records::{Sep, Watch};
+pub use tally_import_votes::RecountOptions;

@@ -99,8 +99,8 @@ impl Register {
         }
     }
 
-    /// Takes what a Lodge brings, unless its station is left out. It takes one layer off, which the
-    /// prover needs.
+    /// Takes what a Lodge brings, unless its station is left out. It is a function of its own,
+    /// since the prover opens one enum at a time.
     fn take_ask(&mut self, alloc: Global, ask: Ask) -> Result<(), AllocError>
         requires lists { self.old.lists ≤ most_lists }
         requires few { self.old.passed ≤ row_limit }

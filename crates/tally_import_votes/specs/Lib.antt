@@ -3,4 +3,5 @@ pub mod Lot
 pub mod Troubles
 pub mod Votes
 pub mod Wanted
+pub mod WantedRecount
 pub mod internal

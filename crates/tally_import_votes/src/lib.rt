@@ -10,5 +10,5 @@ mod votes;
 pub use allot::{allot_csv, allot_watched, trouble_of};
 pub use fault::{AllotTrouble, BadVotes, VotesFault};
 pub use lot::{lot_places, words_given};
-pub use options::AllotOptions;
+pub use options::{AllotOptions, RecountOptions};
 pub use tally_import_records::{Sep, Watch};

@@ -7,13 +7,13 @@ use crate::import::Row;
 use crate::source::ImportFault;
 use std::snapshot::Snapshot;
 
-/// The rows that a source gave, in order, as clauses see them. The rows themselves are not kept: a
-/// program holds of them a byte, which says whether there is one.
+/// The rows that a source gave, in order. Only clauses see them: a program keeps one byte for all
+/// of them, which says whether there is a row.
 #[derive(Drop)]
 pub enum Given {
-    /// None.
+    /// No row.
     Nothing,
-    /// Those before the last one, and the last one.
+    /// The rows before the last one, and the last row.
     More(Snapshot<Given>, Snapshot<Row>),
 }
 

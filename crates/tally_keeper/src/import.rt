@@ -1,4 +1,4 @@
-//! Rows of an import, and the count of what they were answered.
+//! Rows of an import, and how many of them were lodged, refused or bad.
 
 ghost use Rattle.std.specs.Prelude.{◌≡◌, ◌+◌, ◌<◌, ◌^◌, ◌++◌, ℕ, List, [], ◌∷◌, length, Some};
 ghost use Rattle.std.specs.Prelude.{IfOk, None, OnOk};
@@ -71,7 +71,7 @@ impl RowCause {
     }
 }
 
-/// Names a row that cannot be read, which is answered nothing.
+/// Adds a row that cannot be read to the named ones. Such a row has no answer.
 pub fn name_bad(
     named: &mut Vec<NamedRow>,
     row: u32,
@@ -113,7 +113,7 @@ pub struct FirstRow {
     pub number: u32,
 }
 
-/// How many rows of an import were answered what.
+/// How many rows of an import were lodged, were there already, were refused, and could not be read.
 #[derive(Clone, Copy, Debug, PartialEq, Eq)]
 pub struct ImportCount {
     /// Rows that were lodged.

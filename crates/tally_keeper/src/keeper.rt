@@ -29,8 +29,8 @@ pub trait Keeper {
     /// The state, or `None` where a disk that failed has shut the keeper.
     ghost content: { Self → Option State };
 
-    /// No wrong answer of a disk has been taken as true: of a store, its disk was clean, and
-    /// nothing else. It may cease to hold at any call.
+    /// No wrong answer of a disk has been taken as true. For a store this says that its disk was
+    /// clean, and no more. It may cease to hold at any call.
     ghost IsTrusted: { Self → Type 0 };
 
     /// It is over a database, which may fail.
@@ -85,12 +85,12 @@ pub trait Keeper {
             (content self.new) }
         ensures store { IfErr result (λ e. e ≡ refusal.Store → HasDatabase self.old) };
 
-    /// Lodges the rows of a source one by one, all that it gives until its end and no others;
-    /// refused and bad ones are passed over, and added to `named`. With a fault nothing has
-    /// changed, unless a failed disk shut the keeper at it. The fault is that with which the source
-    /// ended, or the keeper's own: out of memory, also for a row to be named; a database that
-    /// refuses; or the 20,001st row of a source of unknown content. After a fault `named` is of no
-    /// use.
+    /// Lodges the rows of a source one by one, all that it gives until its end. Rows that are
+    /// refused or bad are passed over and added to `named`.
+    ///
+    /// With a fault nothing has changed, unless a disk failed and shut the keeper, and `named` is
+    /// of no use. The fault is the one with which the source ended, or the keeper's own: out of
+    /// memory, a database that refuses, or the 20,001st row of a source of unknown content.
     fn lodge_from<R: RowSource>(
         &mut self,
         rows: &mut R,

@@ -75,7 +75,7 @@ impl Ledger {
         &self.setup
     }
 
-    /// The setup, of a ledger that is no longer needed.
+    /// Takes the setup out of the ledger and drops the rest.
     pub fn into_setup(self) -> Setup
         ensures { result ≡ self.setup }
     {

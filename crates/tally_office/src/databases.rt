@@ -1,16 +1,18 @@
 //! Offices in databases, each of them a file. Errors are matched and returned, and not passed on by
 //! `?`, since the `?` of an enum that holds a text (`Trouble`) has no proof yet.
 
-ghost use Rattle.std.specs.Prelude.{◌≡◌, ◌==◌, false, not, length, IfErr, IfOk};
+ghost use Rattle.std.specs.Prelude.{◌≡◌, ◌==◌, false, not, length, IfErr, IfOk, Ok};
 ghost use Rattle.sqlite.specs.Held.{state};
-ghost use Rattle.tally_office_commands.specs.Trouble.{IsTroubleOfDatabase};
+ghost use Rattle.tally_rules.specs.Reading.{setup_of_text};
+ghost use Rattle.tally_office_trouble.specs.Trouble.{IsTroubleOfDatabase};
 
 use sqlite::{Alter, Connection, Error, ErrorCode, FileFrom, FileStore, Wary};
 use std::alloc::Global;
 use std::fs::{self, File};
 use std::io::{self, ErrorKind};
 use std::net::{Ipv4Addr, TcpListener};
-use tally_office_commands::{Offices, Trouble, is_memory};
+use tally_office_commands::Offices;
+use tally_office_trouble::{MachineFiles, NamedFiles, Trouble, is_memory};
 use tally_store::{CreateFault, Store};
 
 /// The bytes of a page of an office's database. A database of one page has no tables.
@@ -22,15 +24,30 @@ type FileConnection = Connection<FileStore<FileFrom<Wary>>>;
 /// The office's state in such a database.
 type Office = Store<FileStore<FileFrom<Wary>>>;
 
-/// The offices of this machine: a path is that of a database, a port is one on 127.0.0.1.
+/// The offices and the files of this machine: the path of an office is that of a database, a port
+/// is one on 127.0.0.1.
 pub struct Databases;
+
+impl NamedFiles for Databases {
+    type File = File;
+
+    ghost Gives = { λ _ _ _. Unit {0} };
+
+    fn open_file(&self, rt: &HostRuntime, path: &str) -> Result<File, Trouble> {
+        MachineFiles.open_file(rt, path)
+    }
+}
 
 impl Offices for Databases {
     type Office = Office;
 
     ghost Opens = { λ _ _ _. Unit {0} };
 
-    ghost Closes = { λ _ _ _. Unit {0} };
+    ghost Finds = { λ _ _ _. Unit {0} };
+
+    ghost Makes = { λ _ _ _ _. Unit {0} };
+
+    ghost Closes = { λ _ _ _ _. Unit {0} };
 
     fn open_office(&self, rt: &HostRuntime, path: &str) -> Result<Office, Trouble> {
         if !names_file(path) {
@@ -222,7 +239,8 @@ fn create<S: Alter + Drop>(
     text: &[u8],
 ) -> Result<Store<S>, (Connection<S>, CreateFault, bool)>
     requires { conn.in_transaction ≡ false }
-    ensures { IfErr result (λ e.
+    ensures setup { IfOk result (λ office. setup_of_text text.now ≡ Ok office.setup) }
+    ensures tables { IfErr result (λ e.
         e.2 ≡ not (length (state S.Store e.0).now.schema.tables == 0)) }
 {
     match Store::create(alloc, conn, text) {

@@ -15,9 +15,9 @@ use Rattle.tally_import_records.specs.declared.separator.Sep.{Sep}
 use Rattle.tally_office_commands.specs.Imported.{IsImportText, IsImportTrouble, IsTroubleIn, coming_of, import_text}
 use Rattle.tally_office_commands.specs.internal.Found.{IsFindTrouble}
 use Rattle.tally_office_commands.specs.internal.Room.{room_of_lines}
-use Rattle.tally_office_commands.specs.Trouble.{import_trouble}
-use Rattle.tally_office_commands.specs.declared.trouble.Trouble.{Trouble}
-use Rattle.tally_office_commands.specs.declared.trouble.Trouble.TheVariants as trouble
+use Rattle.tally_office_trouble.specs.Trouble.{import_trouble}
+use Rattle.tally_office_trouble.specs.declared.trouble.Trouble.{Trouble}
+use Rattle.tally_office_trouble.specs.declared.trouble.Trouble.TheVariants as trouble
 use Rattle.tally_keeper.specs.declared.import.ImportCount.{ImportCount}
 use Rattle.tally_keeper.specs.declared.import.NamedRow.{NamedRow}
 use Rattle.tally_keeper.specs.declared.source.ImportFault.{ImportFault}

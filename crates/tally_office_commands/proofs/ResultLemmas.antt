@@ -14,7 +14,7 @@ use Rattle.tally_keeper.specs.Keeper.{Happens, request}
 use Rattle.tally_report_result.specs.Result.{AreResultsText, IsResultText}
 use Rattle.tally_office_commands.specs.Results.{IsLineOf, IsResultTrouble}
 use Rattle.tally_office_commands.specs.internal.Withheld.{OfCon, refusal_trouble}
-use Rattle.tally_office_commands.specs.declared.trouble.Trouble.{Trouble}
+use Rattle.tally_office_trouble.specs.declared.trouble.Trouble.{Trouble}
 use Rattle.tally_office_commands.proofs.ShowLemmas.{con-refused}
 
 -- the line of what was shown of the constituency of a code

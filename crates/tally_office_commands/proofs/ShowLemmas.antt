@@ -15,12 +15,11 @@ use Rattle.tally_report.specs.declared.fault.ReportFault.{ReportFault}
 use Rattle.tally_report.specs.declared.fault.ReportFault.TheVariants as fault
 use Rattle.tally_report.specs.Fault.{IsRefused}
 use Rattle.tally_report.specs.Reports.{report_fault}
-use Rattle.tally_report.specs.declared.report.Report.{Report}
-use Rattle.tally_office_commands.specs.Show.{IsProgressTrouble, IsReportTrouble, Shows}
+use Rattle.tally_report_names.specs.declared.report.Report.{Report}
+use Rattle.tally_office_commands.specs.Show.{IsProgressTrouble, IsReportTrouble, Shows, report_trouble}
 use Rattle.tally_office_commands.specs.internal.Withheld.{IsWithheld, refusal_trouble}
-use Rattle.tally_office_commands.specs.Trouble.{report_trouble}
-use Rattle.tally_office_commands.specs.declared.trouble.Trouble.{Trouble}
-use Rattle.tally_office_commands.specs.declared.trouble.Trouble.TheVariants as trouble
+use Rattle.tally_office_trouble.specs.declared.trouble.Trouble.{Trouble}
+use Rattle.tally_office_trouble.specs.declared.trouble.Trouble.TheVariants as trouble
 
 -- ---- what a text names
 

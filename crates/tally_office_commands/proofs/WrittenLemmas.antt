@@ -1,88 +1,66 @@
 -- What a command writes: nothing where it had a trouble before, and a
 -- text of a kind where it wrote one that is of the kind.
-use Rattle.std.proofs.Common.{◌≡◌, ℕ, Bool, List, [], Option, Some, None, Result, Ok, Err, IfOk, IfErr, OnOk, refl, sym, subst, append-nil, true, ◌⊎◌, inl, inr}
-use Rattle.std.specs.Io.KnownBytes.{Appends}
-use Rattle.tally_keeper.specs.declared.import.ImportCount.{ImportCount}
-use Rattle.tally_office_commands.specs.Imported.{IsCountText, import_text}
-use Rattle.tally_office_commands.specs.Made.{IsMadeText, constituencies_text}
-use Rattle.tally_office_commands.specs.declared.trouble.Trouble.{Trouble}
-use Rattle.tally_office_commands.specs.declared.trouble.Trouble.TheVariants as trouble
-use Rattle.tally_office_commands.specs.Troubles.{IsTroubleOfEnding}
-use Rattle.tally_office_commands.specs.Written.{Bytes, IsAnyText, IsWritten}
+use Rattle.std.proofs.Common.{◌≡◌, ℕ, Bool, List, Result, Ok, Err, IfOk, IfErr, OnOk, refl, sym, subst, true, ◌⊎◌, inl, inr}
+use Rattle.std.specs.Prelude.{IsOk}
+use Rattle.tally_office_trouble.specs.declared.trouble.Trouble.{Trouble}
+use Rattle.tally_office_trouble.specs.declared.trouble.Trouble.TheVariants as trouble
+use Rattle.tally_office_trouble.specs.Troubles.{IsTroubleOfEnding}
+use Rattle.tally_office_trouble.specs.Written.{Bytes, IsWritten}
 
-appends-nothing : (held : Option (List ℕ)) → Appends held held []
-appends-nothing None = tt
-appends-nothing (Some bytes) = sym (append-nil bytes)
+-- where nothing was written there may have been any trouble but a failed write
+pub not-begun : {W : Type 0} (held : Bytes W) (IsText : List ℕ → Type 0) (w : W) (t : Trouble) → (t ≡ trouble.Write → ⊥) → IsWritten held IsText w w (Err t)
+not-begun held IsText w trouble.Write other = absurd (other refl)
+not-begun held IsText w (trouble.Setup fault place) other = refl
+not-begun held IsText w trouble.NotEmpty other = refl
+not-begun held IsText w trouble.NoTables other = refl
+not-begun held IsText w trouble.BadTables other = refl
+not-begun held IsText w trouble.BadSetup other = refl
+not-begun held IsText w trouble.NoConstituency other = refl
+not-begun held IsText w trouble.BadHeader other = refl
+not-begun held IsText w trouble.TooLong other = refl
+not-begun held IsText w trouble.NotCertified other = refl
+not-begun held IsText w trouble.OtherMethod other = refl
+not-begun held IsText w trouble.Memory other = refl
+not-begun held IsText w trouble.Store other = refl
+not-begun held IsText w trouble.File other = refl
+not-begun held IsText w trouble.Read other = refl
+not-begun held IsText w trouble.Port other = refl
 
--- there is a text of each kind
-abbrev pub Example : (List ℕ → Type 0) → Type 0
-Example IsText = (text : List ℕ) × IsText text
-
-no_rows : ImportCount
-no_rows = record { lodged = 0; same = 0; differs = 0; refused = 0; bad = 0; first = None }
-
-pub made : Example IsMadeText
-made = (constituencies_text [], ([], refl))
-
-pub counted : (lines : Bool) → Example (IsCountText lines)
-counted lines = (import_text lines [] no_rows [], ([], no_rows, [], refl))
-
-pub any : Example IsAnyText
-any = ([], tt)
-
-pub any_text : {S : Type 0} (bytes : S → List ℕ) (outcome : Result S Trouble) → IfOk outcome (λ text. IsAnyText (bytes text))
-any_text bytes (Ok text) = tt
-any_text bytes (Err t) = tt
-
--- where nothing was written there may have been any trouble
-pub unwritten : {W : Type 0} (held : Bytes W) (IsText : List ℕ → Type 0) → Example IsText → (w : W) (t : Trouble) → IsWritten held IsText w w (Err t)
-unwritten held IsText example w trouble.Write = (example.0, 0, example.1, appends-nothing (held w))
-unwritten held IsText example w (trouble.Setup fault place) = refl
-unwritten held IsText example w trouble.NotEmpty = refl
-unwritten held IsText example w trouble.NoTables = refl
-unwritten held IsText example w trouble.BadTables = refl
-unwritten held IsText example w trouble.BadSetup = refl
-unwritten held IsText example w trouble.NoConstituency = refl
-unwritten held IsText example w trouble.BadHeader = refl
-unwritten held IsText example w trouble.TooLong = refl
-unwritten held IsText example w trouble.NotCertified = refl
-unwritten held IsText example w trouble.OtherMethod = refl
-unwritten held IsText example w trouble.Memory = refl
-unwritten held IsText example w trouble.Store = refl
-unwritten held IsText example w trouble.File = refl
-unwritten held IsText example w trouble.Read = refl
-unwritten held IsText example w trouble.Port = refl
-
--- what is written of a text that is of a kind is of the kind
-pub of_kind : {W : Type 0} (held : Bytes W) (IsText : List ℕ → Type 0) (text : List ℕ) → IsText text → (old new : W) (r : Result (Unit {0}) Trouble)
+-- what is written of a text that is of a kind once an office is closed, where it was closed before
+-- any of it was written
+pub of_kind : {W : Type 0} (held : Bytes W) (IsText : List ℕ → Type 0) (Closed : Type 0) (text : List ℕ) → (Closed → IsText text) → (old new : W) (r : Result (Unit {0}) Trouble)
+    → OnOk r Closed → (r ≡ Err trouble.Write → Closed)
     → IsWritten held (λ written. written ≡ text) old new r → IsWritten held IsText old new r
-of_kind held IsText text is old new (Ok done) (written, same, appends) = (written, subst IsText (sym same) is, appends)
-of_kind held IsText text is old new (Err trouble.Write) (written, n, same, appends) = (written, n, subst IsText (sym same) is, appends)
-of_kind held IsText text is old new (Err (trouble.Setup fault place)) keeps = keeps
-of_kind held IsText text is old new (Err trouble.NotEmpty) keeps = keeps
-of_kind held IsText text is old new (Err trouble.NoTables) keeps = keeps
-of_kind held IsText text is old new (Err trouble.BadTables) keeps = keeps
-of_kind held IsText text is old new (Err trouble.BadSetup) keeps = keeps
-of_kind held IsText text is old new (Err trouble.NoConstituency) keeps = keeps
-of_kind held IsText text is old new (Err trouble.BadHeader) keeps = keeps
-of_kind held IsText text is old new (Err trouble.TooLong) keeps = keeps
-of_kind held IsText text is old new (Err trouble.NotCertified) keeps = keeps
-of_kind held IsText text is old new (Err trouble.OtherMethod) keeps = keeps
-of_kind held IsText text is old new (Err trouble.Memory) keeps = keeps
-of_kind held IsText text is old new (Err trouble.Store) keeps = keeps
-of_kind held IsText text is old new (Err trouble.File) keeps = keeps
-of_kind held IsText text is old new (Err trouble.Read) keeps = keeps
-of_kind held IsText text is old new (Err trouble.Port) keeps = keeps
+of_kind held IsText Closed text is old new (Ok done) closed cut (written, same, appends) = (written, subst IsText (sym same) (is closed), appends)
+of_kind held IsText Closed text is old new (Err trouble.Write) closed cut (written, n, same, appends) = (written, n, subst IsText (sym same) (is (cut refl)), appends)
+of_kind held IsText Closed text is old new (Err (trouble.Setup fault place)) closed cut keeps = keeps
+of_kind held IsText Closed text is old new (Err trouble.NotEmpty) closed cut keeps = keeps
+of_kind held IsText Closed text is old new (Err trouble.NoTables) closed cut keeps = keeps
+of_kind held IsText Closed text is old new (Err trouble.BadTables) closed cut keeps = keeps
+of_kind held IsText Closed text is old new (Err trouble.BadSetup) closed cut keeps = keeps
+of_kind held IsText Closed text is old new (Err trouble.NoConstituency) closed cut keeps = keeps
+of_kind held IsText Closed text is old new (Err trouble.BadHeader) closed cut keeps = keeps
+of_kind held IsText Closed text is old new (Err trouble.TooLong) closed cut keeps = keeps
+of_kind held IsText Closed text is old new (Err trouble.NotCertified) closed cut keeps = keeps
+of_kind held IsText Closed text is old new (Err trouble.OtherMethod) closed cut keeps = keeps
+of_kind held IsText Closed text is old new (Err trouble.Memory) closed cut keeps = keeps
+of_kind held IsText Closed text is old new (Err trouble.Store) closed cut keeps = keeps
+of_kind held IsText Closed text is old new (Err trouble.File) closed cut keeps = keeps
+of_kind held IsText Closed text is old new (Err trouble.Read) closed cut keeps = keeps
+of_kind held IsText Closed text is old new (Err trouble.Port) closed cut keeps = keeps
 
 -- what a command that ended has written, by what it came to
-pub ended : {W S : Type 0} (held : Bytes W) (IsText : List ℕ → Type 0) → Example IsText → (bytes : S → List ℕ)
-    (old new : W) (outcome : Result S Trouble) (r : Result (Unit {0}) Trouble) → IfOk outcome (λ text. IsText (bytes text))
+pub ended : {W S : Type 0} (held : Bytes W) (IsText : List ℕ → Type 0) (Closed : Type 0) (bytes : S → List ℕ)
+    (old new : W) (outcome : Result S Trouble) (r : Result (Unit {0}) Trouble) → IfErr outcome (λ t. t ≡ trouble.Write → ⊥)
+    → IfOk outcome (λ text. Closed → IsText (bytes text))
     → IfOk outcome (λ text. IsWritten held (λ written. written ≡ bytes text) old new r)
+    → OnOk r Closed → (IsOk outcome → r ≡ Err trouble.Write → Closed)
     → IfErr outcome (λ t. (r ≡ Err t) × (new ≡ old)) → IsWritten held IsText old new r
-ended held IsText example bytes old new (Ok text) r is writes fails = of_kind held IsText (bytes text) is old new r writes
-ended held IsText example bytes old new (Err t) r is writes fails =
+ended held IsText Closed bytes old new (Ok text) r other is writes closed cut fails =
+    of_kind held IsText Closed (bytes text) is old new r closed (cut refl) writes
+ended held IsText Closed bytes old new (Err t) r other is writes closed cut fails =
     subst (λ (r : Result (Unit {0}) Trouble). IsWritten held IsText old new r) (sym fails.0)
-    (subst (λ w. IsWritten held IsText old w (Err t)) (sym fails.1) (unwritten held IsText example old t))
+    (subst (λ w. IsWritten held IsText old w (Err t)) (sym fails.1) (not-begun held IsText old t other))
 
 -- a trouble of a part is one of the whole
 pub named-weaker : (Own Whole : Trouble → Type 0) → ((t : Trouble) → Own t → Whole t) → (r : Result (Unit {0}) Trouble) → IfErr r Own → IfErr r Whole
@@ -105,3 +83,7 @@ on-closed Closes closed (Err t) closes is = tt
 pub printed-closed : (Same : Type 0) (Closes : Bool → Type 0) (closed : Bool) → Closes closed → Same ⊎ (closed ≡ true) → Same ⊎ Closes true
 printed-closed Same Closes closed closes (inl same) = inl same
 printed-closed Same Closes closed closes (inr is) = inr (subst Closes is closes)
+
+-- the same of a write that failed
+pub cut-closed : {S : Type 0} (Closes : Bool → Type 0) (closed : Bool) (r : Result S Trouble) → Closes closed → (r ≡ Err trouble.Write → closed ≡ true) → r ≡ Err trouble.Write → Closes true
+cut-closed Closes closed r closes is failed = subst Closes (is failed) closes

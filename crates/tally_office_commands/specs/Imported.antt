@@ -14,9 +14,9 @@ use Rattle.tally_keeper.specs.declared.source.ImportFault.{ImportFault}
 use Rattle.tally_import.specs.Check.{count_text}
 use Rattle.tally_import.specs.ReturnRows.{text_coming}
 use Rattle.tally_import.specs.RowLines.{row_lines}
-use Rattle.tally_office_commands.specs.Trouble.{import_trouble}
-use Rattle.tally_office_commands.specs.declared.trouble.Trouble.{Trouble}
-use Rattle.tally_office_commands.specs.declared.trouble.Trouble.TheVariants.{NoConstituency}
+use Rattle.tally_office_trouble.specs.Trouble.{import_trouble}
+use Rattle.tally_office_trouble.specs.declared.trouble.Trouble.{Trouble}
+use Rattle.tally_office_trouble.specs.declared.trouble.Trouble.TheVariants.{NoConstituency}
 
 -- the text of an import: the six lines of its count, and where they are asked for the lines of the
 -- rows that it names, under a header of these lists

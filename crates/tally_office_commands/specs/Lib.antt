@@ -1,12 +1,7 @@
 pub mod internal
-pub mod Reported
-pub mod Place
-pub mod Trouble
-pub mod Troubles
-pub mod Written
 pub mod Results
 pub mod Show
+pub mod Done
 pub mod Imported
 pub mod Made
-pub mod Served
 pub mod Offices

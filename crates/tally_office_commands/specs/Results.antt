@@ -12,8 +12,8 @@ use Rattle.tally_keeper.specs.Keeper.{Happens, request}
 use Rattle.tally_report_overview.specs.Views.{ShowsAllWhole}
 use Rattle.tally_report_result.specs.Result.{AreResultsText, IsResultText}
 use Rattle.tally_office_commands.specs.Show.{Shows}
-use Rattle.tally_office_commands.specs.declared.trouble.Trouble.{Trouble}
-use Rattle.tally_office_commands.specs.declared.trouble.Trouble.TheVariants as trouble
+use Rattle.tally_office_trouble.specs.declared.trouble.Trouble.{Trouble}
+use Rattle.tally_office_trouble.specs.declared.trouble.Trouble.TheVariants as trouble
 
 -- such a text and a line end
 abbrev pub IsLineOf : (List ℕ → Type 0) → List ℕ → Type 0

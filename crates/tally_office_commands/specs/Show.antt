@@ -17,21 +17,27 @@ use Rattle.tally_keeper.specs.Keeper.{Happens, request}
 use Rattle.tally_keeper.specs.Shown.{ShowsReturns}
 use Rattle.tally_report_overview.specs.Views.{ShowsAll}
 use Rattle.tally_report_overview.specs.CountryText.{country_text}
-use Rattle.tally_report.specs.ProgressText.{progress_text}
+use Rattle.tally_report_overview.specs.ProgressText.{progress_text}
 use Rattle.tally_report.specs.declared.fault.ReportFault.{ReportFault}
 use Rattle.tally_report.specs.declared.fault.ReportFault.TheVariants as fault
 use Rattle.tally_report.specs.Reports.{IsReport, report_fault}
-use Rattle.tally_report.specs.declared.report.Report.{Report}
-use Rattle.tally_report_overview.specs.Shown.{stations_report}
-use Rattle.tally_report_overview.specs.declared.shown.StationsReport.{StationsReport}
-use Rattle.tally_office_commands.specs.declared.trouble.Trouble.{Trouble}
-use Rattle.tally_office_commands.specs.declared.trouble.Trouble.TheVariants as trouble
+use Rattle.tally_report_names.specs.declared.report.Report.{Report}
+use Rattle.tally_report_overview.specs.StationsReport.{stations_report}
+use Rattle.tally_report_names.specs.declared.shown.StationsReport.{StationsReport}
+use Rattle.tally_office_trouble.specs.declared.trouble.Trouble.{Trouble}
+use Rattle.tally_office_trouble.specs.declared.trouble.Trouble.TheVariants as trouble
 
 -- A request shows this, and changes nothing.
 abbrev pub Shows : List Constituency → Option State → Ask → Reply → Option State → Type 0
 Shows setup old ask shown new = Happens setup old (request ask (Ok shown)) new × (new ≡ old)
 
 -- ---- reports
+
+-- the trouble of a report that is not given
+abbrev pub report_trouble : ReportFault → Trouble
+report_trouble fault.NotCertified = trouble.NotCertified
+report_trouble fault.OtherMethod = trouble.OtherMethod
+report_trouble fault.Memory = trouble.Memory
 
 -- The report is given, and this is its text.
 abbrev pub IsGiven : Constituency → View → Report → List ℕ → Type 0

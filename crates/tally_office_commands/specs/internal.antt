@@ -1,7 +1,5 @@
 -- Words of private contracts and of proofs. No promise to a caller speaks of them.
 pub mod Found
-pub mod Judged
-pub mod Put
 pub mod Room
 pub mod Withheld
 pub mod Worked

@@ -1,16 +1,14 @@
-//! How a command ends: its office is closed, and then what it came to is written. Errors are
-//! matched and returned, and not passed on by `?`, since the `?` of an enum that holds a text
-//! (`Trouble`) has no proof yet.
+//! How a command ends: its office is closed, and then its text is written.
 
-ghost use Rattle.std.specs.Prelude.{◌≡◌, ◌⊎◌, ◌≤◌, [], IfErr, IfOk, OnOk, Err, false, true};
+ghost use Rattle.std.specs.Prelude.{◌≡◌, ◌⊎◌, ◌≤◌, [], IfErr, IfOk, IsOk, OnOk, Err, false, true};
 ghost use Rattle.std.specs.Prelude.{string_bytes, string_capacity, string_len};
-ghost use Rattle.tally_office_commands.specs.Troubles.{IsTroubleOfEnding};
-ghost use Rattle.tally_office_commands.specs.Written.{IsWritten};
+ghost use Rattle.tally_office_trouble.specs.Troubles.{IsTroubleOfEnding};
+ghost use Rattle.tally_office_trouble.specs.Written.{IsWritten};
 
 use crate::offices::Offices;
-use crate::trouble::Trouble;
 use std::io::Write;
 use tally_import::write_text;
+use tally_office_trouble::Trouble;
 
 /// Room for a line, which is reserved before anything is changed.
 pub fn line_room(rt: &HostRuntime, bytes: usize) -> Result<String, Trouble>
@@ -25,8 +23,8 @@ pub fn line_room(rt: &HostRuntime, bytes: usize) -> Result<String, Trouble>
     }
 }
 
-/// Closes the office of a command, and then writes what it came to, unless that is a trouble.
-/// Nothing is written, and the command is not done, where the closing failed.
+/// Closes the office of a command, and then writes the text of the command, if it has one. If the
+/// closing failed, nothing is written and the command has failed.
 pub fn close_and_print<O: Offices, W: Write>(
     rt: &HostRuntime,
     offices: &O,
@@ -38,8 +36,10 @@ pub fn close_and_print<O: Offices, W: Write>(
     ensures text { IfOk outcome (λ text.
         IsWritten W.contents (λ t. t ≡ string_bytes text) output.old output.new result) }
     ensures named { OnOk outcome (IfErr result IsTroubleOfEnding) }
-    ensures closed { OnOk result (O.Closes offices.now db.now true) }
-    ensures printed { (output.new ≡ output.old) ⊎ O.Closes offices.now db.now true }
+    ensures closed { OnOk result (O.Closes offices.now db.now office true) }
+    ensures printed { (output.new ≡ output.old) ⊎ O.Closes offices.now db.now office true }
+    ensures cut { IsOk outcome → result ≡ Err Trouble.Write
+        → O.Closes offices.now db.now office true }
     ensures trouble { IfErr outcome (λ t. (result ≡ Err t) × (output.new ≡ output.old)) }
 {
     let is_closed = offices.close_office(rt, db, office);
@@ -49,13 +49,14 @@ pub fn close_and_print<O: Offices, W: Write>(
     }
 }
 
-/// Writes what a command came to, once its office is closed: what it did remains done also where
-/// the output takes nothing.
+/// Writes the text of a command, if its office was closed. If this write fails, what the command
+/// did remains done.
 fn print_if_closed<W: Write>(is_closed: bool, text: &str, output: &mut W) -> Result<(), Trouble>
     ensures closed { is_closed ≡ false →
         (result ≡ Err Trouble.Store) × (output.new ≡ output.old) }
     ensures done { OnOk result (is_closed ≡ true) }
     ensures printed { (output.new ≡ output.old) ⊎ (is_closed ≡ true) }
+    ensures cut { result ≡ Err Trouble.Write → is_closed ≡ true }
     ensures written { IsWritten W.contents (λ t. t ≡ text.now) output.old output.new result }
     ensures named { IfErr result IsTroubleOfEnding }
 {

@@ -1,7 +1,6 @@
-//! Imports of returns. Errors are matched and returned, and not passed on by `?`, since the `?` of
-//! an enum that holds a text (`Trouble`) has no proof yet.
+//! Imports of returns.
 
-ghost use Rattle.std.specs.Prelude.{◌≡◌, ◌⊎◌, ◌≤◌, ◌+◌, Err, IfErr, IfOk, IsOk, OnOk, Some, false};
+ghost use Rattle.std.specs.Prelude.{◌≡◌, ◌≤◌, ◌+◌, Err, IfErr, IfOk, IsOk, OnOk, Some, false};
 ghost use Rattle.std.specs.Prelude.{[], is_some, length, string_bytes, string_capacity};
 ghost use Rattle.std.specs.Prelude.{string_len, true};
 ghost use Rattle.tally_setup.specs.Constituency.{list_codes};
@@ -10,31 +9,31 @@ ghost use Rattle.tally_import_records.specs.Watch.{NotesNothing, has_failed};
 ghost use Rattle.tally_keeper.specs.Delivery.{delivery};
 ghost use Rattle.tally_keeper.specs.Source.{row_limit};
 ghost use Rattle.tally_keeper.specs.StaysKeeper.{StaysKeeper};
+ghost use Rattle.tally_office_commands.specs.Done.{IsFileImported, IsImportedAt};
 ghost use Rattle.tally_office_commands.specs.Imported.{IsCountText, IsImportTrouble, IsImportText};
 ghost use Rattle.tally_office_commands.specs.Imported.{IsImportedComing, IsTextImported};
 ghost use Rattle.tally_office_commands.specs.Imported.{IsTextTrouble};
 ghost use Rattle.tally_office_commands.specs.Imported.{IsTroubleComing, coming_of, import_text};
-ghost use Rattle.tally_office_commands.specs.Trouble.{IsTroubleOfText, IsTroubleOfRows};
-ghost use Rattle.tally_office_commands.specs.Troubles.{IsTroubleOfFileImport, IsTroubleOfImport};
-ghost use Rattle.tally_office_commands.specs.Written.{IsWritten};
+ghost use Rattle.tally_office_commands.specs.Offices.{known};
+ghost use Rattle.tally_office_trouble.specs.Trouble.{IsTroubleOfText, IsTroubleOfRows};
+ghost use Rattle.tally_office_trouble.specs.Troubles.{IsTroubleOfFileImport, IsTroubleOfImport};
+ghost use Rattle.tally_office_trouble.specs.Written.{IsWritten};
 ghost use Rattle.tally_office_commands.specs.internal.Found.{IsFindTrouble};
 ghost use Rattle.tally_office_commands.specs.internal.Room.{room_of_lines};
-ghost use Rattle.tally_office_commands.specs.internal.Worked.{IsFileImported, IsFileTrouble};
+ghost use Rattle.tally_office_commands.specs.internal.Worked.{IsFileTrouble};
 
 use crate::ending::close_and_print;
-use crate::files::open_file;
-use crate::named::con_with_code;
 use crate::offices::Offices;
-use crate::trouble::Trouble;
 use std::alloc::Global;
-use std::fs::File;
 use std::io::{Read, Write};
 use tally_import::room::{COUNT_ROOM, push_count};
 use tally_import::{LINE_ROOM, ReturnRows, Sep, Watch, list_codes, push_lines};
 use tally_keeper::{ImportCount, Keeper, NamedRow, ROW_LIMIT, RowSource};
+use tally_office_trouble::{NamedFiles, Trouble, con_with_code};
 use tally_setup::{Code, Constituency, Setup};
 
 /// Lodges the returns of a file, and with `lines` names each row that is not lodged.
+#[inline(never)]
 pub fn import_at<O: Offices, W: Write>(
     rt: &HostRuntime,
     offices: &O,
@@ -45,30 +44,41 @@ pub fn import_at<O: Offices, W: Write>(
     lines: bool,
     output: &mut W,
 ) -> Result<(), Trouble>
-    ensures written { IsWritten W.contents (IsCountText lines) output.old output.new result }
+    ensures written { IsWritten W.contents (IsImportedAt (known O.Office.Keeper
+        (O.Opens offices.now) (O.Finds offices.now) (O.Makes offices.now) (O.Closes offices.now)
+        (O.Gives offices.now))
+        db.now con.now csv.now sep lines) output.old output.new result }
     ensures named { IfErr result IsTroubleOfImport }
-    ensures closed { OnOk result (O.Closes offices.now db.now true) }
-    ensures printed { (output.new ≡ output.old) ⊎ O.Closes offices.now db.now true }
 {
     let mut office = match offices.open_office(rt, db) {
         Ok(office) => office,
         Err(trouble) => return Err(trouble),
     };
-    let outcome = import_file(rt, &mut office, con, csv, sep, lines, &mut Watch::new());
+    let outcome = import_file(
+        rt,
+        offices,
+        &mut office,
+        con,
+        csv,
+        sep,
+        lines,
+        &mut Watch::new(),
+    );
     close_and_print(rt, offices, db, office, outcome, output)
 }
 
-/// The text of the import of a file. The constituency is looked up before the file is opened. A
-/// failed read is answered only where one was noted on the watch; where the rows were imported,
-/// none was.
-fn import_file<K: Keeper>(
+/// Imports a file, and returns the text of the import. The constituency is looked up before the
+/// file is opened. With the trouble `Read`, the watch has noted a failed read; with a text, it
+/// noted none.
+fn import_file<F: NamedFiles, K: Keeper>(
     rt: &HostRuntime,
+    files: &F,
     keeper: &mut K,
     con: &str,
     csv: &str,
     sep: Sep,
     lines: bool,
-    watch: &mut Watch<File>,
+    watch: &mut Watch<F::File>,
 ) -> Result<String, Trouble>
     ensures stays { StaysKeeper K.Keeper keeper.old keeper.new }
     ensures text { IfOk result (λ text. IsCountText lines (string_bytes text)) }
@@ -77,16 +87,18 @@ fn import_file<K: Keeper>(
         result ≡ Err Trouble.Read → has_failed watch.new ≡ true }
     ensures all_read { K.IsTrusted keeper.new → OnOk result (NotesNothing watch.old watch.new) }
     ensures imported { K.IsTrusted keeper.new → IfOk result (λ text.
-        IsFileImported con.now sep lines (K.constituencies keeper.old) (K.content keeper.old)
+        IsFileImported (F.Gives files.now csv.now) con.now sep lines
+        (K.constituencies keeper.old) (K.content keeper.old)
         (string_bytes text) (K.content keeper.new)) }
     ensures trouble { K.IsTrusted keeper.new → IfErr result (λ trouble.
-        IsFileTrouble con.now sep (K.constituencies keeper.old) (K.content keeper.old)
+        IsFileTrouble (F.Gives files.now csv.now) con.now sep
+        (K.constituencies keeper.old) (K.content keeper.old)
         trouble (K.content keeper.new)) }
 {
     if !has_con(keeper.setup(), con) {
         return Err(Trouble::NoConstituency);
     }
-    match open_file(rt, csv) {
+    match files.open_file(rt, csv) {
         Ok(file) => import_returns(rt.alloc(), keeper, con, sep, lines, file, watch),
         Err(trouble) => Err(trouble),
     }
@@ -119,9 +131,9 @@ fn find_con(alloc: Global, setup: &Setup, code: &str) -> Result<(Constituency, V
 }
 
 /// Imports the rows of a text into the constituency of a code: all of them, or with a trouble none,
-/// unless a disk that failed has shut the keeper. Answers how many were lodged, as text, and with
-/// `lines` a line for each row that was neither lodged nor there already. A failed read is answered
-/// only where one was noted on the watch; where the rows were imported, none was.
+/// unless a failed disk shut the keeper. Returns how many were lodged, as text, and with `lines` a
+/// line for each row that was neither lodged nor there already. With the trouble `Read`, the watch
+/// has noted a failed read; with a text, it noted none.
 pub fn import_returns<K: Keeper, R: Read + Drop>(
     alloc: Global,
     keeper: &mut K,
@@ -183,7 +195,8 @@ fn import_constituency<K: Keeper, R: Read + Drop>(
     outcome
 }
 
-/// Notes on a watch what another one of the same stream noted.
+/// Notes a failed read on a watch if another one, of the same stream, noted it. Otherwise the watch
+/// notes nothing.
 fn note<R>(watch: &mut Watch<R>, other: Watch<R>)
     ensures failed { has_failed other ≡ true → has_failed watch.new ≡ true }
     ensures kept { has_failed other ≡ false → NotesNothing watch.old watch.new }
@@ -193,10 +206,9 @@ fn note<R>(watch: &mut Watch<R>, other: Watch<R>)
     }
 }
 
-/// Imports the rows of a source: all that it gives, or with a trouble none, unless a disk that
-/// failed has shut the keeper. The trouble is that of the fault with which the source ended, or of
-/// the keeper's own. The room of what is answered is reserved before: nothing takes memory once
-/// rows are lodged.
+/// Imports the rows of a source: all that it gives, or with a trouble none, unless a failed disk
+/// shut the keeper. The trouble is that of the fault with which the source ended, or of the
+/// keeper's own. The room of the text is reserved first: nothing takes memory once rows are lodged.
 pub fn import_from<K: Keeper, R: RowSource>(
     alloc: Global,
     keeper: &mut K,
@@ -235,8 +247,8 @@ fn import_room(lines: bool) -> usize
     }
 }
 
-/// The text of an import, in one that is empty and has room for the six lines. One that has the
-/// room for the lines of the rows takes no memory.
+/// Writes the text of an import into one that is empty and has room for the six lines. If it also
+/// has the room for the lines of the rows, that takes no memory.
 fn import_text(
     mut text: String,
     lists: &[Code],

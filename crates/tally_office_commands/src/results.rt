@@ -1,4 +1,4 @@
-//! Results as lines of JSON. Errors are matched and returned, as in `show`.
+//! Results as lines of JSON.
 
 ghost use Rattle.std.specs.List.{AllZip};
 ghost use Rattle.std.specs.Prelude.{◌≡◌, ◌++◌, Err, IfErr, IfOk, None, codes, string_bytes};
@@ -7,16 +7,15 @@ ghost use Rattle.tally_machine_law.specs.Outcome.{IsLawfulView};
 ghost use Rattle.tally_report_result.specs.Result.{AreResultsText, IsResultText};
 ghost use Rattle.tally_returns.specs.View.{FitsView};
 ghost use Rattle.tally_setup.specs.Setup.{constituency_with};
-ghost use Rattle.tally_office_commands.specs.Trouble.{IsTroubleOfProgress, IsTroubleOfReport};
+ghost use Rattle.tally_office_trouble.specs.Trouble.{IsTroubleOfProgress, IsTroubleOfReport};
 ghost use Rattle.tally_office_commands.specs.Results.{AreResultsShown, IsLineOf, IsResultShown};
 ghost use Rattle.tally_office_commands.specs.Results.{IsResultTrouble, IsResultsTrouble};
 ghost use Rattle.tally_office_commands.specs.internal.Withheld.{OfCon};
 
-use crate::named::code_named;
 use crate::show::trouble_of;
-use crate::trouble::Trouble;
 use std::alloc::Global;
 use tally_keeper::Keeper;
+use tally_office_trouble::{Trouble, code_named};
 use tally_report_overview::{whole_view, whole_views};
 use tally_report_result::{result_text, results_report};
 use tally_returns::ConView;

@@ -1,44 +1,47 @@
-//! What the office shows, as text. Errors are matched and returned, and not passed on by `?`, since
-//! the `?` of an enum that holds a text (`Trouble`) has no proof yet.
+//! What the office shows, as text.
 
 ghost use Rattle.std.specs.List.{AllZip};
-ghost use Rattle.std.specs.Prelude.{◌≡◌, ◌⊎◌, Err, IfErr, IfOk, None, OnOk, Some, is_some};
+ghost use Rattle.std.specs.Prelude.{◌≡◌, Err, IfErr, IfOk, None, Some, is_some};
 ghost use Rattle.std.specs.Prelude.{option_map, string_bytes, true};
 ghost use Rattle.tally_keeper.specs.StaysKeeper.{StaysKeeper};
 ghost use Rattle.tally_report_overview.specs.CountryText.{country_text};
-ghost use Rattle.tally_report.specs.ProgressText.{progress_text};
-ghost use Rattle.tally_report_overview.specs.Shown.{needs_con, stations_report};
+ghost use Rattle.tally_report_overview.specs.ProgressText.{progress_text};
+ghost use Rattle.tally_report_names.specs.Names.{needs_con};
+ghost use Rattle.tally_report_overview.specs.StationsReport.{stations_report};
 ghost use Rattle.tally_returns.specs.View.{FitsView};
 ghost use Rattle.tally_setup.specs.Setup.{constituency_with};
 ghost use Rattle.tally_report.specs.Reports.{IsEnoughFor, report_fault};
-ghost use Rattle.tally_office_commands.specs.Trouble.{IsTroubleOfDatabase, IsTroubleOfProgress};
-ghost use Rattle.tally_office_commands.specs.Trouble.{IsTroubleOfReport};
+ghost use Rattle.tally_office_trouble.specs.Trouble.{IsTroubleOfDatabase, IsTroubleOfProgress};
+ghost use Rattle.tally_office_trouble.specs.Trouble.{IsTroubleOfReport};
+ghost use Rattle.tally_office_commands.specs.Done.{IsShownAt, IsTextShown};
+ghost use Rattle.tally_office_commands.specs.Offices.{known};
 ghost use Rattle.tally_office_commands.specs.Show.{AreStationsShown, IsCountryShown};
 ghost use Rattle.tally_office_commands.specs.Show.{IsCountryTrouble};
 ghost use Rattle.tally_office_commands.specs.Show.{IsGiven, IsProgressShown, IsProgressTrouble};
 ghost use Rattle.tally_office_commands.specs.Show.{IsReportShown, IsReportTrouble};
-ghost use Rattle.tally_office_commands.specs.Show.{IsStationsTrouble};
-ghost use Rattle.tally_office_commands.specs.Troubles.{IsTroubleOfShow};
-ghost use Rattle.tally_office_commands.specs.Written.{IsAnyText, IsWritten};
+ghost use Rattle.tally_office_commands.specs.Show.{IsStationsTrouble, report_trouble};
+ghost use Rattle.tally_office_trouble.specs.Troubles.{IsTroubleOfShow};
+ghost use Rattle.tally_office_trouble.specs.Written.{IsWritten};
 ghost use Rattle.tally_office_commands.specs.internal.Withheld.{IsWithheld, OfCon, refusal_trouble};
-ghost use Rattle.tally_office_commands.specs.internal.Worked.{IsShowTrouble, IsTextShown};
+ghost use Rattle.tally_office_commands.specs.internal.Worked.{IsShowTrouble};
 
 use crate::ending::close_and_print;
-use crate::named::code_named;
 use crate::offices::Offices;
 use crate::results::{show_result, show_results};
-use crate::trouble::Trouble;
 use std::alloc::Global;
 use std::io::Write;
 use tally_keeper::Keeper;
-use tally_report::{Report, progress_text, report_text};
+use tally_office_trouble::{Trouble, code_named};
+use tally_report::{ReportFault, report_text};
+use tally_report_names::{Report, Shown, StationsReport};
 use tally_report_overview::{
-    Shown, StationsReport, all_views, country_report, progress_of, stations_report_text, view_for,
+    all_views, country_report, progress_of, progress_text, stations_report_text, view_for,
 };
 use tally_returns::{ConView, ProgressRow, Refusal, StationRow};
 use tally_setup::{Code, Setup};
 
-/// Prints a report, of the constituency that is named where it is of one.
+/// Prints a report. If it is of one constituency, `con` is the code of that.
+#[inline(never)]
 pub fn show_at<O: Offices, W: Write>(
     rt: &HostRuntime,
     offices: &O,
@@ -48,10 +51,11 @@ pub fn show_at<O: Offices, W: Write>(
     output: &mut W,
 ) -> Result<(), Trouble>
     requires { needs_con report ≡ true → is_some con ≡ true }
-    ensures written { IsWritten W.contents IsAnyText output.old output.new result }
+    ensures written { IsWritten W.contents (IsShownAt (known O.Office.Keeper
+        (O.Opens offices.now) (O.Finds offices.now) (O.Makes offices.now) (O.Closes offices.now)
+        (O.Gives offices.now))
+        db.now report (option_map (λ c. c.now) con.entry)) output.old output.new result }
     ensures named { IfErr result IsTroubleOfShow }
-    ensures closed { OnOk result (O.Closes offices.now db.now true) }
-    ensures printed { (output.new ≡ output.old) ⊎ O.Closes offices.now db.now true }
 {
     let mut office = match offices.open_office(rt, db) {
         Ok(office) => office,
@@ -207,7 +211,7 @@ fn text_of(
     };
     match report_text(alloc, con, view, which) {
         Ok(text) => Ok(text),
-        Err(fault) => Err(Trouble::from_report(fault)),
+        Err(fault) => Err(trouble_of_report(fault)),
     }
 }
 
@@ -255,7 +259,19 @@ fn text_of_country(alloc: Global, setup: &Setup, views: &[ConView]) -> Result<St
     }
 }
 
-/// Why something that the office has is not shown.
+/// Why a report is not given.
+pub fn trouble_of_report(fault: ReportFault) -> Trouble
+    ensures trouble { result ≡ report_trouble fault }
+    ensures named { IsTroubleOfReport result }
+{
+    match fault {
+        ReportFault::NotCertified => Trouble::NotCertified,
+        ReportFault::OtherMethod => Trouble::OtherMethod,
+        ReportFault::Memory => Trouble::Memory,
+    }
+}
+
+/// The trouble of a refusal to show something.
 pub(crate) fn trouble_of(refusal: Refusal) -> Trouble
     ensures trouble { result ≡ refusal_trouble refusal }
     ensures named { IsTroubleOfDatabase result }

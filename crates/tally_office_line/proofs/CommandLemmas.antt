@@ -35,8 +35,8 @@ use Rattle.tally_office_line.specs.declared.line.Line.{Line}
 use Rattle.tally_office_line.specs.declared.line.Line.TheVariants as line
 use Rattle.tally_office_line.specs.declared.line.LineFault.{LineFault}
 use Rattle.tally_office_line.specs.declared.line.LineFault.TheVariants.{Memory, NoCon, Usage}
-use Rattle.tally_report_overview.specs.Shown.{needs_con}
-use Rattle.tally_report_overview.specs.declared.shown.Shown.{Shown}
+use Rattle.tally_report_names.specs.Names.{needs_con}
+use Rattle.tally_report_names.specs.declared.shown.Shown.{Shown}
 use Rattle.tally_office_line.proofs.LeafLemmas.{IsReadable, LeafFits, OnFound, both_empty, found_each, leaf_fits, not_empty, value_given}
 
 pub office_is_simple : is_simple office_app ≡ true

@@ -21,7 +21,8 @@ use Rattle.clap.specs.declared.builder.ValueParser.TheVariants.{Unsigned}
 use Rattle.tally_frac.specs.Limits.{most_seats, most_votes, whole_base}
 use Rattle.tally_import_records.specs.declared.separator.Sep.{Sep}
 use Rattle.tally_import_records.specs.declared.separator.Sep.TheVariants.{Comma, Semicolon}
-use Rattle.tally_import_recount.specs.Wanted.{Wanted as WantedRecount, wanted as recount_wanted}
+use Rattle.tally_import_votes.specs.WantedRecount.{Wanted as WantedRecount}
+use Rattle.tally_import_votes.specs.WantedRecount.{wanted as recount_wanted}
 use Rattle.tally_import_votes.specs.Wanted.{Wanted, wanted}
 use Rattle.tally_setup.specs.Method.{method_named}
 use Rattle.tally_setup.specs.declared.profile.Base.{Base}
@@ -33,8 +34,8 @@ use Rattle.tally_office_line.specs.declared.line.Line.{Line}
 use Rattle.tally_office_line.specs.declared.line.Line.TheVariants as line
 use Rattle.tally_office_line.specs.declared.line.LineFault.{LineFault}
 use Rattle.tally_office_line.specs.declared.line.LineFault.TheVariants.{Usage, NoCon, Memory}
-use Rattle.tally_report_overview.specs.Shown.{needs_con, shown_named}
-use Rattle.tally_report_overview.specs.declared.shown.Shown.{Shown}
+use Rattle.tally_report_names.specs.Names.{needs_con, shown_named}
+use Rattle.tally_report_names.specs.declared.shown.Shown.{Shown}
 
 -- ---- what the program offers
 

@@ -28,10 +28,10 @@ use clap::builder::ValueParser;
 use clap::error::ErrorKind;
 use clap::{Arg, ArgAction, ArgMatches, Command};
 use std::alloc::{AllocError, Global};
+use tally_frac::MOST_VOTES;
 use tally_import_records::Sep;
-use tally_import_recount::RecountOptions;
-use tally_import_votes::AllotOptions;
-use tally_report_overview::Shown;
+use tally_import_votes::{AllotOptions, RecountOptions};
+use tally_report_names::Shown;
 use tally_setup::{Base, LotRule, Method, Profile};
 
 const CHECK: &str = "check";
@@ -90,11 +90,9 @@ const MOST_PORT: u64 = 65535;
 
 const MOST_COUNT: u64 = 1_000_000;
 
-const MOST_SEATS: u64 = 500;
+const MOST_SEATS: u64 = tally_frac::MOST_SEATS as u64;
 
-const WHOLE_BASE: u64 = 10_000;
-
-const MOST_VOTES: u64 = 5_000_000_000;
+const WHOLE_BASE: u64 = tally_frac::WHOLE_BASE as u64;
 
 const METHODS: &str = "dhondt, sainte-lague, modified-sainte-lague, hare";
 

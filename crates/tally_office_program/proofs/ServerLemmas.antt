@@ -1,22 +1,31 @@
 -- How a server ends, by what serving and its ending came to.
-use Rattle.std.proofs.Common.{◌≡◌, ◌⊎◌, ℕ, Result, Ok, Err, IfErr, OnOk, OnErr, refl, arith, inl, inr}
-use Rattle.tally_office_commands.specs.Served.{IsServedText, listening_line, served_line}
-use Rattle.tally_office_commands.specs.Reported.{IsReported}
-use Rattle.tally_office_commands.specs.declared.trouble.Trouble.{Trouble}
-use Rattle.tally_office_commands.specs.declared.trouble.Trouble.TheVariants as trouble
+use Rattle.std.proofs.Common.{◌≡◌, ◌⊎◌, ℕ, List, Result, Ok, Err, IfErr, IfOk, OnOk, OnErr, refl, inl, inr}
+use Rattle.tally_office_program.specs.Served.{listening_line}
+use Rattle.tally_office_trouble.specs.Reported.{IsReported}
+use Rattle.tally_office_trouble.specs.declared.trouble.Trouble.{Trouble}
+use Rattle.tally_office_trouble.specs.declared.trouble.Trouble.TheVariants as trouble
 use Rattle.tally_office_commands.specs.Offices.{OpeningOutcome}
-use Rattle.tally_office_commands.specs.Troubles.{IsTroubleOfEnding, IsTroubleBeforeServing}
-use Rattle.tally_office_commands.specs.Written.{Bytes}
-use Rattle.tally_office_commands.proofs.WrittenLemmas.{Example}
+use Rattle.tally_office_trouble.specs.Troubles.{IsTroubleOfEnding, IsTroubleBeforeServing}
+use Rattle.tally_office_trouble.specs.Written.{Bytes}
 use Rattle.tally_office_program.specs.Commands.{IsTroubleOfListening, Listened, NotListening, TakesCourse}
-
-pub served : (count : ℕ) → Example (IsServedText count)
-served count = (served_line 0 count, (0, count, omega arith, refl))
 
 -- a trouble of listening is one before serving
 pub serving : (Listens : OpeningOutcome) (t : Trouble) → IsTroubleOfListening Listens t → IsTroubleBeforeServing t
 serving Listens t (inl memory) = inl memory
 serving Listens t (inr port) = inr port.0
+
+-- and so no failed write
+pub unlistened : (Listens : OpeningOutcome) (t : Trouble) → IsTroubleOfListening Listens t → t ≡ trouble.Write → ⊥
+unlistened Listens t (inl memory) e = cc
+unlistened Listens t (inr port) e = port-only t port.0 e
+  where
+    port-only : (t : Trouble) → t ≡ trouble.Port → t ≡ trouble.Write → ⊥
+    port-only t is e = cc
+
+-- the text of a server does not depend on its office
+pub whatever : {S : Type 0} (Closed : Type 0) (IsText : List ℕ → Type 0) (bytes : S → List ℕ) (outcome : Result S Trouble) → IfOk outcome (λ text. IsText (bytes text)) → IfOk outcome (λ text. Closed → IsText (bytes text))
+whatever Closed IsText bytes (Ok text) is = λ closed. is
+whatever Closed IsText bytes (Err t) is = tt
 
 -- the course of a server whose office was opened, by what serving came to, and then its ending
 pub takes : {E S : Type 0} (Opens Listens : OpeningOutcome) (reported : Bytes E) (port count : ℕ) (Same : Type 0) (old new : E) (outcome : Result S Trouble) (r : Result (Unit {0}) Trouble)

@@ -1,14 +1,13 @@
--- What a command over an office leaves on the three streams of the program, and its exit status. No
--- contract says what is in its files.
+-- What a command over an office leaves on the three streams of the program, and its exit status.
 use Rattle.std.specs.Prelude.{◌≡◌, ◌⊎◌, ℕ, List, Result, Ok, Err, IfErr}
 use Rattle.tally_office_commands.specs.Offices.{OpeningOutcome}
-use Rattle.tally_office_commands.specs.Served.{IsServedText, listening_line}
-use Rattle.tally_office_commands.specs.Reported.{IsReported}
-use Rattle.tally_office_commands.specs.Trouble.{IsTroubleOfOpening}
-use Rattle.tally_office_commands.specs.declared.trouble.Trouble.{Trouble}
-use Rattle.tally_office_commands.specs.declared.trouble.Trouble.TheVariants.{Memory, Port}
-use Rattle.tally_office_commands.specs.Troubles.{IsTroubleOfEnding, IsTroubleOfServe}
-use Rattle.tally_office_commands.specs.Written.{Bytes, IsWritten}
+use Rattle.tally_office_program.specs.Served.{IsServedText, listening_line}
+use Rattle.tally_office_trouble.specs.Reported.{IsReported}
+use Rattle.tally_office_trouble.specs.Trouble.{IsTroubleOfOpening}
+use Rattle.tally_office_trouble.specs.declared.trouble.Trouble.{Trouble}
+use Rattle.tally_office_trouble.specs.declared.trouble.Trouble.TheVariants.{Memory, Port}
+use Rattle.tally_office_trouble.specs.Troubles.{IsTroubleOfEnding, IsTroubleOfServe}
+use Rattle.tally_office_trouble.specs.Written.{Bytes, IsWritten}
 use Rattle.tally_office_streams.specs.Streams.{IsOutcomeReported, Streams, command_status}
 
 -- ---- how a command ends

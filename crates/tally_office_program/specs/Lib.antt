@@ -1,3 +1,4 @@
 pub mod internal
+pub mod Served
 pub mod Commands
 pub mod Perform

@@ -4,6 +4,7 @@
 
 mod performing;
 mod serve;
+mod server_lines;
 
 pub use performing::perform;
 pub use tally_office_streams::{DONE, USAGE, report_start};

@@ -1,14 +1,16 @@
 //! What the program does for a command line.
 
 ghost use Rattle.std.specs.Prelude.{◌≡◌, map, string_bytes};
+ghost use Rattle.tally_office_commands.specs.Offices.{known};
 ghost use Rattle.tally_office_program.specs.Perform.{Performs};
 ghost use Rattle.tally_office_streams.specs.Streams.{IsOutcomeReported, command_status, streams};
 
 use crate::serve::serve_office;
 use std::io::{Read, Write};
-use tally_office_commands::{Offices, Trouble, import_at, make_at, show_at};
+use tally_office_commands::{Offices, import_at, make_at, show_at};
 use tally_office_line::{Line, read_line};
 use tally_office_streams::{DONE, allot_streams, check_streams, recount_streams, report_fault};
+use tally_office_trouble::Trouble;
 
 /// Does what a command line asks for, the program's name first, over these offices, and answers the
 /// exit status. Help, refusals and failures go to `errors`, where a write that fails is passed
@@ -21,9 +23,10 @@ pub fn perform<O: Offices, R: Read, W: Write, E: Write>(
     output: &mut W,
     errors: &mut E,
 ) -> u8
-    ensures { Performs (O.Opens offices.now) R.remaining W.contents E.contents
-        (map string_bytes words.now) (streams input.old output.old errors.old)
-        (streams input.new output.new errors.new) result }
+    ensures { Performs (known O.Office.Keeper (O.Opens offices.now) (O.Finds offices.now)
+        (O.Makes offices.now) (O.Closes offices.now) (O.Gives offices.now))
+        R.remaining W.contents E.contents (map string_bytes words.now)
+        (streams input.old output.old errors.old) (streams input.new output.new errors.new) result }
 {
     match read_line(rt.alloc(), words) {
         Ok(Line::Check { sep, rows }) => {
@@ -36,7 +39,7 @@ pub fn perform<O: Offices, R: Read, W: Write, E: Write>(
                 con,
                 options,
             },
-        ) => recount_streams(rt, &setup, &con, &options, input, output, errors),
+        ) => recount_streams(rt, offices, &setup, &con, &options, input, output, errors),
         Ok(Line::New { db, setup }) => {
             let outcome = make_at(rt, offices, &db, &setup, output);
             report_command(&outcome, errors)

@@ -5,23 +5,23 @@ ghost use Rattle.std.specs.Prelude.{◌≡◌, ◌≤◌, [], IfErr, IfOk, OnErr
 ghost use Rattle.std.specs.Prelude.{string_capacity, string_len};
 ghost use Rattle.tally_desk.specs.Respond.{office_of};
 ghost use Rattle.tally_office_commands.specs.Offices.{AtPath, AtPort};
-ghost use Rattle.tally_office_commands.specs.Reported.{IsReported};
-ghost use Rattle.tally_office_commands.specs.Served.{IsServedText, listening_line};
-ghost use Rattle.tally_office_commands.specs.Troubles.{IsTroubleOfServe};
-ghost use Rattle.tally_office_commands.specs.Written.{IsWritten};
+ghost use Rattle.tally_office_trouble.specs.Reported.{IsReported};
+ghost use Rattle.tally_office_program.specs.Served.{IsServedText, listening_line};
+ghost use Rattle.tally_office_trouble.specs.Troubles.{IsTroubleOfServe};
+ghost use Rattle.tally_office_trouble.specs.Written.{IsWritten};
 ghost use Rattle.tally_office_program.specs.Commands.{IsTroubleOfListening, TakesCourse};
 ghost use Rattle.tally_office_program.specs.internal.Served.{IsReportOfServing};
 
+use crate::server_lines::{LISTENING_ROOM, SERVED_ROOM, listening_text, served_text};
 use std::alloc::Global;
 use std::io::Write;
 use tally_desk::{Door, TcpDoor, serve};
 use tally_keeper::Keeper;
-use tally_office_commands::{
-    LISTENING_ROOM, Offices, SERVED_ROOM, Trouble, close_and_print, line_room, listening_text,
-    served_text, tell,
-};
+use tally_office_commands::{Offices, close_and_print, line_room};
+use tally_office_trouble::{Trouble, tell};
 
 /// Serves this many connections on this machine's own address, one after the other.
+#[inline(never)]
 pub fn serve_office<O: Offices, W: Write, E: Write>(
     rt: &HostRuntime,
     offices: &O,

@@ -4,6 +4,7 @@
 use std::process::ExitCode;
 use std::{env, io};
 use tally_office_streams::{perform_streams, report_start};
+use tally_office_trouble::MachineFiles;
 
 fn main(rt: HostRuntime) -> ExitCode {
     let status = match run(&rt) {
@@ -18,6 +19,7 @@ fn run(rt: &HostRuntime) -> io::Result<u8> {
     let words: Vec<String> = env::args(rt)?.collect(rt.alloc())?;
     Ok(perform_streams(
         rt,
+        &MachineFiles,
         words.as_slice(),
         &mut rt.stdin(),
         &mut rt.stdout(),

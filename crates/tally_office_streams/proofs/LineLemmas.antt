@@ -1,7 +1,7 @@
 -- A command line that is not carried out.
 use Rattle.std.proofs.Common.{◌≡◌, ℕ, List, Option, Some, None, refl, sym, subst, inl, inr, codes}
-use Rattle.tally_office_commands.specs.Reported.{IsReported}
-use Rattle.tally_office_commands.specs.Written.{Bytes}
+use Rattle.tally_office_trouble.specs.Reported.{IsReported}
+use Rattle.tally_office_trouble.specs.Written.{Bytes}
 use Rattle.tally_office_line.specs.Line.{AllotSeen, CheckSeen, ImportSeen, IsRefusal, LineSeen, NewSeen, RecountSeen, ServeSeen, ShowSeen, line_of}
 use Rattle.tally_office_line.specs.declared.line.LineFault.{LineFault}
 use Rattle.tally_office_line.specs.declared.line.LineFault.TheVariants.{Usage, NoCon, Memory}
@@ -51,23 +51,23 @@ refused reported words (Usage e) i o before after status Says memory none is giv
     }))
 
 -- out of memory, whatever the words ask for, in a program that has no office
-without-memory : {R W E : Type 0} (left : Bytes R) (held : Bytes W) (reported : Bytes E) (words : List (List ℕ)) (i : R) (o : W) (before after : E) (line : Option LineSeen)
+without-memory : {R W E : Type 0} (Gives : List ℕ → Option (List ℕ) → Type 0) (left : Bytes R) (held : Bytes W) (reported : Bytes E) (words : List (List ℕ)) (i : R) (o : W) (before after : E) (line : Option LineSeen)
     → IsReported (reported before) (reported after) (codes "failed: memory\n")
-    → PerformsStreamsLine left held reported words line (streams i o before) (streams i o after) 3
-without-memory left held reported words i o before after (Some (CheckSeen sep rows)) so = inr (not-begun reported i o before after so)
-without-memory left held reported words i o before after (Some (AllotSeen w)) so = inr (not-begun reported i o before after so)
-without-memory left held reported words i o before after (Some (RecountSeen setup con w)) so = inr (not-begun reported i o before after so)
-without-memory left held reported words i o before after (Some (NewSeen db setup)) so = inr (not-begun reported i o before after so)
-without-memory left held reported words i o before after (Some (ImportSeen db con csv sep rows)) so = inr (not-begun reported i o before after so)
-without-memory left held reported words i o before after (Some (ShowSeen db name con)) so = inr (not-begun reported i o before after so)
-without-memory left held reported words i o before after (Some (ServeSeen db port count)) so = inr (not-begun reported i o before after so)
-without-memory left held reported words i o before after None so = not-refused reported words i o before after so
+    → PerformsStreamsLine Gives left held reported words line (streams i o before) (streams i o after) 3
+without-memory Gives left held reported words i o before after (Some (CheckSeen sep rows)) so = inr (not-begun reported i o before after so)
+without-memory Gives left held reported words i o before after (Some (AllotSeen w)) so = inr (not-begun reported i o before after so)
+without-memory Gives left held reported words i o before after (Some (RecountSeen setup con w)) so = inr (not-begun reported i o before after so)
+without-memory Gives left held reported words i o before after (Some (NewSeen db setup)) so = inr (not-begun reported i o before after so)
+without-memory Gives left held reported words i o before after (Some (ImportSeen db con csv sep rows)) so = inr (not-begun reported i o before after so)
+without-memory Gives left held reported words i o before after (Some (ShowSeen db name con)) so = inr (not-begun reported i o before after so)
+without-memory Gives left held reported words i o before after (Some (ServeSeen db port count)) so = inr (not-begun reported i o before after so)
+without-memory Gives left held reported words i o before after None so = not-refused reported words i o before after so
 
-pub refused-streams : {R W E : Type 0} (left : Bytes R) (held : Bytes W) (reported : Bytes E) (words : List (List ℕ)) (fault : LineFault) (i : R) (o : W) (before after : E) (status : ℕ)
+pub refused-streams : {R W E : Type 0} (Gives : List ℕ → Option (List ℕ) → Type 0) (left : Bytes R) (held : Bytes W) (reported : Bytes E) (words : List (List ℕ)) (fault : LineFault) (i : R) (o : W) (before after : E) (status : ℕ)
     → IsRefusal words fault → status ≡ fault_status fault
     → (status ≡ 3 → IsReported (reported before) (reported after) (codes "failed: memory\n"))
     → (fault ≡ NoCon → IsReported (reported before) (reported after) (codes "missing --con\n"))
-    → PerformsStreams left held reported words (streams i o before) (streams i o after) status
-refused-streams left held reported words fault i o before after status =
-    refused reported words fault i o before after status (λ line n. PerformsStreamsLine left held reported words line (streams i o before) (streams i o after) n)
-    (λ line so. without-memory left held reported words i o before after line so) (λ refuses. refuses)
+    → PerformsStreams Gives left held reported words (streams i o before) (streams i o after) status
+refused-streams Gives left held reported words fault i o before after status =
+    refused reported words fault i o before after status (λ line n. PerformsStreamsLine Gives left held reported words line (streams i o before) (streams i o after) n)
+    (λ line so. without-memory Gives left held reported words i o before after line so) (λ refuses. refuses)

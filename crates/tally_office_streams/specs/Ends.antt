@@ -7,10 +7,10 @@ use Rattle.tally_import_votes.specs.Allots.{Allots, IsSilent as IsSilentAllot}
 use Rattle.tally_import_votes.specs.Troubles.{allot_line, allot_status}
 use Rattle.tally_import_votes.specs.Wanted.{Wanted}
 use Rattle.tally_import_votes.specs.declared.fault.AllotTrouble.{AllotTrouble}
-use Rattle.tally_office_commands.specs.Reported.{IsReported}
-use Rattle.tally_office_commands.specs.Trouble.{check_trouble}
-use Rattle.tally_office_commands.specs.Written.{Bytes}
-use Rattle.tally_office_commands.specs.declared.trouble.Trouble.{Trouble}
+use Rattle.tally_office_trouble.specs.Reported.{IsReported}
+use Rattle.tally_office_trouble.specs.Trouble.{check_trouble}
+use Rattle.tally_office_trouble.specs.Written.{Bytes}
+use Rattle.tally_office_trouble.specs.declared.trouble.Trouble.{Trouble}
 use Rattle.tally_office_streams.specs.Streams.{IsOutcomeReported, Streams, command_status}
 
 -- ---- checks

@@ -1,7 +1,7 @@
 -- What becomes of a command line that needs no office, or cannot be carried out.
 use Rattle.std.specs.Prelude.{◌≡◌, ◌⊎◌, ℕ, List, Option, Some, None, codes}
-use Rattle.tally_office_commands.specs.Reported.{IsReported}
-use Rattle.tally_office_commands.specs.Written.{Bytes}
+use Rattle.tally_office_trouble.specs.Reported.{IsReported}
+use Rattle.tally_office_trouble.specs.Written.{Bytes}
 use Rattle.tally_office_line.specs.Line.{AllotSeen, CheckSeen, LacksCon, LineSeen, RecountSeen}
 use Rattle.tally_office_line.specs.Line.{line_of}
 use Rattle.tally_office_line.specs.declared.line.LineFault.{LineFault}
@@ -53,22 +53,25 @@ pub record IsWithoutOffice {R W E : Type 0} (reported : Bytes E)
   pub report : IsReported (reported old.errors) (reported new.errors) no_office_line
   pub gives : status ≡ 2
 
--- What becomes there of what the words ask for. It may be out of memory before it begins.
-abbrev pub PerformsStreamsLine : {R W E : Type 0} → Bytes R → Bytes W → Bytes E → List (List ℕ)
-    → Option LineSeen → Streams R W E → Streams R W E → ℕ → Type 0
-PerformsStreamsLine left held reported words (Some (CheckSeen sep rows)) old new status =
+-- What becomes there of what the words ask for, where opening the file at a path gave one of such
+-- bytes. It may be out of memory before it begins.
+abbrev pub PerformsStreamsLine : {R W E : Type 0} → (List ℕ → Option (List ℕ) → Type 0)
+    → Bytes R → Bytes W → Bytes E → List (List ℕ) → Option LineSeen
+    → Streams R W E → Streams R W E → ℕ → Type 0
+PerformsStreamsLine Gives left held reported words (Some (CheckSeen sep rows)) old new status =
     EndsCheck left held reported rows sep old new status ⊎ HasNotBegun reported old new status
-PerformsStreamsLine left held reported words (Some (AllotSeen w)) old new status =
+PerformsStreamsLine Gives left held reported words (Some (AllotSeen w)) old new status =
     EndsAllot left held reported w old new status ⊎ HasNotBegun reported old new status
-PerformsStreamsLine left held reported words (Some (RecountSeen setup con w)) old new status =
-    EndsRecount left held reported con w old new status ⊎ HasNotBegun reported old new status
-PerformsStreamsLine left held reported words (Some other) old new status =
+PerformsStreamsLine Gives left held reported words (Some (RecountSeen setup con w)) old new status =
+    EndsRecount (Gives setup) left held reported con w old new status
+    ⊎ HasNotBegun reported old new status
+PerformsStreamsLine Gives left held reported words (Some other) old new status =
     IsWithoutOffice reported old new status ⊎ HasNotBegun reported old new status
-PerformsStreamsLine left held reported words None old new status =
+PerformsStreamsLine Gives left held reported words None old new status =
     RefusesLine reported words old new status
 
 -- What such a program does for these words, its name first.
-abbrev pub PerformsStreams : {R W E : Type 0} → Bytes R → Bytes W → Bytes E → List (List ℕ)
-    → Streams R W E → Streams R W E → ℕ → Type 0
-PerformsStreams left held reported words =
-    PerformsStreamsLine left held reported words (line_of words)
+abbrev pub PerformsStreams : {R W E : Type 0} → (List ℕ → Option (List ℕ) → Type 0)
+    → Bytes R → Bytes W → Bytes E → List (List ℕ) → Streams R W E → Streams R W E → ℕ → Type 0
+PerformsStreams Gives left held reported words =
+    PerformsStreamsLine Gives left held reported words (line_of words)

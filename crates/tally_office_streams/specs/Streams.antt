@@ -1,9 +1,9 @@
 -- The streams of the program, and what a command leaves on standard error.
 use Rattle.std.specs.Prelude.{◌≡◌, ℕ, Result, Ok, Err, codes}
-use Rattle.tally_office_commands.specs.Reported.{IsReported}
-use Rattle.tally_office_commands.specs.Trouble.{trouble_line, trouble_status}
-use Rattle.tally_office_commands.specs.Written.{Bytes}
-use Rattle.tally_office_commands.specs.declared.trouble.Trouble.{Trouble}
+use Rattle.tally_office_trouble.specs.Reported.{IsReported}
+use Rattle.tally_office_trouble.specs.Trouble.{trouble_line, trouble_status}
+use Rattle.tally_office_trouble.specs.Written.{Bytes}
+use Rattle.tally_office_trouble.specs.declared.trouble.Trouble.{Trouble}
 
 -- The input, the output and the standard error of the program.
 pub record Streams (R W E : Type 0) : Type 0 where

@@ -2,7 +2,7 @@
 
 ghost use Rattle.std.specs.Prelude.{◌≡◌, map, string_bytes};
 ghost use Rattle.tally_import_votes.specs.Wanted.{wanted};
-ghost use Rattle.tally_office_commands.specs.Reported.{IsReported};
+ghost use Rattle.tally_office_trouble.specs.Reported.{IsReported};
 ghost use Rattle.tally_office_streams.specs.Ends.{EndsAllot, EndsCheck, IsAllotAnswered};
 ghost use Rattle.tally_office_streams.specs.Ends.{check_outcome};
 ghost use Rattle.tally_office_streams.specs.Line.{PerformsStreams, no_office_line};
@@ -15,8 +15,8 @@ use std::io::{Read, Write};
 use tally_import::{CheckFault, check_csv};
 use tally_import_records::Sep;
 use tally_import_votes::{AllotOptions, AllotTrouble, allot_csv};
-use tally_office_commands::{Trouble, tell};
 use tally_office_line::{Line, read_line};
+use tally_office_trouble::{NamedFiles, Trouble, tell};
 
 /// Checks the returns that a reader gives, and answers the exit status.
 pub fn check_streams<R: Read, W: Write, E: Write>(
@@ -52,15 +52,17 @@ pub fn allot_streams<R: Read, W: Write, E: Write>(
 /// Does what a command line asks for, the program's name first, in a program that has no office,
 /// and answers the exit status. A command that needs an office is refused by one line. Help,
 /// refusals and failures go to `errors`, where a write that fails is passed over.
-pub fn perform_streams<R: Read, W: Write, E: Write>(
+pub fn perform_streams<F: NamedFiles, R: Read, W: Write, E: Write>(
     rt: &HostRuntime,
+    files: &F,
     words: &[String],
     input: &mut R,
     output: &mut W,
     errors: &mut E,
 ) -> u8
-    ensures { PerformsStreams R.remaining W.contents E.contents (map string_bytes words.now)
-        (streams input.old output.old errors.old) (streams input.new output.new errors.new) result }
+    ensures { PerformsStreams (F.Gives files.now) R.remaining W.contents E.contents
+        (map string_bytes words.now) (streams input.old output.old errors.old)
+        (streams input.new output.new errors.new) result }
 {
     match read_line(rt.alloc(), words) {
         Ok(Line::Check { sep, rows }) => {
@@ -73,7 +75,7 @@ pub fn perform_streams<R: Read, W: Write, E: Write>(
                 con,
                 options,
             },
-        ) => recount_streams(rt, &setup, &con, &options, input, output, errors),
+        ) => recount_streams(rt, files, &setup, &con, &options, input, output, errors),
         Ok(Line::New { .. }) => refuse_command(errors),
         Ok(Line::Import { .. }) => refuse_command(errors),
         Ok(Line::Show { .. }) => refuse_command(errors),

@@ -2,7 +2,7 @@
 //! `?` of an enum that holds a text (`Trouble`) has no proof yet.
 
 ghost use Rattle.std.specs.Prelude.{◌≡◌, Some};
-ghost use Rattle.tally_import_recount.specs.Wanted.{wanted};
+ghost use Rattle.tally_import_votes.specs.WantedRecount.{wanted};
 ghost use Rattle.tally_setup.specs.Limits.{IsSetup};
 ghost use Rattle.tally_setup.specs.Setup.{constituency_with};
 ghost use Rattle.tally_office_streams.specs.Recounted.{EndsRecount, IsRecountAnswered};
@@ -12,13 +12,14 @@ use crate::reporting::DONE;
 use std::alloc::Global;
 use std::io::{Read, Write};
 use tally_import_recount::{RecountOptions, RecountTrouble, recount_csv};
-use tally_office_commands::{Trouble, con_named, setup_at, tell};
+use tally_office_trouble::{NamedFiles, Trouble, con_named, setup_at, tell};
 
 /// Counts the returns again that a reader gives, those of a constituency of the setup in a file,
 /// and answers the exit status. The setup is read, and the constituency found, before anything is
 /// read from the reader.
-pub fn recount_streams<R: Read, W: Write, E: Write>(
+pub fn recount_streams<F: NamedFiles, R: Read, W: Write, E: Write>(
     rt: &HostRuntime,
+    files: &F,
     setup: &str,
     con: &str,
     options: &RecountOptions,
@@ -26,10 +27,11 @@ pub fn recount_streams<R: Read, W: Write, E: Write>(
     output: &mut W,
     errors: &mut E,
 ) -> u8
-    ensures { EndsRecount R.remaining W.contents E.contents con.now (wanted options.now)
-        (streams input.old output.old errors.old) (streams input.new output.new errors.new) result }
+    ensures { EndsRecount (F.Gives files.now setup.now) R.remaining W.contents E.contents
+        con.now (wanted options.now) (streams input.old output.old errors.old)
+        (streams input.new output.new errors.new) result }
 {
-    let setup = match setup_at(rt, setup) {
+    let setup = match setup_at(rt, files, setup) {
         Ok(setup) => setup,
         Err(trouble) => return trouble.report(errors),
     };

@@ -2,12 +2,12 @@
 
 ghost use Rattle.std.specs.Prelude.{◌≡◌, ◌≢◌, codes};
 ghost use Rattle.std.specs.IoError.{error_kind};
-ghost use Rattle.tally_office_commands.specs.Reported.{IsReported};
+ghost use Rattle.tally_office_trouble.specs.Reported.{IsReported};
 ghost use Rattle.tally_office_streams.specs.Line.{fault_status, not_text_line};
 
 use std::io::{self, ErrorKind, Write};
-use tally_office_commands::{FAILED, Trouble, tell};
 use tally_office_line::LineFault;
+use tally_office_trouble::{FAILED, Trouble, tell};
 
 /// The exit status where all was done.
 pub const DONE: u8 = 0;

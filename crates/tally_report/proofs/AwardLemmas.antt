@@ -21,7 +21,8 @@ use Rattle.tally_setup.specs.Constituency.{Constituency}
 use Rattle.tally_setup.specs.Threshold.{base_of, is_eligible}
 use Rattle.tally_setup.specs.declared.profile.LotRule.{LotRule}
 use Rattle.tally_setup.specs.declared.profile.Profile.{Profile}
-use Rattle.tally_report.specs.internal.Awards.{IsAwardAmong, IsAwardIn}
+use Rattle.tally_report.specs.internal.Awards.{IsAwardIn}
+use Rattle.tally_report_lines.proofs.AwardLemmas.{each-among}
 
 -- what is said of the parts that awards are made of, said of equal ones
 pub carried : {A B C D E : Type 0} (P : A → B → C → D → E → Type 0) → {a a' : A} → a ≡ a' → {b b' : B} → b ≡ b' → {c c' : C} → c ≡ c' → {d d' : D} → d ≡ d' → {e e' : E} → e ≡ e' → P a b c d e → P a' b' c' d' e'
@@ -84,28 +85,7 @@ module _ (groups : GroupsAreOfOneNumberOfVotes) (never_both : NoLotIsNeededWhere
 pub certified-outcome : (con : Constituency) (view : View) → IsLawfulView con view → view.certified ≡ true → IsOutcome con view (allotted view.seats)
 certified-outcome con view lawful certified = subst (HasSeats con view) certified lawful.seats
 
--- an eligible list is one of those that have votes
-listed : (profile : Profile) (votes : List ℕ) (blank l : ℕ) → IsEligible (poll_of profile votes blank) l → l < length votes
-listed profile votes blank l e = by_cases (cases_lt l (length votes))
-  where
-    test : ℕ → Bool
-    test = is_eligible profile.threshold (base_of profile.base votes blank)
-
-    by_cases : (l < length votes) ⊎ (length votes ≤ l) → l < length votes
-    by_cases (inl lt) = lt
-    by_cases (inr ge) = absurd (false≢true (sym (get_or_past (poll_of profile votes blank).eligible l false (omega (arith, ge, length-map votes test))) ∙ e))
-
--- awards are of these lists
-pub each-among : (found : Option DivisorRule) (lot_rule : LotRule) (profile : Profile) (votes : List ℕ) (blank : ℕ) (lot : List ℕ) (seats : ℕ) (awards : List Award) (n : ℕ)
-    → AreAwardsBy (rule_with found lot_rule) (poll_of profile votes blank) lot seats awards → length votes ≡ n
-    → (i : ℕ) (d : Award) → i < length awards → IsAwardAmong n (get_or awards i d)
-each-among (Some rule) lot_rule profile votes blank lot seats awards n are lists i d lt =
-    let e = are.2.each i d lt in
-    let award = get_or awards i d in
-    record { from_one = omega (arith, e.1.list_is); listed = omega (arith, e.1.list_is, lists, listed profile votes blank e.0 e.1.eligible); divisor = omega (arith, e.1.den_is, divisors-positive rule award.k e.1.from_one) }
-each-among None lot_rule profile votes blank lot seats awards n are lists i d lt = absurd are
-
--- and of those of a constituency
+-- awards are of the lists of a constituency
 pub each-in : (found : Option DivisorRule) (lot_rule : LotRule) (con : Constituency) (view : View) (awards : List Award) → AreAwardsBy (rule_with found lot_rule) (poll_in con view) view.lot con.seats awards → length view.votes ≡ length con.lists
     → (i : ℕ) (d : Award) → i < length awards → IsAwardIn con (get_or awards i d)
 each-in found lot_rule con view awards are lists = each-among found lot_rule con.profile view.votes view.blank view.lot con.seats awards (length con.lists) are lists

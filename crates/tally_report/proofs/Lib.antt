@@ -1,9 +1,7 @@
-pub mod ColumnLemmas
 pub mod HolderLemmas
 pub mod QuotientLemmas
 pub mod AwardLemmas
 pub mod GoneLemmas
 pub mod LineLemmas
-pub mod ProgressLemmas
 pub mod TallyLemmas
 pub mod CodeLemmas

@@ -3,7 +3,7 @@ use Rattle.std.proofs.Common.{◌≡◌, ◌≤◌, ◌<◌, ◌∙◌, ℕ, ◌
 use Rattle.std.specs.Prelude.{if◌then◌else◌}
 use Rattle.std.specs.List.{flat_map}
 use Rattle.std.proofs.lemmas.List.{append-nil, at_drop_more, at_drop_all, flat_map_more, take_more}
-use Rattle.tally_report.specs.Columns.{lines_from}
+use Rattle.tally_report_lines.specs.Columns.{lines_from}
 
 -- the line of an entry, before those of the entries after it
 pub line_more : {T : Type 0} (line : ℕ → T → List ℕ) (entries items : List T) (i : ℕ) (entry : T) (before after whole : List ℕ)

@@ -10,7 +10,7 @@ use Rattle.tally_law.specs.Poll.{Poll}
 use Rattle.tally_machine_law.specs.Outcome.{HasSeats, IsLawfulView, poll_in, rule_in}
 use Rattle.tally_returns.specs.View.{View}
 use Rattle.tally_setup.specs.Constituency.{Constituency, ListEntry}
-use Rattle.tally_report.specs.Columns.{code_width, left_cell, line_end}
+use Rattle.tally_report_lines.specs.Columns.{code_width, left_cell, line_end}
 use Rattle.tally_report.specs.QuotientsText.{greatest_of, quotient_column}
 
 -- one more number

@@ -6,8 +6,8 @@ use Rattle.tally_frac.specs.Limits.{most_votes}
 use Rattle.tally_setup.specs.Constituency.{Constituency, ListEntry}
 use Rattle.tally_setup.specs.Threshold.{IsWithinVotes, base_of}
 use Rattle.tally_returns.specs.View.{View}
-use Rattle.tally_report.specs.TallyText.{tally_columns, tally_office_line}
-use Rattle.tally_report.specs.Columns.{is_eligible_at}
+use Rattle.tally_report.specs.TallyText.{tally_columns, tally_line}
+use Rattle.tally_report.specs.EligibleAt.{is_eligible_at}
 
 pub votes_at : (votes items : List ℕ) (i n : ℕ) → items ≡ votes → n ≡ get_or items i n → i < length votes → n ≡ get_or votes i 0
 votes_at votes items i n same is lt = get_or_read votes i n lt (subst (λ (ns : List ℕ). n ≡ get_or ns i n) same is) 0
@@ -18,7 +18,7 @@ few_at votes items blank i n same is within lt = omega (arith, within, votes_at 
 
 pub line_is : (con : Constituency) (view : View) (place : ℕ) (list : ListEntry) (votes base : ℕ) (mark : Bool) (before after : List ℕ)
     → votes ≡ get_or view.votes place 0 → base ≡ base_of con.profile.base view.votes view.blank → mark ≡ is_eligible_at con view place
-    → after ≡ before ++ tally_columns list votes base mark → after ≡ before ++ tally_office_line con view place list
+    → after ≡ before ++ tally_columns list votes base mark → after ≡ before ++ tally_line con view place list
 line_is con view place list votes base mark before after at whole marked more =
     more
     ∙ ap (λ n. before ++ tally_columns list n base mark) at

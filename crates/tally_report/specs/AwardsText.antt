@@ -5,31 +5,20 @@
 --        1 B                  1           100     1         100
 --        2 A                  1           100     1         100
 --        3 B                  2           100     2          50
-use Rattle.std.specs.Prelude.{◌≡◌, ℕ, ◌-◌, ◌/◌, ◌++◌, List, [], slice_index_or, codes}
+use Rattle.std.specs.Prelude.{◌≡◌, ℕ, ◌-◌, ◌++◌, List, [], slice_index_or, codes}
 use Rattle.tally_setup.specs.Constituency.{Constituency, list_codes}
 use Rattle.tally_allot.specs.Awards.{AreAwardsBy}
 use Rattle.tally_allot.specs.declared.award.Award.{Award}
 use Rattle.tally_returns.specs.View.{View}
 use Rattle.tally_machine_law.specs.Outcome.{poll_in, rule_in}
-use Rattle.tally_report.specs.Columns.{code_width, heading, left_cell, line_end, lines_from, number}
+use Rattle.tally_report_lines.specs.Award.{award_columns}
+use Rattle.tally_report_lines.specs.Columns.{heading, lines_from}
 
 -- the code of the list at a place, from 0
 abbrev pub code_at_index : Constituency → ℕ → List ℕ
 code_at_index con place = slice_index_or (list_codes con.lists) place []
 
--- the line of the n-th award, to the list of a code
-abbrev pub award_columns : List ℕ → ℕ → Award → List ℕ
-award_columns code n award =
-    number 4 n
-    ++ codes " "
-    ++ left_cell code_width code
-    ++ number 4 award.k
-    ++ number 14 award.num
-    ++ number 6 award.den
-    ++ number 12 (award.num / award.den)
-    ++ line_end
-
--- the same to a list of a constituency
+-- the line of the n-th award, to a list of a constituency
 abbrev pub award_line : Constituency → ℕ → Award → List ℕ
 award_line con n award = award_columns (code_at_index con (award.list - 1)) n award
 

@@ -12,8 +12,8 @@ use Rattle.tally_setup.specs.Constituency.{Constituency, ListEntry}
 use Rattle.tally_returns.specs.View.{View}
 use Rattle.tally_machine_law.specs.Certification.{gone_of}
 use Rattle.tally_machine_law.specs.Holders.{holders}
-use Rattle.tally_report.specs.Columns.{code_width, heading, left_cell, line_end, list_lines, number}
-use Rattle.tally_report.specs.Columns.{right_cell}
+use Rattle.tally_report_lines.specs.Columns.{code_width, heading, left_cell, line_end}
+use Rattle.tally_report_lines.specs.Columns.{list_lines, number, right_cell}
 
 -- the line of a candidate, at this place of the list from 1
 abbrev pub holder_line : ListEntry → ℕ → List ℕ

@@ -1,9 +1,8 @@
 pub mod AwardsText
-pub mod Columns
+pub mod EligibleAt
 pub mod Fault
 pub mod HoldersText
 pub mod PastText
-pub mod ProgressText
 pub mod ProvisionalText
 pub mod QuotaText
 pub mod QuotientsText
@@ -12,5 +11,4 @@ pub mod SeatsText
 pub mod ShortText
 pub mod ProvisionalSeats
 pub mod TallyText
-pub mod Words
 pub mod internal

@@ -9,7 +9,7 @@ use Rattle.std.specs.List.{flat_map}
 use Rattle.tally_setup.specs.Constituency.{Constituency}
 use Rattle.tally_returns.specs.PastSeats.{PastSeats}
 use Rattle.tally_returns.specs.View.{View}
-use Rattle.tally_report.specs.Columns.{heading}
+use Rattle.tally_report_lines.specs.Columns.{heading}
 use Rattle.tally_report.specs.SeatsText.{certificate_lines}
 
 abbrev pub past_lines : Constituency → PastSeats → List ℕ

@@ -13,7 +13,8 @@ use Rattle.std.specs.Prelude.{if◌then◌else◌, codes}
 use Rattle.std.specs.Fmt.{decimal}
 use Rattle.tally_setup.specs.Constituency.{Constituency, ListEntry}
 use Rattle.tally_returns.specs.View.{View}
-use Rattle.tally_report.specs.Columns.{code_width, heading, left_cell, line_end, list_lines, number}
+use Rattle.tally_report_lines.specs.Columns.{code_width, heading, left_cell, line_end}
+use Rattle.tally_report_lines.specs.Columns.{list_lines, number}
 use Rattle.tally_report.specs.SeatsText.{seats_line}
 use Rattle.tally_report.specs.ProvisionalSeats.{AreProvisionalSeats}
 use Rattle.tally_report.specs.declared.status.ProvisionalStatus.{ProvisionalStatus}

@@ -7,28 +7,12 @@
 --     E                      40000    0          320000    1
 use Rattle.std.specs.Prelude.{ℕ, ◌++◌, false, List, [], slice_index, slice_index_or, if◌then◌else◌}
 use Rattle.std.specs.Prelude.{codes}
-use Rattle.std.specs.Fmt.{decimal}
 use Rattle.tally_setup.specs.Constituency.{Constituency, ListEntry}
-use Rattle.tally_law.specs.HareAllotment.{whole_quotas, remainder}
-use Rattle.tally_law.specs.Poll.{Poll, eligible_votes, votes_of}
+use Rattle.tally_law.specs.Poll.{Poll}
 use Rattle.tally_returns.specs.View.{View}
 use Rattle.tally_machine_law.specs.Outcome.{poll_in}
-use Rattle.tally_report.specs.Columns.{code_width, heading, left_cell, line_end, list_lines, number}
-
--- the votes of the eligible lists together, and the seats
-abbrev pub quota_front : Poll → ℕ → List ℕ
-quota_front poll seats =
-    codes "votes " ++ decimal (eligible_votes poll) ++ codes " seats " ++ decimal seats ++ line_end
-
--- the line of the list at a place, which has this code and holds this many seats
-abbrev pub quota_columns : Poll → ℕ → ℕ → List ℕ → ℕ → List ℕ
-quota_columns poll seats place code held =
-    left_cell code_width code
-    ++ number 12 (votes_of poll place)
-    ++ number 5 (whole_quotas poll seats place)
-    ++ number 16 (remainder poll seats place)
-    ++ number 5 held
-    ++ line_end
+use Rattle.tally_report_lines.specs.Columns.{heading, list_lines}
+use Rattle.tally_report_lines.specs.Quota.{quota_columns, quota_front}
 
 -- the line of an eligible list; another list has none
 abbrev pub quota_line : Poll → ℕ → View → ℕ → ListEntry → List ℕ

@@ -11,8 +11,9 @@ use Rattle.tally_setup.specs.Constituency.{Constituency, ListEntry}
 use Rattle.tally_law.specs.Allotment.{Rule, divisors, hare}
 use Rattle.tally_returns.specs.View.{View}
 use Rattle.tally_machine_law.specs.Outcome.{rule_in}
-use Rattle.tally_report.specs.Columns.{code_width, heading, is_eligible_at, left_cell, line_end}
-use Rattle.tally_report.specs.Columns.{list_lines, number}
+use Rattle.tally_report_lines.specs.Columns.{code_width, heading, left_cell, line_end}
+use Rattle.tally_report.specs.EligibleAt.{is_eligible_at}
+use Rattle.tally_report_lines.specs.Columns.{list_lines, number}
 
 -- the greatest of these numbers
 abbrev pub greatest_of : List ℕ → ℕ

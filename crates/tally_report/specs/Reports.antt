@@ -1,4 +1,4 @@
--- The reports of a constituency: their names, the text of each, and where it is not given.
+-- The reports of a constituency: the text of each, and where it is not given.
 use Rattle.std.specs.Prelude.{◌≡◌, ℕ, Bool, true, false, if◌then◌else◌, IsTrue, List, Option, Some}
 use Rattle.std.specs.Prelude.{None, bytes_eq, codes}
 use Rattle.tally_setup.specs.Constituency.{Constituency}
@@ -15,24 +15,8 @@ use Rattle.tally_report.specs.SeatsText.{seats_text}
 use Rattle.tally_report.specs.ShortText.{IsShortText}
 use Rattle.tally_report.specs.TallyText.{tally_text}
 use Rattle.tally_report.specs.declared.fault.ReportFault.{ReportFault}
-use Rattle.tally_report.specs.declared.report.Report.{Report}
-use Rattle.tally_report.specs.declared.report.Report.TheVariants as report
-
--- ---- names
-
--- the report of a name on the command line
-abbrev pub report_named : List ℕ → Option Report
-report_named name =
-    if bytes_eq name (codes "tally") then Some report.Tally
-    else if bytes_eq name (codes "seats") then Some report.Seats
-    else if bytes_eq name (codes "quotients") then Some report.Quotients
-    else if bytes_eq name (codes "awards") then Some report.Awards
-    else if bytes_eq name (codes "quota") then Some report.Quota
-    else if bytes_eq name (codes "short") then Some report.Short
-    else if bytes_eq name (codes "holders") then Some report.Holders
-    else if bytes_eq name (codes "past") then Some report.Past
-    else if bytes_eq name (codes "provisional") then Some report.Provisional
-    else None
+use Rattle.tally_report_names.specs.declared.report.Report.{Report}
+use Rattle.tally_report_names.specs.declared.report.Report.TheVariants as report
 
 -- ---- texts
 

@@ -9,7 +9,8 @@ use Rattle.std.specs.Prelude.{ℕ, ◌++◌, List, slice_index, codes}
 use Rattle.std.specs.Fmt.{decimal}
 use Rattle.tally_setup.specs.Constituency.{Constituency, ListEntry}
 use Rattle.tally_returns.specs.View.{View}
-use Rattle.tally_report.specs.Columns.{code_width, heading, left_cell, line_end, list_lines, number}
+use Rattle.tally_report_lines.specs.Columns.{code_width, heading, left_cell, line_end}
+use Rattle.tally_report_lines.specs.Columns.{list_lines, number}
 
 -- the line of a list, by the seats of all
 abbrev pub seats_line : List ℕ → ℕ → ListEntry → List ℕ

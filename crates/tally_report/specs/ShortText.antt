@@ -4,19 +4,16 @@
 --     SHORT c1 Twin Town
 --     A                   1           1
 --     B                   2         200
-use Rattle.std.specs.Prelude.{◌≡◌, ℕ, ◌++◌, Option, Some, None, List, [], slice_index}
+use Rattle.std.specs.Prelude.{◌≡◌, ℕ, ◌++◌, Option, None, List, [], slice_index}
 use Rattle.std.specs.Prelude.{slice_index_or, if◌then◌else◌, codes}
 use Rattle.tally_setup.specs.Constituency.{Constituency, ListEntry}
 use Rattle.tally_allot.specs.VotesShort.{AreVotesShort}
 use Rattle.tally_machine_law.specs.Outcome.{poll_in, rule_in}
 use Rattle.tally_returns.specs.View.{View}
-use Rattle.tally_report.specs.Columns.{code_width, heading, is_eligible_at, left_cell, line_end}
-use Rattle.tally_report.specs.Columns.{list_lines, number, right_cell}
-
--- a number of votes, and a dash where there is none
-abbrev pub votes_column : Option ℕ → List ℕ
-votes_column None = right_cell 12 (codes "-")
-votes_column (Some votes) = number 12 votes
+use Rattle.tally_report.specs.EligibleAt.{is_eligible_at}
+use Rattle.tally_report_lines.specs.Columns.{code_width, heading, left_cell, line_end}
+use Rattle.tally_report_lines.specs.Columns.{list_lines, number}
+use Rattle.tally_report_lines.specs.Short.{votes_column}
 
 -- the line of a list, from its seats and its number
 abbrev pub short_columns : ListEntry → ℕ → Option ℕ → List ℕ

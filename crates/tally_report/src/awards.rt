@@ -1,6 +1,6 @@
 //! The seats in the order of their award.
 
-ghost use Rattle.std.specs.Prelude.{◌≡◌, ◌≢◌, ℕ, ◌<◌, ◌≤◌, ◌++◌, IfOk, IfErr, List, OnOk, length};
+ghost use Rattle.std.specs.Prelude.{◌≡◌, ◌≢◌, ℕ, ◌<◌, ◌++◌, IfOk, IfErr, List, OnOk, length};
 ghost use Rattle.std.specs.Prelude.{slice_index_or, string_bytes};
 ghost use Rattle.tally_setup.specs.declared.profile.Method.TheVariants.{Hare as by_hare};
 ghost use Rattle.tally_allot.specs.Awards.{AreAwardsBy};
@@ -9,16 +9,16 @@ ghost use Rattle.tally_machine_law.specs.Outcome.{IsLawfulView, IsOutcome, allot
 ghost use Rattle.tally_machine_law.specs.Outcome.{poll_in, rule_in};
 ghost use Rattle.tally_returns.specs.View.{FitsView};
 ghost use Rattle.tally_report.specs.Fault.{IsRefused, divisors_fault};
-ghost use Rattle.tally_report.specs.Columns.{lines_from};
-ghost use Rattle.tally_report.specs.AwardsText.{IsAwardsText, award_columns, award_line};
+ghost use Rattle.tally_report_lines.specs.Columns.{lines_from};
+ghost use Rattle.tally_report.specs.AwardsText.{IsAwardsText, award_line};
 ghost use Rattle.tally_report.specs.internal.Awards.{IsAwardIn};
 ghost use Rattle.tally_report.specs.declared.fault.ReportFault.TheVariants.{Memory};
 
-use crate::column::{CODE_WIDTH, push_heading, push_left, push_number};
 use crate::fault::ReportFault;
 use crate::lots::laws_of_lots;
 use std::alloc::{AllocError, Global};
 use tally_allot::{AllotFault, Award, awards};
+use tally_report_lines::{push_award_of, push_heading};
 use tally_returns::ConView;
 use tally_setup::Constituency;
 
@@ -99,20 +99,4 @@ fn push_award(
 {
     let code = con.lists[award.list as usize - 1].code.as_str();
     push_award_of(text, code, n, award)
-}
-
-/// The line of the `n`th award, to the list of this code.
-pub fn push_award_of(text: &mut String, code: &str, n: u64, award: &Award) -> Result<(), AllocError>
-    requires { 1 ≤ award.now.den }
-    ensures { OnOk result (string_bytes text.new
-        ≡ string_bytes text.old ++ award_columns code.now n award.now) }
-{
-    push_number(text, n, 4)?;
-    text.push_str(" ")?;
-    push_left(text, code, CODE_WIDTH)?;
-    push_number(text, u64::from(award.k), 4)?;
-    push_number(text, award.num, 14)?;
-    push_number(text, award.den, 6)?;
-    push_number(text, award.num / award.den, 12)?;
-    text.push_str("\n")
 }

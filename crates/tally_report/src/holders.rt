@@ -6,15 +6,15 @@ ghost use Rattle.std.specs.List.{flat_map, repeat};
 ghost use Rattle.tally_machine_law.specs.Holders.{holders};
 ghost use Rattle.tally_returns.specs.View.{FitsView};
 ghost use Rattle.tally_report.specs.Fault.{IsRefused, seats_fault};
-ghost use Rattle.tally_report.specs.Columns.{list_lines};
+ghost use Rattle.tally_report_lines.specs.Columns.{list_lines};
 ghost use Rattle.tally_report.specs.internal.GoneByList.{AreByList, IsOneMore};
 ghost use Rattle.tally_report.specs.HoldersText.{empty_line, holder_line, holder_lines};
 ghost use Rattle.tally_report.specs.HoldersText.{holders_text, seat_lines};
 
-use crate::column::{CODE_WIDTH, push_heading, push_left, push_number};
 use crate::fault::ReportFault;
 use std::alloc::{AllocError, Global};
 use tally_machine::holders;
+use tally_report_lines::{CODE_WIDTH, push_heading, push_left, push_number};
 use tally_returns::ConView;
 use tally_setup::{Constituency, ListEntry};
 

@@ -6,10 +6,10 @@ ghost use Rattle.tally_returns.specs.View.{FitsView, HasEachList};
 ghost use Rattle.tally_report.specs.PastText.{past_lines, past_text};
 ghost use Rattle.tally_report.specs.declared.fault.ReportFault.TheVariants.{Memory};
 
-use crate::column::push_heading;
 use crate::fault::ReportFault;
 use crate::seats::push_certificate;
 use std::alloc::{AllocError, Global};
+use tally_report_lines::push_heading;
 use tally_returns::{ConView, Past};
 use tally_setup::Constituency;
 

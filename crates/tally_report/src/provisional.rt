@@ -5,17 +5,17 @@ ghost use Rattle.std.specs.Prelude.{string_bytes, sum};
 ghost use Rattle.tally_frac.specs.Limits.{most_lists};
 ghost use Rattle.tally_machine_law.specs.Outcome.{IsLawfulView};
 ghost use Rattle.tally_returns.specs.View.{FitsView};
-ghost use Rattle.tally_report.specs.Columns.{list_lines};
+ghost use Rattle.tally_report_lines.specs.Columns.{list_lines};
 ghost use Rattle.tally_report.specs.ProvisionalText.{IsProvisionalText, member, provisional_text};
 ghost use Rattle.tally_report.specs.ProvisionalText.{stations_line, status_line, total_line};
 ghost use Rattle.tally_report.specs.declared.fault.ReportFault.TheVariants.{Memory};
 
-use crate::column::{CODE_WIDTH, push_heading, push_left, push_number};
 use crate::fault::ReportFault;
 use crate::seats::push_lists;
 use crate::status::{ProvisionalStatus, provisional_seats};
 use std::alloc::{AllocError, Global};
 use tally_allot::ListSet;
+use tally_report_lines::{CODE_WIDTH, push_heading, push_left, push_number};
 use tally_returns::ConView;
 use tally_setup::{Constituency, ListEntry};
 

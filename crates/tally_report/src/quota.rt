@@ -2,16 +2,15 @@
 
 ghost use Rattle.std.specs.Prelude.{◌≡◌, ◌<◌, ◌++◌, IfOk, OnOk, length, string_bytes};
 ghost use Rattle.tally_allot_award.specs.internal.KeptPoll.{kept_poll};
-ghost use Rattle.tally_law.specs.Poll.{IsEligible};
 ghost use Rattle.tally_returns.specs.View.{FitsView};
 ghost use Rattle.tally_report.specs.Fault.{IsRefused, quotas_fault};
-ghost use Rattle.tally_report.specs.Columns.{list_lines};
-ghost use Rattle.tally_report.specs.QuotaText.{quota_columns, quota_front, quota_line, quota_text};
+ghost use Rattle.tally_report_lines.specs.Columns.{list_lines};
+ghost use Rattle.tally_report.specs.QuotaText.{quota_line, quota_text};
 
-use crate::column::{CODE_WIDTH, push_heading, push_left, push_number};
 use crate::fault::ReportFault;
 use std::alloc::{AllocError, Global};
 use tally_allot_award::{HareContest, Poll};
+use tally_report_lines::{push_heading, push_quota_columns, push_quota_front};
 use tally_returns::ConView;
 use tally_setup::{Constituency, ListEntry};
 
@@ -35,14 +34,6 @@ pub fn quota_text(alloc: Global, con: &Constituency, view: &ConView) -> Result<S
     push_quota_front(&mut text, &poll, con.seats)?;
     push_lists(&mut text, con, view, &contest)?;
     Ok(text)
-}
-
-/// The votes of the eligible lists together, and the seats.
-pub fn push_quota_front(text: &mut String, poll: &Poll, seats: u32) -> Result<(), AllocError>
-    ensures { OnOk result (string_bytes text.new
-        ≡ string_bytes text.old ++ quota_front (kept_poll poll.now) seats) }
-{
-    writeln!(text, "votes {} seats {seats}", poll.eligible_votes())
 }
 
 fn push_lists(
@@ -81,26 +72,4 @@ fn push_list(
         return Ok(());
     }
     push_quota_columns(text, contest, place, list.code.as_str(), view.seats[place])
-}
-
-/// The line of an eligible list, which has this code and holds this many seats.
-pub fn push_quota_columns(
-    text: &mut String,
-    contest: &HareContest,
-    place: usize,
-    code: &str,
-    seats: u32,
-) -> Result<(), AllocError>
-    requires list { place < length contest.now.poll.votes.now }
-    requires eligible { IsEligible (kept_poll contest.now.poll) place }
-    ensures { OnOk result (string_bytes text.new
-        ≡ string_bytes text.old
-        ++ quota_columns (kept_poll contest.now.poll) contest.now.seats place code.now seats) }
-{
-    push_left(text, code, CODE_WIDTH)?;
-    push_number(text, contest.poll.votes_of(place), 12)?;
-    push_number(text, u64::from(contest.whole_quotas(place)), 5)?;
-    push_number(text, contest.remainder(place), 16)?;
-    push_number(text, u64::from(seats), 5)?;
-    text.push_str("\n")
 }

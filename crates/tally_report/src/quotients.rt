@@ -6,16 +6,16 @@ ghost use Rattle.tally_frac.specs.Limits.{last_divisor, most_seats, most_votes};
 ghost use Rattle.tally_machine_law.specs.Outcome.{IsLawfulView};
 ghost use Rattle.tally_returns.specs.View.{FitsView};
 ghost use Rattle.tally_report.specs.Fault.{IsRefused, divisors_fault};
-ghost use Rattle.tally_report.specs.Columns.{list_lines};
+ghost use Rattle.tally_report_lines.specs.Columns.{list_lines};
 ghost use Rattle.tally_report.specs.QuotientsText.{greatest_of, quotient_column, quotients_by};
 ghost use Rattle.tally_report.specs.QuotientsText.{quotients_line, quotients_text};
 ghost use Rattle.tally_report.specs.declared.fault.ReportFault.TheVariants.{Memory};
 ghost use Rattle.tally_setup.specs.Threshold.{eligible_lists};
 
-use crate::column::{CODE_WIDTH, push_heading, push_left, push_number};
 use crate::fault::ReportFault;
 use std::alloc::{AllocError, Global};
 use tally_frac::{Divisors, MOST_SEATS};
+use tally_report_lines::{CODE_WIDTH, push_heading, push_left, push_number};
 use tally_returns::ConView;
 use tally_setup::{Constituency, ListEntry, eligible};
 

@@ -3,12 +3,12 @@
 ghost use Rattle.std.specs.Prelude.{◌≡◌, ◌<◌, ◌++◌, IfOk, OnOk, length, string_bytes};
 ghost use Rattle.tally_returns.specs.View.{FitsView};
 ghost use Rattle.tally_report.specs.Fault.{IsRefused, seats_fault};
-ghost use Rattle.tally_report.specs.Columns.{list_lines};
+ghost use Rattle.tally_report_lines.specs.Columns.{list_lines};
 ghost use Rattle.tally_report.specs.SeatsText.{certificate_lines, seats_line, seats_text};
 
-use crate::column::{CODE_WIDTH, push_heading, push_left, push_number};
 use crate::fault::ReportFault;
 use std::alloc::{AllocError, Global};
+use tally_report_lines::{CODE_WIDTH, push_heading, push_left, push_number};
 use tally_returns::ConView;
 use tally_setup::{Constituency, ListEntry};
 

@@ -1,22 +1,24 @@
 //! How many votes each list is short of one more seat.
 
-ghost use Rattle.std.specs.Prelude.{◌≡◌, ◌≢◌, ℕ, ◌++◌, IfOk, IfErr, List, OnOk, None, length};
-ghost use Rattle.std.specs.Prelude.{slice_index_or, string_bytes};
+ghost use Rattle.std.specs.Prelude.{◌≡◌, ◌≢◌, ℕ, ◌++◌, IfOk, IfErr, List, OnOk, length};
+ghost use Rattle.std.specs.Prelude.{string_bytes};
 ghost use Rattle.tally_setup.specs.Threshold.{eligible_lists};
 ghost use Rattle.tally_setup.specs.declared.profile.Method.TheVariants.{Hare as by_hare};
 ghost use Rattle.tally_machine_law.specs.Outcome.{IsLawfulView, IsOutcome, allotted};
 ghost use Rattle.tally_returns.specs.View.{FitsView};
 ghost use Rattle.tally_report.specs.Fault.{IsRefused, divisors_fault};
-ghost use Rattle.tally_report.specs.Columns.{list_lines};
+ghost use Rattle.tally_report_lines.specs.Columns.{list_lines};
 ghost use Rattle.tally_report.specs.ShortText.{AreVotesShortIn, IsShortText, short_columns};
-ghost use Rattle.tally_report.specs.ShortText.{short_line, votes_column};
+ghost use Rattle.tally_report.specs.ShortText.{short_line};
 ghost use Rattle.tally_report.specs.declared.fault.ReportFault.TheVariants.{Memory};
 
-use crate::column::{CODE_WIDTH, push_heading, push_left, push_number};
 use crate::fault::ReportFault;
 use crate::lots::laws_of_lots;
 use std::alloc::{AllocError, Global};
 use tally_allot::{AllotFault, votes_short};
+use tally_report_lines::{
+    CODE_WIDTH, push_heading, push_left, push_number, push_votes, votes_short_at,
+};
 use tally_returns::ConView;
 use tally_setup::{Constituency, ListEntry, eligible};
 
@@ -97,16 +99,6 @@ fn push_lists(
     Ok(())
 }
 
-/// The number of the list at a place, if there is one.
-pub fn votes_short_at(numbers: &[Option<u64>], place: usize) -> Option<u64>
-    ensures { result ≡ slice_index_or numbers.now place None }
-{
-    match numbers.get(place) {
-        Some(number) => *number,
-        None => None,
-    }
-}
-
 fn push_list(
     text: &mut String,
     list: &ListEntry,
@@ -120,14 +112,4 @@ fn push_list(
     push_number(text, u64::from(seats), 5)?;
     push_votes(text, number)?;
     text.push_str("\n")
-}
-
-/// A number of votes, or a dash where there is none, at the right of a column of twelve places.
-pub fn push_votes(text: &mut String, number: Option<u64>) -> Result<(), AllocError>
-    ensures { OnOk result (string_bytes text.new ≡ string_bytes text.old ++ votes_column number) }
-{
-    match number {
-        Some(votes) => push_number(text, votes, 12),
-        None => text.push_str("           -"),
-    }
 }

@@ -23,12 +23,12 @@ use Rattle.tally_allot.specs.Awards.{AreAwardsBy}
 use Rattle.tally_allot.specs.Next.{IsNext}
 use Rattle.tally_allot.specs.VotesShort.{AreVotesShort}
 use Rattle.tally_allot.specs.declared.award.Award.{Award}
-use Rattle.tally_report.specs.AwardsText.{award_columns}
-use Rattle.tally_report.specs.Columns.{code_width, left_cell, line_end, lines_from, number}
-use Rattle.tally_report.specs.QuotaText.{quota_columns, quota_front}
-use Rattle.tally_report.specs.ShortText.{votes_column}
-use Rattle.tally_report.specs.TallyText.{vote_columns}
-use Rattle.tally_report.specs.Words.{base_word, lot_rule_word, method_word}
+use Rattle.tally_report_lines.specs.Award.{award_columns}
+use Rattle.tally_report_lines.specs.Columns.{code_width, left_cell, line_end, lines_from, number}
+use Rattle.tally_report_lines.specs.Quota.{quota_columns, quota_front}
+use Rattle.tally_report_lines.specs.Short.{votes_column}
+use Rattle.tally_report_lines.specs.Votes.{vote_columns}
+use Rattle.tally_report_lines.specs.Words.{base_word, lot_rule_word, method_word}
 use Rattle.tally_report_allotment.specs.Question.{Question, poll_asked, rule_asked}
 
 -- ---- the lines before the lists

@@ -23,8 +23,8 @@ use Rattle.tally_law.specs.Allotment.{IsAllotmentByVotes}
 use Rattle.tally_law.specs.LotNeed.{IsAllotmentUnderLot}
 use Rattle.tally_law.specs.Rules.{rule_of}
 use Rattle.tally_returns.specs.Counts.{VoteCounts}
-use Rattle.tally_report.specs.Columns.{heading, line_end, lines_from}
-use Rattle.tally_report.specs.TallyText.{valid_line}
+use Rattle.tally_report_lines.specs.Columns.{heading, line_end, lines_from}
+use Rattle.tally_report_lines.specs.Votes.{valid_line}
 use Rattle.tally_report_allotment.specs.AllotmentText.{AreDetailsBy, Details, closing_lines}
 use Rattle.tally_report_allotment.specs.AllotmentText.{list_columns, method_part, terms_lines}
 use Rattle.tally_report_allotment.specs.Question.{Question}

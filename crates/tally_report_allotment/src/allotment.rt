@@ -4,8 +4,8 @@ ghost use Rattle.std.specs.Prelude.{◌≡◌, ◌<◌, ◌++◌, ℕ, Some, IfO
 ghost use Rattle.std.specs.Prelude.{string_bytes};
 ghost use Rattle.tally_allot.specs.AllotFault.{IsFaultOf};
 ghost use Rattle.tally_allot_award.specs.internal.KeptPoll.{kept_poll};
-ghost use Rattle.tally_report.specs.Columns.{line_end, lines_from};
-ghost use Rattle.tally_report.specs.internal.Awards.{AreAwardsAmong};
+ghost use Rattle.tally_report_lines.specs.Columns.{line_end, lines_from};
+ghost use Rattle.tally_report_lines.specs.internal.Awards.{AreAwardsAmong};
 ghost use Rattle.tally_report_allotment.specs.AllotmentText.{IsAllotmentText, allot_line};
 ghost use Rattle.tally_report_allotment.specs.AllotmentText.{allotment_text, list_columns};
 ghost use Rattle.tally_report_allotment.specs.AllotmentText.{opening_lines};

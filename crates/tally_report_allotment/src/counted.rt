@@ -75,7 +75,7 @@ pub(crate) fn number_counted(con: &Constituency, returns: &[Option<Counts>]) -> 
     sum_counted(returns, con.lists.len(), Part::Itself)
 }
 
-/// A number of the returns that are counted, which are for this many lists, together.
+/// The sum of one number, such as the votes of a list, over the returns that are counted.
 fn sum_counted(returns: &[Option<Counts>], lists: usize, part: Part) -> u64
     requires few { length returns.now ≤ most_stations }
     requires each { AreForLists lists returns.now }

@@ -11,8 +11,8 @@ use tally_allot_votes::votes_allow;
 use tally_returns::Counts;
 use tally_setup::Constituency;
 
-/// Of each station, whether its return is counted and decisive for these seats. `votes` and `blank`
-/// are those of all returns that are counted; those of a station are taken off them.
+/// For each station, whether its return is counted and decisive: without it the votes would not
+/// allow these seats. `votes` and `blank` are the sums over all returns that are counted.
 pub(crate) fn decisive_marks(
     alloc: Global,
     con: &Constituency,

@@ -3,7 +3,7 @@
 ghost use Rattle.std.specs.Prelude.{◌≡◌, ◌≢◌, ◌<◌, ℕ, Some, IfOk, IfErr, length};
 ghost use Rattle.tally_allot.specs.AllotFault.{IsFaultOf};
 ghost use Rattle.tally_setup.specs.declared.profile.Method.TheVariants.{Hare as by_hare};
-ghost use Rattle.tally_report.specs.internal.Awards.{AreAwardsAmong};
+ghost use Rattle.tally_report_lines.specs.internal.Awards.{AreAwardsAmong};
 ghost use Rattle.tally_report_allotment.specs.AllotmentText.{AreDetails, AreDetailsBy};
 ghost use Rattle.tally_report_allotment.specs.Question.{poll_asked, question, rule_asked};
 ghost use Rattle.tally_report_allotment.specs.internal.Allotments.{AreSeatsOf, details_of};

@@ -4,8 +4,8 @@ ghost use Rattle.std.specs.Prelude.{◌≡◌, ◌<◌, ◌++◌, ℕ, [], Some,
 ghost use Rattle.std.specs.Prelude.{string_bytes};
 ghost use Rattle.std.specs.List.{flat_map};
 ghost use Rattle.tally_allot_award.specs.internal.KeptPoll.{kept_poll};
-ghost use Rattle.tally_report.specs.Columns.{lines_from, number};
-ghost use Rattle.tally_report.specs.internal.Awards.{AreAwardsAmong, IsAwardAmong};
+ghost use Rattle.tally_report_lines.specs.Columns.{lines_from, number};
+ghost use Rattle.tally_report_lines.specs.internal.Awards.{AreAwardsAmong, IsAwardAmong};
 ghost use Rattle.tally_report_allotment.specs.AllotmentText.{award_lines, closing_lines};
 ghost use Rattle.tally_report_allotment.specs.AllotmentText.{code_at_place, list_columns};
 ghost use Rattle.tally_report_allotment.specs.AllotmentText.{lot_codes, method_part, next_part};
@@ -20,11 +20,10 @@ use crate::question::Asked;
 use std::alloc::AllocError;
 use tally_allot::Award;
 use tally_allot_award::{HareContest, Poll};
-use tally_report::parts::{
-    base_word, lot_rule_word, method_word, push_award_of, push_quota_columns, push_quota_front,
-    push_votes, push_votes_of, votes_short_at,
+use tally_report_lines::{
+    CODE_WIDTH, base_word, lot_rule_word, method_word, push_award_of, push_left, push_number,
+    push_quota_columns, push_quota_front, push_votes, push_votes_of, votes_short_at,
 };
-use tally_report::{CODE_WIDTH, push_left, push_number};
 use tally_setup::{Base, Code, base_of};
 
 /// The method and the seats.

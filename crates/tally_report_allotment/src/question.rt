@@ -1,11 +1,11 @@
-//! What seats are asked for.
+//! A question: votes, and the rule by which they become seats.
 
 ghost use Rattle.std.specs.Prelude.{◌≡◌, length};
 ghost use Rattle.tally_law.specs.Conditions.{AreLimitsKept};
 
 use tally_setup::{Code, Profile};
 
-/// Votes, and how they are to become seats.
+/// Votes, and the rule by which they become seats.
 #[derive(Drop)]
 pub struct Asked {
     /// The rule.

@@ -6,8 +6,8 @@ ghost use Rattle.tally_allot.specs.AllotFault.{IsFaultOf};
 ghost use Rattle.tally_allot_award.specs.internal.KeptPoll.{kept_poll};
 ghost use Rattle.tally_law.specs.Rules.{rule_of};
 ghost use Rattle.tally_setup.specs.Constituency.{list_codes};
-ghost use Rattle.tally_report.specs.Columns.{line_end, lines_from};
-ghost use Rattle.tally_report.specs.internal.Awards.{AreAwardsAmong};
+ghost use Rattle.tally_report_lines.specs.Columns.{line_end, lines_from};
+ghost use Rattle.tally_report_lines.specs.internal.Awards.{AreAwardsAmong};
 ghost use Rattle.tally_report_allotment.specs.AllotmentText.{list_columns};
 ghost use Rattle.tally_report_allotment.specs.Question.{poll_asked, question};
 ghost use Rattle.tally_report_allotment.specs.Recount.{AreReturnsOf, poll_counted};
@@ -27,8 +27,7 @@ use crate::question::Asked;
 use std::alloc::{AllocError, Global};
 use tally_allot::{AllotFault, allot};
 use tally_allot_award::Poll;
-use tally_report::parts::push_valid;
-use tally_report::push_heading;
+use tally_report_lines::{push_heading, push_valid};
 use tally_returns::Counts;
 use tally_setup::{Code, Constituency, ListEntry, Station};
 
@@ -50,12 +49,16 @@ pub struct Recount {
     pub decisive: bool,
 }
 
-/// The seats that the returns of a recount come to, as they were closed: how many stations are
-/// counted; the valid, blank and spoiled votes; of each list its votes, their share, whether it is
-/// eligible and its seats, and under a divisor rule the votes that it is short of one more; the
-/// list that is next; the seats in the order of their award, or the quotas; and the stations whose
-/// votes, if they were annulled, could not leave the seats as they are (LOREG article 113). It
-/// refuses as `allot` does.
+/// The text of a recount, in which each counted return is taken as closed. In order:
+///
+/// - how many stations are counted, and the valid, blank and spoiled votes;
+/// - each list's votes, share and seats, whether it is eligible, and under a divisor rule the votes
+///   that it is short of one more seat;
+/// - the list that is next;
+/// - the seats in the order of their award, or the quotas;
+/// - the stations without whose votes the seats could not be the same (LOREG article 113).
+///
+/// It refuses as `allotment_text` does.
 pub fn recount_text(
     alloc: Global,
     con: &Constituency,

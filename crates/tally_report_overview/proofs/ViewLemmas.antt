@@ -10,8 +10,8 @@ use Rattle.tally_report.specs.ProvisionalText.{IsProvisionalText}
 use Rattle.tally_report.specs.QuotientsText.{quotients_of}
 use Rattle.tally_report.specs.Reports.{IsEnoughFor, IsReport, report_fault}
 use Rattle.tally_report.specs.ProvisionalSeats.{AreProvisionalSeats}
-use Rattle.tally_report.specs.declared.report.Report.{Report}
-use Rattle.tally_report.specs.declared.report.Report.TheVariants as report
+use Rattle.tally_report_names.specs.declared.report.Report.{Report}
+use Rattle.tally_report_names.specs.declared.report.Report.TheVariants as report
 use Rattle.tally_report.specs.declared.status.ProvisionalStatus.{ProvisionalStatus}
 use Rattle.tally_report.specs.declared.status.ProvisionalStatus.TheVariants as status
 use Rattle.tally_returns.specs.PastSeats.{PastSeats}

@@ -16,7 +16,7 @@ use Rattle.std.specs.List.{flat_map}
 use Rattle.std.specs.Str.{bytes_eq}
 use Rattle.tally_setup.specs.Constituency.{Constituency, ListEntry}
 use Rattle.tally_returns.specs.View.{View}
-use Rattle.tally_report.specs.Columns.{code_width, left_cell, line_end, number}
+use Rattle.tally_report_lines.specs.Columns.{code_width, left_cell, line_end, number}
 
 -- the first list of each code, in order
 abbrev pub firsts : List ListEntry → List ListEntry

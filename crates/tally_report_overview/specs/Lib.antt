@@ -1,6 +1,7 @@
 pub mod internal
 pub mod CountryText
+pub mod ProgressText
 pub mod ReturnsText
-pub mod Shown
+pub mod StationsReport
 pub mod StationsText
 pub mod Views

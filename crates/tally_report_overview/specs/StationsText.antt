@@ -12,7 +12,7 @@ use Rattle.tally_setup.specs.Constituency.{Constituency}
 use Rattle.tally_returns.specs.Progress.{is_closed}
 use Rattle.tally_returns.specs.Return.{StationReturn, status_word}
 use Rattle.tally_returns.specs.declared.station_row.StationRow.{StationRow}
-use Rattle.tally_report.specs.Columns.{code_width, heading, left_cell, line_end, number}
+use Rattle.tally_report_lines.specs.Columns.{code_width, heading, left_cell, line_end, number}
 
 -- a return: its status, its revision, its slip, and the sum of its list votes, its blank and its
 -- spoiled votes

@@ -14,8 +14,8 @@ use Rattle.tally_returns.specs.declared.reply.Reply.{Reply}
 use Rattle.tally_returns.specs.declared.reply.Reply.TheVariants as reply
 use Rattle.tally_keeper.specs.Keeper.{Happens, request}
 use Rattle.tally_keeper.specs.Shown.{AnswersShowCon, IsOwnRefusal, con_with}
-use Rattle.tally_report.specs.declared.report.Report.{Report}
-use Rattle.tally_report.specs.declared.report.Report.TheVariants as report
+use Rattle.tally_report_names.specs.declared.report.Report.{Report}
+use Rattle.tally_report_names.specs.declared.report.Report.TheVariants as report
 
 -- ---- a constituency, for a report
 

@@ -23,7 +23,8 @@ ghost use Rattle.tally_report.specs.declared.fault.ReportFault.TheVariants.{Memo
 
 use std::alloc::{AllocError, Global};
 use std::collections::BTreeMap;
-use tally_report::{CODE_WIDTH, ReportFault, push_left, push_number};
+use tally_report::ReportFault;
+use tally_report_lines::{CODE_WIDTH, push_left, push_number};
 use tally_returns::ConView;
 use tally_setup::{Code, Constituency, ListEntry, Setup};
 

@@ -4,14 +4,15 @@ ghost use Rattle.std.specs.Prelude.{◌≡◌, ◌++◌, IfOk, IfErr, OnOk, code
 ghost use Rattle.std.specs.Prelude.{string_bytes, sum};
 ghost use Rattle.std.specs.List.{flat_map};
 ghost use Rattle.std.specs.Option.{option_map_or};
-ghost use Rattle.tally_report.specs.Columns.{number};
+ghost use Rattle.tally_report_lines.specs.Columns.{number};
 ghost use Rattle.tally_report_overview.specs.StationsText.{counts_line, is_closed_at, is_missing};
 ghost use Rattle.tally_report_overview.specs.StationsText.{return_columns, station_line};
 ghost use Rattle.tally_report_overview.specs.StationsText.{stations_text};
 ghost use Rattle.tally_report.specs.declared.fault.ReportFault.TheVariants.{Memory};
 
 use std::alloc::{AllocError, Global};
-use tally_report::{CODE_WIDTH, ReportFault, push_heading, push_left, push_number};
+use tally_report::ReportFault;
+use tally_report_lines::{CODE_WIDTH, push_heading, push_left, push_number};
 use tally_returns::{Return, StationRow, Status};
 use tally_setup::Constituency;
 

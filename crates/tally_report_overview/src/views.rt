@@ -18,7 +18,7 @@ ghost use Rattle.tally_report_overview.specs.Views.{as_progress, is_past};
 use std::alloc::{AllocError, Global};
 use tally_keeper::Keeper;
 use tally_machine::laws::a_constituency_has_a_view;
-use tally_report::Report;
+use tally_report_names::Report;
 use tally_returns::{Ask, ConView, ProgressRow, Refusal, Reply};
 use tally_setup::{Code, Setup};
 

@@ -3,7 +3,7 @@ use Rattle.std.specs.Prelude.{codes, map}
 use Rattle.serde_json.specs.Data.{Data, boolean, string, object, Members, member, no_members}
 use Rattle.tally_setup.specs.Constituency.{Constituency}
 use Rattle.tally_returns.specs.View.{View}
-use Rattle.tally_report.specs.Words.{base_word, lot_rule_word, method_word}
+use Rattle.tally_report_lines.specs.Words.{base_word, lot_rule_word, method_word}
 use Rattle.tally_report_result.specs.Parts.{ResultParts}
 use Rattle.tally_report_result.specs.Values.{all_holders, array_of, award_value, each_list}
 use Rattle.tally_report_result.specs.Values.{gone_value, group_codes, list_values, lot_value}

@@ -17,7 +17,7 @@ use Rattle.tally_returns.specs.GoneCandidate.{GoneCandidate}
 use Rattle.tally_returns.specs.PastSeats.{PastSeats}
 use Rattle.tally_returns.specs.View.{View}
 use Rattle.tally_report.specs.AwardsText.{code_at_index}
-use Rattle.tally_report.specs.Columns.{is_eligible_at}
+use Rattle.tally_report.specs.EligibleAt.{is_eligible_at}
 use Rattle.tally_report.specs.declared.status.ProvisionalStatus.{ProvisionalStatus}
 use Rattle.tally_report.specs.declared.status.ProvisionalStatus.TheVariants as status
 use Rattle.tally_report_result.specs.Parts.{ResultParts, shows_quotas}

@@ -18,7 +18,7 @@ use crate::quota::quota_values;
 use crate::word::{entry_word, status_word};
 use serde_json::{Map, Value};
 use std::alloc::{AllocError, Global};
-use tally_report::parts::{base_word, lot_rule_word, method_word};
+use tally_report_lines::{base_word, lot_rule_word, method_word};
 use tally_returns::ConView;
 use tally_setup::Constituency;
 

@@ -4,14 +4,11 @@ use Rattle.std.specs.Prelude.{◌||◌, IfSome}
 use Rattle.std.specs.List.{slice_get, find}
 use Rattle.std.specs.Option.{option_or, option_and_then}
 use Rattle.std.specs.Str.{bytes_eq}
-use Rattle.std.specs.Ordering.{is_eq}
-use Rattle.std.specs.BTreeMap.{BTreeMap, get, Updates}
+use Rattle.std.specs.HashMap.{get, Updates}
 use Rattle.std.proofs.lemmas.Slice.Eq.{bytes_eq-Decides}
-use Rattle.std.proofs.lemmas.Map.Text.{is_eq-slice_cmp}
 use Rattle.std.proofs.lemmas.List.Quantifiers.{all_pairs_push}
-use Rattle.tally_setup.specs.Code.{code_cmp}
 use Rattle.tally_setup.specs.Codes.{is_among_codes, index_of, AreDistinct}
-use Rattle.tally_setup.specs.internal.Index.{IsIndex}
+use Rattle.tally_setup.specs.internal.Index.{IsIndex, Places}
 
 -- a code added at the end is at the place after the others, unless it was there
 pub index_of-push : (q code : List ℕ) (codes : List (List ℕ)) → index_of q (codes ++ code ∷ []) ≡ option_or (index_of q codes) (cond (bytes_eq q code) (Some (length codes)) None)
@@ -63,11 +60,11 @@ pub AreDistinct-push : (code : List ℕ) (codes : List (List ℕ)) → is_among_
 AreDistinct-push code codes new distinct = all_pairs_push (λ a b. a ≢ b) codes code distinct (differs code codes new)
 
 -- the map has the codes
-pub is_some-index : (code : List ℕ) (codes : List (List ℕ)) (places : BTreeMap (List ℕ) ℕ) → IsIndex codes places → is_some (get code_cmp places code) ≡ is_among_codes code codes
+pub is_some-index : (code : List ℕ) (codes : List (List ℕ)) (places : Places) → IsIndex codes places → is_some (get bytes_eq places code) ≡ is_among_codes code codes
 is_some-index code codes places index = ap is_some (index.found code) ∙ is_some-index_of code codes
 
 -- the map with the place of one more code
-pub IsIndex-push : (code : List ℕ) (codes : List (List ℕ)) (old new : BTreeMap (List ℕ) ℕ) → IsIndex codes old → is_among_codes code codes ≡ false → Updates code_cmp old new code (Some (length codes)) → IsIndex (codes ++ code ∷ []) new
+pub IsIndex-push : (code : List ℕ) (codes : List (List ℕ)) (old new : Places) → IsIndex codes old → is_among_codes code codes ≡ false → Updates bytes_eq old new code (Some (length codes)) → IsIndex (codes ++ code ∷ []) new
 IsIndex-push code codes old new index absent updates = record {
   distinct = AreDistinct-push code codes absent index.distinct;
   found = λ q. updates.0 q ∙ at q (bytes_eq-Decides code q) (bytes_eq-Decides q code);
@@ -90,8 +87,8 @@ IsIndex-push code codes old new index absent updates = record {
     by_case q false true e f = let h : false ≡ true = e.1 (sym (f.0 refl)) in cc
     by_case q false false e f = or_none (index_of q codes)
 
-    at : (q : List ℕ) → (bytes_eq code q ≡ true → code ≡ q) × (code ≡ q → bytes_eq code q ≡ true) → (bytes_eq q code ≡ true → q ≡ code) × (q ≡ code → bytes_eq q code ≡ true) → cond (is_eq (code_cmp code q)) (Some (length codes)) (get code_cmp old q) ≡ index_of q (codes ++ code ∷ [])
-    at q e f = ap (λ b. cond b (Some (length codes)) (get code_cmp old q)) (is_eq-slice_cmp code q) ∙ ap (cond (bytes_eq code q) (Some (length codes))) (index.found q) ∙ by_case q (bytes_eq code q) (bytes_eq q code) e f ∙ sym (index_of-push q code codes)
+    at : (q : List ℕ) → (bytes_eq code q ≡ true → code ≡ q) × (code ≡ q → bytes_eq code q ≡ true) → (bytes_eq q code ≡ true → q ≡ code) × (q ≡ code → bytes_eq q code ≡ true) → cond (bytes_eq code q) (Some (length codes)) (get bytes_eq old q) ≡ index_of q (codes ++ code ∷ [])
+    at q e f = ap (cond (bytes_eq code q) (Some (length codes))) (index.found q) ∙ by_case q (bytes_eq code q) (bytes_eq q code) e f ∙ sym (index_of-push q code codes)
 
 -- a place is one of a code
 pub index_of-below : (q : List ℕ) (codes : List (List ℕ)) (i : ℕ) → index_of q codes ≡ Some i → i < length codes

@@ -6,15 +6,15 @@ ghost use Rattle.tally_setup.specs.Codes.{is_among_codes, index_of, AreDistinct}
 
 use crate::code::Code;
 use std::alloc::{AllocError, Global};
-use std::collections::BTreeMap;
+use std::collections::HashMap;
 use std::marker::Model;
 
-/// Codes in order, no two of them the same, of which each is found in logarithmic time. Contracts
+/// Codes in order, no two of them the same, of which each is found by its hash. Contracts
 /// see the list of the codes.
 #[derive(Drop)]
 pub struct Codes {
     codes: Vec<Code>,
-    places: BTreeMap<Code, usize>,
+    places: HashMap<Code, usize>,
 }
 
 impl Model for Codes {
@@ -35,7 +35,7 @@ impl Codes {
     {
         Codes {
             codes: Vec::new(alloc),
-            places: BTreeMap::new(alloc),
+            places: HashMap::new(alloc),
         }
     }
 

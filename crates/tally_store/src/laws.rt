@@ -38,10 +38,10 @@ pub fn certified_seats_are_the_allotment<S: Alter>(store: &Store<S>)
     store.stored_setup();
 }
 
-/// As long as the disk has returned what was written and has not failed, each row of `returns` that
-/// is closed, of a constituency whose returns are entered twice, was entered twice by whatever
-/// happened since the store's content was the opening state of its setup, and the rows of `counts`
-/// are what was entered twice.
+/// In a constituency whose returns are entered twice, each closed row of `returns` was entered
+/// twice, with the numbers that its rows of `counts` have. This holds of whatever happened since
+/// the store's content was the opening state of its setup, as long as the disk has returned what
+/// was written and has not failed.
 pub fn closed_rows_were_entered_twice<S: Alter>(store: &Store<S>)
     ensures { HasRowsEnteredTwiceIn S.Store store.now }
 {
@@ -51,11 +51,11 @@ pub fn closed_rows_were_entered_twice<S: Alter>(store: &Store<S>)
     store.stored_setup();
 }
 
-/// The next opening finds the office. `next` is a connection that found in its files what a crash
-/// left of those of the store, as `open_from` says of what it opens: it has one of the databases
-/// that a crash may leave, and is opened as the state whose tables these are. Between calls that is
-/// the store's content. It holds as long as the disk of the store that is left has returned what
-/// was written.
+/// The next opening finds the office. `next` is a connection to the files of the store as a crash
+/// left them, as `open_from` says of what it opens. It has one of the databases that a crash may
+/// leave, and is opened as the state that has these tables. Where the crash came between two calls,
+/// that state is the store's content. This holds as long as the store's disk has returned what was
+/// written.
 pub fn the_next_opening_finds_the_office<D: Disk + Drop, E: Disk + Drop>(
     store: Store<FileStore<D>>,
     next: &Connection<FileStore<E>>,
@@ -67,8 +67,8 @@ pub fn the_next_opening_finds_the_office<D: Disk + Drop, E: Disk + Drop>(
     files_left(store)
 }
 
-/// Gives back what a store was over. If that is clean afterwards, it was before, and each of its
-/// trees had the number by which the file lists it.
+/// Takes the files out of a store. If they are clean afterwards, they were clean before, and each
+/// tree of the database had the number that the file gives for it.
 fn files_left<S: Alter + Drop>(store: Store<S>) -> S
     ensures kept { IsKeptIn S.Store store }
     ensures clean { IsClean (S.Store.view result) → IsClean (S.Store.view store.conn.store) }

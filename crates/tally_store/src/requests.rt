@@ -44,10 +44,11 @@ use tally_store_commands::{
 use tally_store_rows::Statuses;
 use tally_store_schema::is_memory;
 
-/// Answers a request by the database and carries it out there. Where the request is not accepted,
-/// the database is as it was, unless a disk that failed has shut the connection. What is known then
-/// is still true of it, or nothing is known. Nothing is forgotten where the request was accepted or
-/// refused, and nothing is written where it does not act.
+/// Answers a request by the database, and carries it out there.
+///
+/// Where the request is not accepted, the database is as it was, unless a disk failed and shut the
+/// connection. Where it does not act, nothing is written. The counts that are kept are forgotten
+/// only where the answer is a fault; otherwise they are true of the database afterwards.
 pub(crate) fn answer_request<S: Alter>(
     alloc: Global,
     conn: &mut Connection<S>,

@@ -25,10 +25,10 @@ use tally_setup::{Code, Setup};
 use tally_store_open::{create_in, open_in};
 use tally_store_rows::Statuses;
 
-/// Keeps the office's state in a database: a connection that is in no transaction, the setup whose
-/// text the database has, and what is known of how many returns of a constituency are in each
-/// status. What is known is counted as the database is opened, moves with the returns, and is
-/// forgotten after an error; then it is found when it is next asked for.
+/// Keeps the office's state in a database, by a connection that is in no transaction. It has the
+/// setup whose text is in the database, and may know how many returns of each constituency are in
+/// each status. These numbers are counted as the database is opened, and change with the returns.
+/// After an error they are forgotten, and counted again when they are next needed.
 #[derive(Drop)]
 pub struct Store<S: Alter> {
     pub(crate) conn: Connection<S>,

@@ -56,8 +56,8 @@ pub fn take_rows<S: Alter, R: RowSource>(
     Err(ImportFault::TooLong)
 }
 
-/// Lodges a row, and names it where it is bad or refused. A row that is not a Lodge has no answer,
-/// as a bad row has none. It takes one layer off, which the prover needs.
+/// Lodges a row, and names it where it is bad or refused. Only a Lodge has an answer. What a Lodge
+/// brings has a function of its own, since the prover opens one enum at a time.
 fn take_row<S: Alter>(
     alloc: Global,
     tx: &mut Transaction<'_, S>,
@@ -85,8 +85,7 @@ fn take_row<S: Alter>(
 }
 
 /// Lodges what a Lodge brings, and names the row where that is refused. Another request has no
-/// answer. An error of the database is a fault of the import. It takes one layer off, which the
-/// prover needs.
+/// answer. An error of the database is a fault of the import.
 fn take_ask<S: Alter>(
     alloc: Global,
     tx: &mut Transaction<'_, S>,

@@ -27,3 +27,5 @@ mod setup;
 mod setups;
 #[cfg(test)]
 mod shown;
+#[cfg(test)]
+mod stations;

@@ -1,10 +1,10 @@
 //! The text of the country, byte for byte.
 
-use crate::views::{TWIN_TOWN, check_text, views_of};
+use crate::views::{check_text, views_of};
 use std::alloc::Global;
 use std::test::*;
 use tally_report_overview::country_text;
-use tally_rules::read_setup;
+use tally_test_scripts::{TWIN_TOWN, setup};
 
 // After Twin Town: B under its name, and C.
 const PORT: &str = r#"
@@ -12,7 +12,7 @@ const PORT: &str = r#"
 code = "c2"
 name = "Port"
 seats = 2
-profile = "p"
+profile = "d0"
 
 [[constituency.list]]
 code = "B"
@@ -35,7 +35,7 @@ const ISLE: &str = r#"
 code = "c3"
 name = "Isle"
 seats = 1
-profile = "p"
+profile = "d0"
 
 [[constituency.list]]
 code = "B"
@@ -84,15 +84,15 @@ seats 6 majority 4
 #[test]
 fn the_country(rt: HostRuntime) -> Result<(), Fail> {
     let alloc = rt.alloc();
-    let mut setup = String::from_str(alloc, TWIN_TOWN)?;
-    setup.push_str(PORT)?;
-    check_country(alloc, setup.as_str(), TWO_VIEWS, TWO)?;
-    setup.push_str(ISLE)?;
-    check_country(alloc, setup.as_str(), THREE_VIEWS, THREE)
+    let mut text = String::from_str(alloc, TWIN_TOWN)?;
+    text.push_str(PORT)?;
+    check_country(alloc, text.as_str(), TWO_VIEWS, TWO)?;
+    text.push_str(ISLE)?;
+    check_country(alloc, text.as_str(), THREE_VIEWS, THREE)
 }
 
-fn check_country(alloc: Global, setup: &str, views: &str, want: &'static str) -> Result<(), Fail> {
-    let setup = read_setup(alloc, setup.as_bytes()).ok().ok_or("no setup")?;
+fn check_country(alloc: Global, text: &str, views: &str, want: &'static str) -> Result<(), Fail> {
+    let setup = setup(alloc, text)?;
     let cons = setup.cons();
     let views = views_of(alloc, cons, views)?;
     check_text(&country_text(alloc, cons, &views), want)

@@ -1,10 +1,10 @@
 //! The texts of the reports, byte for byte.
 
-use crate::views::{PROVINCE, THREE_LISTS, TWIN_TOWN, check, check_text};
+use crate::views::{PROVINCE, THREE_LISTS, check, check_text};
 use std::test::*;
-use tally_report::progress_text;
+use tally_report_overview::progress_text;
 use tally_returns::ProgressRow;
-use tally_setup::Code;
+use tally_test_scripts::{TWIN_TOWN, code, twin_town};
 
 // Two lists of 100 votes each, a lot by which B is first, and three seats.
 const OPEN: &str = "1 1 1: 100 100: 0 0: : : ";
@@ -250,7 +250,7 @@ fn the_texts_of_a_constituency(rt: HostRuntime) -> Result<(), Fail> {
     for (report, setup, view, want) in REPORTS {
         check(alloc, report, setup, view, want)?;
     }
-    let setup = TWIN_TOWN.replace(alloc, "seats = 3", "seats = 2")?;
+    let setup = twin_town(alloc, "dhondt", 2)?;
     let view = "3 1 1: 200 100: 0 0: 2 0: : ";
     check(alloc, "short", setup.as_str(), view, TWO_SEATS_SHORT)?;
     let setup = PROVINCE.replace(alloc, "hare", "dhondt")?;
@@ -277,7 +277,7 @@ fn the_progress_of_constituencies(rt: HostRuntime) -> Result<(), Fail> {
 
 fn row(con: &str, stations: u32, certified: bool) -> Result<ProgressRow, Fail> {
     Ok(ProgressRow {
-        con: Code::new(con.as_bytes()).ok_or("no code")?,
+        con: code(con)?,
         stations,
         received: 0,
         queried: 0,

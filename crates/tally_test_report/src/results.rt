@@ -1,10 +1,10 @@
 //! The result in one answer, byte for byte.
 
-use crate::views::{PROVINCE, TWIN_TOWN, check_text, views_of};
+use crate::views::{PROVINCE, check_text, views_of};
 use std::alloc::Global;
 use std::test::*;
 use tally_report_result::{result_text, results_text};
-use tally_rules::read_setup;
+use tally_test_scripts::{TWIN_TOWN, setup};
 
 // Equal votes without a lot, and with one; certified, and then the one candidate of B is gone; and
 // reopened after that.
@@ -52,14 +52,14 @@ const RESULTS: [(&str, &str, &str); 6] = [
 #[test]
 fn the_result_of_a_constituency(rt: HostRuntime) -> Result<(), Fail> {
     let alloc = rt.alloc();
-    for (setup, view, want) in RESULTS {
-        check_result(alloc, setup, view, want)?;
+    for (text, view, want) in RESULTS {
+        check_result(alloc, text, view, want)?;
     }
     Ok(())
 }
 
-fn check_result(alloc: Global, setup: &str, view: &str, want: &'static str) -> Result<(), Fail> {
-    let setup = read_setup(alloc, setup.as_bytes()).ok().ok_or("no setup")?;
+fn check_result(alloc: Global, text: &str, view: &str, want: &'static str) -> Result<(), Fail> {
+    let setup = setup(alloc, text)?;
     let cons = setup.cons();
     let views = views_of(alloc, cons, view)?;
     let con = cons.first().ok_or("no constituency")?;

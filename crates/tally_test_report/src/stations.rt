@@ -1,15 +1,15 @@
 //! The returns of a constituency as CSV, and its stations.
 
-use crate::views::{TWIN_TOWN, check_text, cut, number, places};
+use crate::views::{check_text, cut};
 use std::alloc::Global;
 use std::test::*;
 use tally_report_overview::{returns_text, stations_text};
-use tally_returns::{Counts, Return, StationRow, Status};
-use tally_rules::read_setup;
-use tally_setup::{Code, Constituency};
+use tally_returns::{Return, StationRow, Status};
+use tally_setup::Constituency;
+use tally_test_scripts::{TWIN_TOWN, code, counts, number, setup};
 
 // One station, its return closed; the same without a return.
-const CLOSED: &str = "s1 300 closed 2 p1: 100 100: 0 0";
+const CLOSED: &str = "s1 300 closed 2 p1: 100,100 0 0";
 
 const CLOSED_STATIONS: &str = "STATIONS c1 Twin Town
 stations 1 missing 0 closed 1
@@ -28,11 +28,11 @@ s1                   300 -
 const NO_RETURNS: &str = "station,slip,blank,spoiled,A,B\n";
 
 // A station of each status, one without votes, and one that is missing.
-const FIVE: &str = "s1 300 received 1 p1: 100 100: 0 0
-s2 1000000 queried 2 p-2: 0 0: 0 0
+const FIVE: &str = "s1 300 received 1 p1: 100,100 0 0
+s2 1000000 queried 2 p-2: 0,0 0 0
 s3 7
-s4 50 corrected 12 p1: 3 2: 1 4
-s5-of-16-letters 100 closed 4 slip_16_letters_: 9 10: 11 12";
+s4 50 corrected 12 p1: 3,2 1 4
+s5-of-16-letters 100 closed 4 slip_16_letters_: 9,10 11 12";
 
 const FIVE_STATIONS: &str = "STATIONS c1 Twin Town
 stations 5 missing 1 closed 1
@@ -64,9 +64,7 @@ fn check(
     stations: &'static str,
     returns: &'static str,
 ) -> Result<(), Fail> {
-    let setup = read_setup(alloc, TWIN_TOWN.as_bytes())
-        .ok()
-        .ok_or("no setup")?;
+    let setup = setup(alloc, TWIN_TOWN)?;
     let con = setup.cons().first().ok_or("no constituency")?;
     let rows = rows_of(alloc, lines)?;
     check_text(&stations_text(alloc, con, &rows), stations)?;
@@ -100,8 +98,8 @@ fn row_of(alloc: Global, line: &str) -> Result<StationRow, Fail> {
     let (station, rest) = cut(line, " ");
     let (electors, rest) = cut(rest, " ");
     Ok(StationRow {
-        station: code_of(station)?,
-        electors: number(electors),
+        station: code(station)?,
+        electors: number(electors)?,
         found: return_of(alloc, rest)?,
     })
 }
@@ -110,26 +108,16 @@ fn return_of(alloc: Global, text: &str) -> Result<Option<Return>, Fail> {
     if text.is_empty() {
         return Ok(None);
     }
-    let (standing, counts) = cut(text, ": ");
+    let (standing, votes) = cut(text, ": ");
     let (status, rest) = cut(standing, " ");
     let (rev, slip) = cut(rest, " ");
     Ok(Some(Return {
-        rev: number(rev),
-        slip: code_of(slip)?,
+        rev: number(rev)?,
+        slip: code(slip)?,
         status: status_of(status),
         note: String::from_str(alloc, "the sum, again")?,
-        counts: counts_of(alloc, counts)?,
+        counts: counts(alloc, votes)?,
     }))
-}
-
-fn counts_of(alloc: Global, text: &str) -> Result<Counts, Fail> {
-    let (votes, others) = cut(text, ": ");
-    let (blank, spoiled) = cut(others, " ");
-    Ok(Counts {
-        votes: places(alloc, votes)?,
-        blank: number(blank),
-        spoiled: number(spoiled),
-    })
 }
 
 fn status_of(word: &str) -> Status {
@@ -139,8 +127,4 @@ fn status_of(word: &str) -> Status {
         "corrected" => Status::Corrected,
         _ => Status::Closed,
     }
-}
-
-fn code_of(text: &str) -> Result<Code, Fail> {
-    Ok(Code::new(text.as_bytes()).ok_or("no code")?)
 }

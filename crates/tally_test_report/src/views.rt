@@ -4,40 +4,13 @@ ghost use Rattle.std.specs.Prelude.{IfOk};
 ghost use Rattle.std.specs.List.{AllZip};
 ghost use Rattle.tally_returns.specs.View.{FitsView};
 
-use std::alloc::{AllocError, Global};
+use std::alloc::Global;
 use std::test::Fail;
-use tally_report::{Report, ReportFault, report_text};
+use tally_report::{ReportFault, report_text};
+use tally_report_names::Report;
 use tally_returns::{ConView, Gone, Past};
-use tally_rules::read_setup;
 use tally_setup::Constituency;
-
-/// One constituency of two lists and one station, by D'Hondt.
-pub(crate) const TWIN_TOWN: &str = r#"[[profile]]
-code = "p"
-method = "dhondt"
-threshold = 0
-base = "valid"
-
-[[constituency]]
-code = "c1"
-name = "Twin Town"
-seats = 3
-profile = "p"
-
-[[constituency.list]]
-code = "A"
-name = "Alpha"
-candidates = ["Ana", "Abel"]
-
-[[constituency.list]]
-code = "B"
-name = "Beta"
-candidates = ["Bea"]
-
-[[constituency.station]]
-code = "s1"
-electors = 300
-"#;
+use tally_test_scripts::{number, numbers, setup};
 
 /// One constituency of three lists and two seats, by modified Sainte-Laguë.
 pub(crate) const THREE_LISTS: &str = r#"[[profile]]
@@ -157,12 +130,12 @@ fn check_view(
 pub(crate) fn check(
     alloc: Global,
     report: &str,
-    setup: &str,
+    text: &str,
     line: &str,
     want: &'static str,
 ) -> Result<(), Fail> {
     let view = view_of(alloc, line)?;
-    let setup = read_setup(alloc, setup.as_bytes()).ok().ok_or("no setup")?;
+    let setup = setup(alloc, text)?;
     let con = setup.cons().first().ok_or("no constituency")?;
     check_view(alloc, con, &view, report, want)
 }
@@ -218,7 +191,7 @@ fn opening(alloc: Global) -> ConView {
 /// seats where it is certified; the lot; a list and a candidate of it who is gone. What follows
 /// after `past`, such as `past 3 1 2; 7 2 1`, are the editions and seats of the certificates that
 /// were reopened.
-fn view_of(alloc: Global, line: &str) -> Result<ConView, AllocError> {
+fn view_of(alloc: Global, line: &str) -> Result<ConView, Fail> {
     let mut view = opening(alloc);
     for (place, part) in line.split(":").enumerate() {
         set_part(alloc, &mut view, place, part.trim())?;
@@ -226,36 +199,38 @@ fn view_of(alloc: Global, line: &str) -> Result<ConView, AllocError> {
     Ok(view)
 }
 
-fn set_part(alloc: Global, view: &mut ConView, place: usize, part: &str) -> Result<(), AllocError> {
+fn set_part(alloc: Global, view: &mut ConView, place: usize, part: &str) -> Result<(), Fail> {
     match place {
-        0 => set_standing(view, part),
-        1 => view.votes = numbers(alloc, part)?,
-        2 => set_others(view, part),
+        0 => set_standing(view, part)?,
+        1 => view.votes = votes_of(alloc, part)?,
+        2 => set_others(view, part)?,
         3 => {
             view.certified = !part.is_empty();
-            view.seats = places(alloc, part)?;
+            view.seats = numbers(alloc, part)?;
         }
-        4 => view.lot = places(alloc, part)?,
+        4 => view.lot = numbers(alloc, part)?,
         _ => set_gone_and_past(alloc, view, part)?,
     }
     Ok(())
 }
 
-fn set_standing(view: &mut ConView, part: &str) {
+fn set_standing(view: &mut ConView, part: &str) -> Result<(), Fail> {
     let (edition, stations) = cut(part, " ");
     let (closed, all) = cut(stations, " ");
-    view.edition = number(edition);
-    view.closed = number(closed);
-    view.stations = number(all);
+    view.edition = number(edition)?;
+    view.closed = number(closed)?;
+    view.stations = number(all)?;
+    Ok(())
 }
 
-fn set_others(view: &mut ConView, part: &str) {
+fn set_others(view: &mut ConView, part: &str) -> Result<(), Fail> {
     let (blank, spoiled) = cut(part, " ");
-    view.blank = u64::from(number(blank));
-    view.spoiled = u64::from(number(spoiled));
+    view.blank = u64::from(number(blank)?);
+    view.spoiled = u64::from(number(spoiled)?);
+    Ok(())
 }
 
-fn set_gone_and_past(alloc: Global, view: &mut ConView, part: &str) -> Result<(), AllocError> {
+fn set_gone_and_past(alloc: Global, view: &mut ConView, part: &str) -> Result<(), Fail> {
     let (gone, past) = cut(part, "past ");
     if !gone.is_empty() {
         view.gone.push(gone_of(alloc, gone.trim())?)?;
@@ -268,20 +243,20 @@ fn set_gone_and_past(alloc: Global, view: &mut ConView, part: &str) -> Result<()
     Ok(())
 }
 
-fn gone_of(alloc: Global, text: &str) -> Result<Gone, AllocError> {
+fn gone_of(alloc: Global, text: &str) -> Result<Gone, Fail> {
     let (list, place) = cut(text, " ");
     Ok(Gone {
-        list: number(list),
-        place: number(place),
+        list: number(list)?,
+        place: number(place)?,
         note: String::from_str(alloc, "resigned")?,
     })
 }
 
-fn past_of(alloc: Global, text: &str) -> Result<Past, AllocError> {
+fn past_of(alloc: Global, text: &str) -> Result<Past, Fail> {
     let (edition, seats) = cut(text, " ");
     Ok(Past {
-        edition: number(edition),
-        seats: places(alloc, seats)?,
+        edition: number(edition)?,
+        seats: numbers(alloc, seats)?,
     })
 }
 
@@ -290,23 +265,10 @@ pub(crate) fn cut<'a>(text: &'a str, mark: &str) -> (&'a str, &'a str) {
     text.split_once(mark).unwrap_or((text, ""))
 }
 
-/// The number of a text, or 0 for a text that is not a number, so that the test that has it fails.
-pub(crate) fn number(text: &str) -> u32 {
-    text.parse::<u32>().unwrap_or(0)
-}
-
-pub(crate) fn places(alloc: Global, text: &str) -> Result<Vec<u32>, AllocError> {
-    let mut places = Vec::new(alloc);
+fn votes_of(alloc: Global, text: &str) -> Result<Vec<u64>, Fail> {
+    let mut votes = Vec::new(alloc);
     for word in text.split_whitespace() {
-        places.push(number(word))?;
+        votes.push(u64::from(number(word)?))?;
     }
-    Ok(places)
-}
-
-fn numbers(alloc: Global, text: &str) -> Result<Vec<u64>, AllocError> {
-    let mut numbers = Vec::new(alloc);
-    for word in text.split_whitespace() {
-        numbers.push(u64::from(number(word)))?;
-    }
-    Ok(numbers)
+    Ok(votes)
 }

@@ -1,6 +1,6 @@
 //! Commands of lines of text.
 
-use crate::setups::{code, number};
+use crate::setups::{code, codes, number};
 use std::alloc::Global;
 use std::test::Fail;
 use tally_returns::{Ask, Counts};
@@ -116,18 +116,6 @@ fn edition_command(alloc: Global, verb: &str, con: Code, rest: &str) -> Result<A
     }
     let note = String::from_str(alloc, rest)?;
     Ok(Ask::Reopen { con, edition, note })
-}
-
-/// The codes of a text such as `B,A`, or of an empty one none.
-fn codes(alloc: Global, text: &str) -> Result<Vec<Code>, Fail> {
-    let mut order = Vec::new(alloc);
-    if text.is_empty() {
-        return Ok(order);
-    }
-    for list in text.split(",") {
-        order.push(code(list)?)?;
-    }
-    Ok(order)
 }
 
 /// `vacate CONSTITUENCY LIST PLACE NOTE`.

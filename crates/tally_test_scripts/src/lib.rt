@@ -22,4 +22,6 @@ pub use returns::{
     TWO_ROWS_AND_A_PIECE, failing_reads, import_count, with_bad_rows,
 };
 pub use scripts::{CERTIFIED, RECOUNT, setups_and_scripts};
-pub use setups::{MORE_STATIONS, TWIN_TOWN, code, entered_twice, number, setup, twin_town};
+pub use setups::{
+    MORE_STATIONS, TWIN_TOWN, code, codes, entered_twice, number, numbers, setup, twin_town,
+};

@@ -96,7 +96,28 @@ pub fn code(text: &str) -> Result<Code, Fail> {
     Ok(Code::new(text.as_bytes()).ok_or("no code")?)
 }
 
+/// The codes of a text such as `B,A`, or of an empty one none.
+pub fn codes(alloc: Global, text: &str) -> Result<Vec<Code>, Fail> {
+    let mut order = Vec::new(alloc);
+    if text.is_empty() {
+        return Ok(order);
+    }
+    for list in text.split(",") {
+        order.push(code(list)?)?;
+    }
+    Ok(order)
+}
+
 /// The number of a text.
 pub fn number(text: &str) -> Result<u32, Fail> {
     Ok(text.parse::<u32>().ok().ok_or("no number")?)
+}
+
+/// The numbers of a text such as `2 1`, or of an empty one none.
+pub fn numbers(alloc: Global, text: &str) -> Result<Vec<u32>, Fail> {
+    let mut found = Vec::new(alloc);
+    for word in text.split_whitespace() {
+        found.push(number(word)?)?;
+    }
+    Ok(found)
 }

@@ -30,7 +30,7 @@ use Rattle.tally_theorems.specs.MessageLaws.{IsImportRoute}
 use Rattle.tally_desk.specs.Requests.{Asks, HasConText, HasProgressText, HasReportText, HasResultText, HasReturnText, ImportsBody, Named, AtCon, AtNamed, AtStation, Orders, ShowsRows, TriesBody, con_in_target, returns_answer, station_in_target, stations_answer}
 use Rattle.tally_desk.specs.Respond.{IsAnswerOn}
 use Rattle.tally_report_overview.specs.Views.{ShowsAll, ShowsAllWhole}
-use Rattle.tally_report.specs.declared.report.Report.{Report}
+use Rattle.tally_report_names.specs.declared.report.Report.{Report}
 
 -- ---- what is shown
 

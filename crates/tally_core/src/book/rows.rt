@@ -51,8 +51,8 @@ pub(super) fn take_source<R: RowSource>(
     Err(ImportFault::TooLong)
 }
 
-/// Lodges a row, and names it where it is bad or refused. A row that is not a Lodge has no answer,
-/// as a bad row has none. It takes one layer off, which the prover needs.
+/// Lodges a row, and names it where it is bad or refused. Only a Lodge has an answer. What a Lodge
+/// brings has a function of its own, since the prover opens one enum at a time.
 fn take_row(
     alloc: Global,
     ledger: &mut Ledger,
@@ -77,7 +77,7 @@ fn take_row(
 }
 
 /// Lodges what a Lodge brings, and names the row where that is refused. Another request has no
-/// answer. It takes one layer off, which the prover needs.
+/// answer.
 fn take_ask(
     alloc: Global,
     ledger: &mut Ledger,

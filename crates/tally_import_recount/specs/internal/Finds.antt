@@ -14,7 +14,7 @@ use Rattle.tally_report_allotment.specs.Recount.{Recounted, question_counted}
 use Rattle.tally_report_allotment.specs.RecountText.{IsRecountText}
 use Rattle.tally_import_recount.specs.Counted.{no_station}
 use Rattle.tally_import_recount.specs.Recounts.{IsFaultOfText, IsTextOf, IsTroubleIn}
-use Rattle.tally_import_recount.specs.Wanted.{Wanted}
+use Rattle.tally_import_votes.specs.WantedRecount.{Wanted}
 use Rattle.tally_import_recount.specs.declared.fault.RecountTrouble.{RecountTrouble}
 use Rattle.tally_import_recount.specs.declared.fault.RecountTrouble.TheVariants as trouble
 

@@ -5,9 +5,9 @@ use Rattle.tally_setup.specs.Setup.{constituency_with}
 use Rattle.tally_returns.specs.declared.refusal.Refusal.{Refusal}
 use Rattle.tally_returns.specs.declared.refusal.Refusal.TheVariants as refusal
 use Rattle.tally_report.specs.declared.fault.ReportFault.{ReportFault}
-use Rattle.tally_office_commands.specs.Trouble.{report_trouble}
-use Rattle.tally_office_commands.specs.declared.trouble.Trouble.{Trouble}
-use Rattle.tally_office_commands.specs.declared.trouble.Trouble.TheVariants as trouble
+use Rattle.tally_office_commands.specs.Show.{report_trouble}
+use Rattle.tally_office_trouble.specs.declared.trouble.Trouble.{Trouble}
+use Rattle.tally_office_trouble.specs.declared.trouble.Trouble.TheVariants as trouble
 
 -- it holds of the constituency of this code, where there is one
 abbrev pub OfCon : List Constituency → List ℕ → (Constituency → Type 0) → Type 0

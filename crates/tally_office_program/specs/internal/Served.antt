@@ -3,7 +3,7 @@ use Rattle.std.specs.Prelude.{◌≡◌, ◌+◌, ℕ, List, Option}
 use Rattle.tally_desk_message.specs.Connection.{Connections}
 use Rattle.tally_desk.specs.Serving.{IsServing}
 use Rattle.tally_desk.specs.Respond.{Answers, Office}
-use Rattle.tally_office_commands.specs.Served.{served_line}
+use Rattle.tally_office_program.specs.Served.{served_line}
 
 -- The text is the line of a server: of this many connections this many were answered, and the
 -- others failed.

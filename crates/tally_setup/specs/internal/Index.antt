@@ -1,11 +1,12 @@
 -- What is kept so that a code is found at once. No public contract speaks of it.
-use Rattle.std.specs.Prelude.{ℕ, suc, zero, ◌≡◌, List, [], ◌∷◌, ◌++◌, map, Option, Some, None}
-use Rattle.std.specs.Prelude.{option_map, if◌then◌else◌}
-use Rattle.std.specs.BTreeMap.{BTreeMap, get}
+use Rattle.std.specs.Prelude.{ℕ, suc, zero, ◌≡◌, List, [], ◌∷◌, ◌++◌, map, Option, Some}
+use Rattle.std.specs.Prelude.{option_map}
+use Rattle.std.specs.HashMap.{HashMap, get}
+use Rattle.std.specs.declared.hash.BuildHasherDefault.{BuildHasherDefault}
+use Rattle.std.specs.declared.hash.FoldHasher.{FoldHasher}
 use Rattle.std.specs.List.{slice_get}
 use Rattle.std.specs.Option.{option_and_then}
 use Rattle.std.specs.Str.{bytes_eq}
-use Rattle.tally_setup.specs.Code.{code_cmp}
 use Rattle.tally_setup.specs.Codes.{AreDistinct, index_of}
 use Rattle.tally_setup.specs.Constituency.{Constituency}
 use Rattle.tally_setup.specs.Limits.{IsSetup}
@@ -13,10 +14,14 @@ use Rattle.tally_setup.specs.Setup.{all_stations, constituency_codes, all_statio
 use Rattle.tally_setup.specs.declared.constituency.Station.{Station}
 use Rattle.tally_setup.specs.declared.setup.StationPlace.{StationPlace}
 
+-- a map from codes to places
+abbrev pub Places : Type 0
+Places = HashMap (List ℕ) ℕ (BuildHasherDefault FoldHasher)
+
 -- No two of the codes are the same, and the map has the place of each.
-pub record IsIndex (codes : List (List ℕ)) (places : BTreeMap (List ℕ) ℕ) : Type 0 where
+pub record IsIndex (codes : List (List ℕ)) (places : Places) : Type 0 where
   pub distinct : AreDistinct codes
-  pub found : (code : List ℕ) → get code_cmp places code ≡ index_of code codes
+  pub found : (code : List ℕ) → get bytes_eq places code ≡ index_of code codes
 
 -- the station at a place, by the number of its constituency and its own number in it
 abbrev pub station_at : List Constituency → StationPlace → Option (Constituency × Station)

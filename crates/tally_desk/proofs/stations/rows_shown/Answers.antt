@@ -2,7 +2,7 @@ use Rattle.std.proofs.Common.{◌≡◌, ◌∙◌, ℕ, List, IfSome, subst, sy
 use Rattle.tally_desk_answer.specs.Answer.{answer_text}
 use Rattle.tally_desk_answer.specs.declared.status.AnswerStatus.TheVariants.{Done}
 use Rattle.tally_desk_answer.specs.declared.status.BodyType.TheVariants.{Text}
-use Rattle.tally_report_overview.specs.declared.shown.StationsReport.{StationsReport}
+use Rattle.tally_report_names.specs.declared.shown.StationsReport.{StationsReport}
 use Rattle.tally_desk.specs.internal.RowsAnswer.{rows_answer}
 use Rattle.tally_desk.proofs.DeskLemmas.{of-found}
 use Rattle.tally_desk.proofs.stations.rows_shown.Goals as goal

@@ -2,7 +2,7 @@ use Rattle.std.proofs.Common.{◌≡◌, subst}
 use Rattle.tally_setup.specs.Setup.{constituency_with}
 use Rattle.tally_office_commands.specs.Imported.{IsTroubleIn}
 use Rattle.tally_office_commands.proofs.ImportLemmas.{find-no-read, find-trouble}
-use Rattle.tally_office_commands.specs.declared.trouble.Trouble.TheVariants.{Read}
+use Rattle.tally_office_trouble.specs.declared.trouble.Trouble.TheVariants.{Read}
 use Rattle.tally_office_commands.proofs.import.import_returns.Goals as goal
 
 pub returns-in-Err-clause-trouble : goal.returns-in-Err-clause-trouble

@@ -7,8 +7,8 @@ use Rattle.tally_returns.specs.declared.ask.Ask.TheVariants.{ShowCon}
 use Rattle.tally_report_overview.specs.Views.{ShowsWhole}
 use Rattle.tally_report_result.specs.Result.{IsResultText}
 use Rattle.tally_office_commands.specs.Results.{IsLineOf, IsResultShown, IsResultTrouble}
-use Rattle.tally_office_commands.specs.declared.trouble.Trouble.{Trouble}
-use Rattle.tally_office_commands.specs.declared.trouble.Trouble.TheVariants as trouble
+use Rattle.tally_office_trouble.specs.declared.trouble.Trouble.{Trouble}
+use Rattle.tally_office_trouble.specs.declared.trouble.Trouble.TheVariants as trouble
 use Rattle.tally_office_commands.proofs.ResultLemmas.{result-trouble}
 use Rattle.tally_office_commands.proofs.ShowLemmas.{con-known, known-found, memory-refused}
 use Rattle.tally_office_commands.proofs.results.show_result.Goals as goal

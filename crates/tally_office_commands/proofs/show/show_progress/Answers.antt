@@ -2,11 +2,11 @@ use Rattle.std.proofs.Common.{◌≡◌, ◌∙◌, ap, sym, subst, string_bytes
 use Rattle.std.proofs.lemmas.Result.{IfOk-weaker, IfErr-weaker}
 use Rattle.tally_keeper.specs.Keeper.{Happens, request}
 use Rattle.tally_returns.specs.declared.ask.Ask.TheVariants.{ShowProgress}
-use Rattle.tally_report.specs.ProgressText.{progress_text}
+use Rattle.tally_report_overview.specs.ProgressText.{progress_text}
 use Rattle.tally_report_overview.specs.Views.{as_progress}
 use Rattle.tally_office_commands.specs.Show.{IsProgressShown, IsProgressTrouble}
-use Rattle.tally_office_commands.specs.declared.trouble.Trouble.TheVariants as trouble
-use Rattle.tally_office_commands.specs.declared.trouble.Trouble.{Trouble}
+use Rattle.tally_office_trouble.specs.declared.trouble.Trouble.TheVariants as trouble
+use Rattle.tally_office_trouble.specs.declared.trouble.Trouble.{Trouble}
 use Rattle.tally_office_commands.proofs.ShowLemmas.{memory-refused, progress-trouble}
 use Rattle.tally_office_commands.proofs.show.show_progress.Goals as goal
 

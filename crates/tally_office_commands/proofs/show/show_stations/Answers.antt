@@ -3,7 +3,7 @@ use Rattle.std.proofs.lemmas.Result.{IfOk-weaker}
 use Rattle.tally_setup.specs.Constituency.{Constituency}
 use Rattle.tally_setup.specs.Setup.{constituency_with}
 use Rattle.tally_keeper.specs.Shown.{ShowsReturns}
-use Rattle.tally_report_overview.specs.Shown.{stations_report}
+use Rattle.tally_report_overview.specs.StationsReport.{stations_report}
 use Rattle.tally_office_commands.specs.Show.{AreStationsShown}
 use Rattle.tally_office_commands.proofs.ShowLemmas.{con-known, known-found}
 use Rattle.tally_office_commands.proofs.show.show_stations.Goals as goal

@@ -17,4 +17,4 @@ pub returns-in-Err-clause-trouble : goal.returns-in-Err-clause-trouble
 returns-in-Err-clause-trouble c con found =
     let both : Some c.in-Some.con.now ≡ Some con = c.in-Some.ensures.found ∙ found in
     let same : con ≡ c.in-Some.con.now = cc in
-    rw same (rw c.from_report.ensures.trouble (withheld (String Global) (report_fault c.in-Some.con.now c.args.view.now c.args.which) c.in-Err.fault c.in-Err.ensures.fault))
+    rw same (rw c.trouble_of_report.ensures.trouble (withheld (String Global) (report_fault c.in-Some.con.now c.args.view.now c.args.which) c.in-Err.fault c.in-Err.ensures.fault))

@@ -1,5 +1,5 @@
 use Rattle.std.proofs.Common.{◌∙◌, subst}
-use Rattle.tally_office_commands.specs.Reported.{IsReported}
+use Rattle.tally_office_trouble.specs.Reported.{IsReported}
 use Rattle.tally_office_program.proofs.serve.serve_on.Goals as goal
 
 pub returns-clause-said : goal.returns-clause-said

@@ -1,6 +1,6 @@
 use Rattle.std.proofs.Common.{◌≡◌, ◌<◌, ◌∙◌, ◌-◌, ◌++◌, List, ℕ, OnOk, length, string_bytes, ap, subst, arith}
 use Rattle.tally_setup.specs.Constituency.{Constituency, ListEntry}
-use Rattle.tally_report.specs.AwardsText.{award_columns}
+use Rattle.tally_report_lines.specs.Award.{award_columns}
 use Rattle.tally_report.proofs.CodeLemmas.{code_at}
 use Rattle.tally_report.proofs.awards.push_award.Goals as goal
 

@@ -1,6 +1,6 @@
 use Rattle.std.proofs.Common.{◌∙◌, ◌++◌, string_bytes, ap}
 use Rattle.tally_setup.specs.Constituency.{Constituency}
-use Rattle.tally_report.specs.Columns.{list_lines}
+use Rattle.tally_report_lines.specs.Columns.{list_lines}
 use Rattle.tally_report.specs.HoldersText.{holder_lines}
 use Rattle.tally_report.proofs.LineLemmas.{line_more, lines_end}
 use Rattle.tally_report.proofs.holders.push_lists.Goals as goal

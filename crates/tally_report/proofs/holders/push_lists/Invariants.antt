@@ -1,5 +1,5 @@
 use Rattle.std.proofs.Common.{◌≡◌, ◌++◌, drop, string_bytes}
-use Rattle.tally_report.specs.Columns.{lines_from, list_lines}
+use Rattle.tally_report_lines.specs.Columns.{lines_from, list_lines}
 use Rattle.tally_report.specs.HoldersText.{holder_lines}
 use Rattle.tally_report.proofs.holders.push_lists.Given as goal
 

@@ -1,5 +1,5 @@
 use Rattle.std.proofs.Common.{◌≡◌, ◌++◌, drop, string_bytes}
-use Rattle.tally_report.specs.Columns.{lines_from, list_lines}
+use Rattle.tally_report_lines.specs.Columns.{lines_from, list_lines}
 use Rattle.tally_report.specs.ProvisionalText.{member}
 use Rattle.tally_report.proofs.provisional.push_group.Given as goal
 

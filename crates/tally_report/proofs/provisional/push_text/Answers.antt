@@ -1,6 +1,6 @@
 use Rattle.std.proofs.Common.{◌≡◌, ◌∙◌, ◌++◌, List, ℕ, Result, Ok, Err, OnOk, append_assoc, ap, string_bytes}
 use Rattle.std.specs.Prelude.{codes}
-use Rattle.tally_report.specs.Columns.{heading, list_lines}
+use Rattle.tally_report_lines.specs.Columns.{heading, list_lines}
 use Rattle.tally_report.specs.ProvisionalText.{provisional_text, stations_line, status_line, total_line}
 use Rattle.tally_report.specs.SeatsText.{seats_line}
 use Rattle.tally_report.proofs.provisional.push_text.Goals as goal

@@ -1,7 +1,7 @@
 use Rattle.std.proofs.Common.{◌∙◌, ◌++◌, string_bytes, ap}
 use Rattle.tally_allot_award.specs.internal.KeptPoll.{kept_poll}
 use Rattle.tally_setup.specs.Constituency.{Constituency}
-use Rattle.tally_report.specs.Columns.{list_lines}
+use Rattle.tally_report_lines.specs.Columns.{list_lines}
 use Rattle.tally_report.specs.QuotaText.{quota_line}
 use Rattle.tally_report.proofs.LineLemmas.{line_more, lines_end}
 use Rattle.tally_report.proofs.quota.push_lists.Goals as goal

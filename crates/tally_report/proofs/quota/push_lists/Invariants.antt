@@ -1,6 +1,6 @@
 use Rattle.std.proofs.Common.{◌≡◌, ◌++◌, drop, string_bytes}
 use Rattle.tally_allot_award.specs.internal.KeptPoll.{kept_poll}
-use Rattle.tally_report.specs.Columns.{lines_from, list_lines}
+use Rattle.tally_report_lines.specs.Columns.{lines_from, list_lines}
 use Rattle.tally_report.specs.QuotaText.{quota_line}
 use Rattle.tally_report.proofs.quota.push_lists.Given as goal
 

@@ -1,7 +1,8 @@
 use Rattle.std.proofs.Common.{◌≡◌, ◌<◌, ◌∙◌, ◌++◌, false, length, get_or, string_bytes, ap, arith}
 use Rattle.tally_setup.specs.Constituency.{Constituency, ListEntry}
 use Rattle.tally_returns.specs.View.{View}
-use Rattle.tally_report.specs.Columns.{is_eligible_at, list_lines}
+use Rattle.tally_report_lines.specs.Columns.{list_lines}
+use Rattle.tally_report.specs.EligibleAt.{is_eligible_at}
 use Rattle.tally_report.specs.QuotientsText.{quotients_line}
 use Rattle.tally_report.proofs.LineLemmas.{line_more, lines_end, not_shown, shown}
 use Rattle.tally_report.proofs.QuotientLemmas.{columns, columns_are}

@@ -1,7 +1,8 @@
 use Rattle.std.proofs.Common.{◌≡◌, ◌<◌, ◌∙◌, ◌++◌, None, false, length, get_or, string_bytes, ap, arith}
 use Rattle.tally_setup.specs.Constituency.{Constituency}
 use Rattle.tally_returns.specs.View.{View}
-use Rattle.tally_report.specs.Columns.{is_eligible_at, list_lines}
+use Rattle.tally_report_lines.specs.Columns.{list_lines}
+use Rattle.tally_report.specs.EligibleAt.{is_eligible_at}
 use Rattle.tally_report.specs.ShortText.{short_columns, short_line}
 use Rattle.tally_report.proofs.LineLemmas.{line_more, lines_end, not_shown, shown}
 use Rattle.tally_report.proofs.TallyLemmas.{votes_at}

@@ -2,8 +2,8 @@ use Rattle.std.proofs.Common.{◌≡◌, ◌<◌, ◌∙◌, ◌++◌, false, le
 use Rattle.tally_setup.specs.Constituency.{Constituency}
 use Rattle.tally_setup.specs.Threshold.{base_of}
 use Rattle.tally_returns.specs.View.{View}
-use Rattle.tally_report.specs.Columns.{list_lines}
-use Rattle.tally_report.specs.TallyText.{tally_office_line}
+use Rattle.tally_report_lines.specs.Columns.{list_lines}
+use Rattle.tally_report.specs.TallyText.{tally_line}
 use Rattle.tally_report.proofs.LineLemmas.{line_more, lines_end}
 use Rattle.tally_report.proofs.TallyLemmas.{few_at, line_is, votes_at}
 use Rattle.tally_report.proofs.tally.push_lists.Goals as goal
@@ -34,12 +34,12 @@ loop-place-preserved c =
     let mark = ap (λ ms. get_or ms place false) c.requires.marks in
     let before = string_bytes c.loop-place.text in
     let after = string_bytes c.push_list.new.text in
-    line_more (tally_office_line con view) con.lists c.deref-list-items.result.now place c.list-item.result before after (string_bytes c.args.text.now ++ list_lines (tally_office_line con view) con)
+    line_more (tally_line con view) con.lists c.deref-list-items.result.now place c.list-item.result before after (string_bytes c.args.text.now ++ list_lines (tally_line con view) con)
     lists c.loop-place-test.true c.list-item.is c.loop-place.invariant
     (line_is con view place c.list-item.result c.index.result.now c.base_of-base.result (get_or c.args.marks.now place false) before after votes base mark c.in_ok-push_list.ensures)
 
 pub returns : goal.returns
 returns c =
-    let line = tally_office_line c.args.con.now c.args.view.now in
+    let line = tally_line c.args.con.now c.args.view.now in
     lines_end line c.args.con.now.lists c.deref-list-items.result.now c.loop-place.place (string_bytes c.loop-place.text) (string_bytes c.args.text.now ++ list_lines line c.args.con.now)
     (c.deref-list-items.ensures.value ∙ ap (λ (k : Constituency). k.lists) c.con.view_is) c.loop-place-test.false c.loop-place.invariant

@@ -1,8 +1,8 @@
 use Rattle.std.proofs.Common.{◌≡◌, ◌++◌, drop, string_bytes}
-use Rattle.tally_report.specs.Columns.{lines_from, list_lines}
-use Rattle.tally_report.specs.TallyText.{tally_office_line}
+use Rattle.tally_report_lines.specs.Columns.{lines_from, list_lines}
+use Rattle.tally_report.specs.TallyText.{tally_line}
 use Rattle.tally_report.proofs.tally.push_lists.Given as goal
 
 abbrev pub invariant-loop-place : goal.invariant-loop-place
 invariant-loop-place l =
-    string_bytes l.text ++ lines_from (tally_office_line l.con l.view) l.place (drop l.place l.con.lists) ≡ string_bytes l.fn.text ++ list_lines (tally_office_line l.con l.view) l.con
+    string_bytes l.text ++ lines_from (tally_line l.con l.view) l.place (drop l.place l.con.lists) ≡ string_bytes l.fn.text ++ list_lines (tally_line l.con l.view) l.con

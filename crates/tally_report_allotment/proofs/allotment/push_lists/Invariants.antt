@@ -1,6 +1,6 @@
 use Rattle.std.proofs.Common.{◌≡◌, ◌++◌, drop, string_bytes}
 use Rattle.tally_report_allotment.specs.AllotmentText.{allot_line}
-use Rattle.tally_report.specs.Columns.{lines_from}
+use Rattle.tally_report_lines.specs.Columns.{lines_from}
 use Rattle.tally_report_allotment.specs.Question.{question}
 use Rattle.tally_report_allotment.specs.internal.Allotments.{details_of}
 use Rattle.tally_report_allotment.proofs.allotment.push_lists.Given as goal

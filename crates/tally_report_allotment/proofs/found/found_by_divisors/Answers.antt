@@ -1,6 +1,6 @@
 use Rattle.std.proofs.Common.{rules, ◌∙◌, length, sym, ap}
 use Rattle.tally_setup.specs.Method.{divisor_rule_of}
-use Rattle.tally_report.proofs.AwardLemmas.{each-among}
+use Rattle.tally_report_lines.proofs.AwardLemmas.{each-among}
 use Rattle.tally_report_allotment.proofs.found.found_by_divisors.Goals as goal
 
 pub returns-in_err-short-clause-fault : goal.returns-in_err-short-clause-fault

@@ -1,6 +1,6 @@
 use Rattle.std.proofs.Common.{◌≡◌, ◌+◌, ◌++◌, drop, string_bytes}
 use Rattle.tally_report_allotment.specs.AllotmentText.{won_line}
-use Rattle.tally_report.specs.Columns.{lines_from}
+use Rattle.tally_report_lines.specs.Columns.{lines_from}
 use Rattle.tally_report_allotment.proofs.lines.push_awards.Given as goal
 
 abbrev pub invariant-loop-index : goal.invariant-loop-index

@@ -1,5 +1,5 @@
 use Rattle.std.proofs.Common.{◌≡◌, ◌++◌, drop, string_bytes}
-use Rattle.tally_report.specs.Columns.{lines_from}
+use Rattle.tally_report_lines.specs.Columns.{lines_from}
 use Rattle.tally_report_allotment.specs.RecountText.{decisive_line}
 use Rattle.tally_report_allotment.proofs.recount.push_decisive.Given as goal
 

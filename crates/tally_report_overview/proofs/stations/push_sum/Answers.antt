@@ -1,5 +1,5 @@
 use Rattle.std.proofs.Common.{sum}
-use Rattle.tally_report.proofs.ColumnLemmas.{number-is}
+use Rattle.tally_report_lines.proofs.ColumnLemmas.{number-is}
 use Rattle.tally_report_overview.proofs.stations.push_sum.Goals as goal
 
 pub returns : goal.returns

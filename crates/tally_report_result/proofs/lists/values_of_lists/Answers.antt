@@ -1,6 +1,6 @@
 use Rattle.std.proofs.Common.{◌≡◌, ◌∙◌, Bool, false, get_or, ap}
 use Rattle.tally_setup.specs.Constituency.{Constituency}
-use Rattle.tally_report.specs.Columns.{is_eligible_at}
+use Rattle.tally_report.specs.EligibleAt.{is_eligible_at}
 use Rattle.tally_report_result.specs.Values.{each_list, list_object, list_values}
 use Rattle.tally_report_result.specs.internal.Found.{data_of, parts_of}
 use Rattle.tally_report_result.proofs.ArrayLemmas.{one_pushed, values_end, values_more}

@@ -1,6 +1,6 @@
 use Rattle.std.proofs.Common.{◌≡◌, true, false, length, Some, not, ap, ◌∙◌, sym, rules, subst, ◌++◌, ◌∷◌, []}
-use Rattle.std.specs.BTreeMap.{Updates}
-use Rattle.tally_setup.specs.Code.{code_cmp}
+use Rattle.std.specs.HashMap.{Updates}
+use Rattle.std.specs.Str.{bytes_eq}
 use Rattle.tally_setup.specs.Codes.{is_among_codes}
 use Rattle.tally_setup.specs.internal.Index.{IsIndex}
 use Rattle.tally_setup.proofs.CodesLemmas.{is_some-index, IsIndex-push}
@@ -17,7 +17,7 @@ invariant_of-self-2 c =
     let e = is_some-index c.args.code _ _ c.self.invariant in
     let absent : is_among_codes c.args.code c.self.inside.codes.items ≡ false = sym e ∙ sym c.contains_key.ensures ∙ c.if-contains_key.false in
     let len : c.len.result ≡ length c.self.inside.codes.items = search rules in
-    let updates : Updates code_cmp c.self.inside.places c.insert.new.self c.args.code (Some (length c.self.inside.codes.items)) = rw len at c.in_ok-insert.ensures.updates in
+    let updates : Updates bytes_eq c.self.inside.places c.insert.new.self c.args.code (Some (length c.self.inside.codes.items)) = rw len at c.in_ok-insert.ensures.updates in
     let items : c.push.new.self.items ≡ c.self.inside.codes.items ++ c.args.code ∷ [] = c.in_ok-push.ensures.items ∙ ap (λ codes. codes ++ c.args.code ∷ []) c.reserve.ensures.items in
     subst (λ codes. IsIndex codes c.insert.new.self) (sym items) (IsIndex-push _ _ _ _ c.self.invariant absent updates)
 

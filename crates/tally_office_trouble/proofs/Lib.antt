@@ -1,0 +1,4 @@
+pub mod ReportedLemmas
+pub mod PutLemmas
+pub mod JudgeLemmas
+pub mod NamedLemmas

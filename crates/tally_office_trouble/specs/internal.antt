@@ -1,0 +1,3 @@
+-- Words of private contracts and of proofs. No promise to a caller speaks of them.
+pub mod Judged
+pub mod Put

@@ -1,5 +1,0 @@
-use Rattle.tally_report.proofs.ColumnLemmas.{number-is}
-use Rattle.tally_report.proofs.column.push_number.Goals as goal
-
-pub returns : goal.returns
-returns c = rw (← number-is c.args.width c.args.n) (rw c.laid_out.ensures at c.write.ensures.bytes)

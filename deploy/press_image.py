@@ -1,0 +1,81 @@
+"""The picture that other sites show beside a link to the results: the certified seats as a half
+circle of dots in the colours of their lists, the others as pale rings, and a bar of how much is
+counted.
+
+It has no word, so that no provisional seat is in it: a picture may be shown without the words that
+are beside it here.
+"""
+
+import math
+import struct
+import zlib
+
+from press_figures import MOST_DOTS, places_of_dots
+
+WIDTH, HEIGHT = 1200, 630
+# The ground, the seats that are not certified, the bar and what is counted of it.
+PAPER, OPEN_SEAT, TRACK, COUNTED = ((251, 250, 247), (190, 187, 178), (226, 223, 214),
+                                    (29, 107, 60))
+# The middle of the half circle, points for each of its own, and the bar.
+MIDDLE, SCALE = (600, 520), 4.6
+BAR = (140, 560, 920, 26)
+
+
+class Canvas:
+    """A picture of points, three bytes each."""
+
+    def __init__(self):
+        self.rows = [bytearray(bytes(PAPER) * WIDTH) for _ in range(HEIGHT)]
+
+    def line(self, y, begin, end, colour):
+        """A line of one point of height; its ends may be within a point, and are mixed."""
+        if not 0 <= y < HEIGHT:
+            return
+        first, last = math.ceil(max(begin, 0)), math.floor(min(end, WIDTH - 1))
+        if first < last:
+            self.rows[y][first * 3:last * 3] = bytes(colour) * (last - first)
+        for x, part in ((first - 1, first - begin), (last, end - last)):
+            if 0 <= x < WIDTH and 0 < part < 1:
+                at = self.rows[y][x * 3:x * 3 + 3]
+                self.rows[y][x * 3:x * 3 + 3] = bytes(
+                    round(old + (new - old) * part) for old, new in zip(at, colour))
+
+    def dot(self, x, y, radius, colour):
+        for row in range(math.floor(y - radius), math.ceil(y + radius) + 1):
+            half = math.sqrt(max(radius ** 2 - (row - y) ** 2, 0))
+            self.line(row, x - half, x + half, colour)
+
+    def png(self):
+        def part(kind, data):
+            end = struct.pack(">I", zlib.crc32(kind + data))
+            return struct.pack(">I", len(data)) + kind + data + end
+
+        lines = b"".join(b"\0" + bytes(row) for row in self.rows)
+        return (b"\x89PNG\r\n\x1a\n"
+                + part(b"IHDR", struct.pack(">IIBBBBB", WIDTH, HEIGHT, 8, 2, 0, 0, 0))
+                + part(b"IDAT", zlib.compress(lines, 6)) + part(b"IEND", b""))
+
+
+def colour_of(text):
+    return tuple(int(text[place:place + 2], 16) for place in (1, 3, 5))
+
+
+def shared_image(site, country):
+    """The picture, as PNG."""
+    canvas = Canvas()
+    if 0 < country.chamber <= MOST_DOTS:
+        dots, size = places_of_dots(country.chamber)
+        seats = [colour_of(site.colours_of(party.code)[0]) for party in country.parties
+                 for _ in range(party.seats)]
+        for (angle, radius), colour in zip(dots, [*seats, *[None] * len(dots)]):
+            x = MIDDLE[0] + SCALE * radius * math.cos(angle)
+            y = MIDDLE[1] - SCALE * radius * math.sin(angle)
+            canvas.dot(x, y, SCALE * size, colour or OPEN_SEAT)
+            if not colour:
+                canvas.dot(x, y, SCALE * size * 0.8, PAPER)
+    left, top, width, height = BAR
+    counted = width * country.closed / max(country.stations, 1)
+    for row in range(top, top + height):
+        canvas.line(row, left, left + width, TRACK)
+        canvas.line(row, left, left + counted, COUNTED)
+    return canvas.png()

@@ -1,0 +1,113 @@
+"use strict";
+const plain = (text) => text.normalize("NFD").replace(/\p{M}/gu, "").toLowerCase();
+const part = (selector) => document.querySelector(selector);
+const parts = (selector) => [...document.querySelectorAll(selector)];
+const parsed = (text) => new DOMParser().parseFromString(text, "text/html");
+
+// Leaves the rows of a table with what is typed, those of its further pages among them.
+function searchTable() {
+  const search = part("main .search");
+  if (!search) return;
+  const field = search.querySelector("input"), body = part(".searched tbody");
+  const own = [...body.rows], all = [...own], more = parts(".parts a");
+  search.hidden = false;
+  field.addEventListener("input", async () => {
+    for (const link of field.value ? more.splice(0) : []) {
+      const page = parsed(await (await fetch(link.href)).text());
+      all.push(...page.querySelectorAll(".searched tbody tr"));
+    }
+    const wanted = plain(field.value);
+    const found = wanted ? all.filter((row) => plain(row.textContent).includes(wanted)) : own;
+    body.replaceChildren(...found);
+    search.querySelector("output").textContent = wanted ? found.length : "";
+  });
+}
+
+// Shows constituencies, places and stations with what is typed, as links.
+function findNames(search) {
+  const field = search.querySelector("input"), said = search.querySelector("output");
+  const list = part(".found");
+  let known;
+  async function read() {
+    const found = [[], [], []], file = await (await fetch(search.dataset.file)).json();
+    for (const { con, name, places, stations, names, starts } of file.constituencies) {
+      const add = (kind, of, href, beside) =>
+        found[kind].push({ of, href, beside, plain: plain(of) });
+      const page = (n) => starts.length
+        ? `stations-${con}-${starts.filter((start) => start <= n).length}.html#${stations[n]}`
+        : `con-${con}.html`;
+      add(0, name, `con-${con}.html`, "");
+      places.forEach((of, n) => add(1, of, `place-${con}-${n + 1}.html`, name));
+      stations.forEach((code, n) => add(2, `${code} ${names[n]}`.trim(), page(n), name));
+    }
+    return found.flat();
+  }
+  const isolated = (text) =>
+    Object.assign(document.createElement("bdi"), { textContent: text });
+  function row({ of, href, beside }) {
+    const item = document.createElement("li"), link = document.createElement("a");
+    link.href = href;
+    link.append(isolated(of));
+    item.append(link, " ", isolated(beside));
+    return item;
+  }
+  field.addEventListener("input", async () => {
+    const typed = field.value, wanted = plain(typed.trim());
+    known ??= read();
+    const found = wanted ? (await known).filter((one) => one.plain.includes(wanted)) : [];
+    if (field.value !== typed) return;
+    list.replaceChildren(...found.slice(0, 30).map(row));
+    said.textContent = wanted && (found.length || search.dataset.none);
+  });
+  field.addEventListener("keydown", (event) => {
+    if (event.key === "Enter") list.querySelector("a")?.click();
+  });
+  search.hidden = false;
+}
+
+// The page renews itself, unless that is not wanted, or somebody types or selects something.
+function renewItself(control) {
+  const tick = control.querySelector("input"), said = control.querySelector("output");
+  const waits = () => !tick.checked || document.hidden || !getSelection().isCollapsed
+    || parts("input[type=search]").some((field) => field.value);
+  const reached = () => parts("a[href], input, [tabindex]");
+  const keep = (write) => { try { return write(localStorage); } catch { return null; } };
+  let shown = part("main").innerHTML;
+  tick.checked = keep((kept) => kept.getItem("renew")) !== "no";
+  function show(page) {
+    const focus = reached().indexOf(document.activeElement);
+    const moved = parts(".scroll").map((e) => e.scrollLeft);
+    const isNew = page.querySelector("main").innerHTML !== shown;
+    shown = page.querySelector("main").innerHTML;
+    for (const of of isNew ? ["title", "style", "header", "main"] : ["header"])
+      part(of).replaceWith(page.querySelector(of));
+    if (isNew) {
+      parts(".scroll").forEach((e, n) => { e.scrollLeft = moved[n] ?? 0; });
+      searchTable();
+      said.textContent = `${said.dataset.renewed} ${part("header time")?.textContent ?? ""}`;
+    } else if (said.textContent === said.dataset.lost) said.textContent = "";
+    if (focus >= 0) reached()[focus]?.focus({ preventScroll: true });
+  }
+  async function renew() {
+    if (waits()) return;
+    const text = await fetch(location.pathname, { cache: "no-cache" })
+      .then((answer) => answer.ok ? answer.text() : "", () => "");
+    const page = parsed(text);
+    if (!page.querySelector("main")) said.textContent = said.dataset.lost;
+    else if (!waits()) show(page);
+  }
+  tick.addEventListener("change", () => {
+    keep((kept) => kept.setItem("renew", tick.checked ? "yes" : "no"));
+    renew();
+  });
+  document.addEventListener("visibilitychange", renew);
+  setInterval(renew, 30000);
+  control.hidden = false;
+}
+
+// A page that was kept as a file has no site to ask.
+if (location.protocol !== "file:") {
+  renewItself(part(".renew"));
+  if (part(".find")) findNames(part(".find"));
+}
+searchTable();

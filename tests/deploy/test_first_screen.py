@@ -1,0 +1,284 @@
+"""The first screen of the press pages of an evening: what is counted, who has how many seats so
+far and what they are, and what is missing."""
+
+import re
+from pathlib import Path
+
+from tests.support import browser
+from tests.support.case import needs
+from tests.support.countries import four, setup_of_four
+from tests.support.desks import answering_desk, done, modelled
+from tests.support.office import constituency, party_list, profile, station
+from tests.support.pages import (
+    RESULT, TWIN, page_of, press, read, results_of, shown_text, site_folder,
+)
+from tests.support.scripts import module
+from tests.support.site import SiteCase
+
+press_head, press_site = module("press_head"), module("press_site")
+
+SPANISH = 'language = "es"\n'
+# Two seats of A 5 (2.5), B 3, C 3, D 1: the second is a matter of a lot between B and C.
+LEVEL = [["A", "Alpha", 5], ["B", "Beta", 3], ["C", "Iris", 3], ["D", "Delta", 1]]
+
+
+def header(name, folder="pages"):
+    """The text under the title of a page, in its order."""
+    text = read(name, folder)
+    return shown_text(text[text.index("<h1>"):text.index('<p class="moment">')]).strip()
+
+
+def level_setup():
+    lists = "".join(party_list(code, name, "Ana", "Bea") for code, name, _ in LEVEL)
+    return (profile("d0") + constituency("c1", "Soria", 2, "d0") + lists
+            + station("s1", 500) + station("s2", 500))
+
+
+def count_level(office, stations):
+    votes = {"s1": [3, 2, 2, 1], "s2": [2, 1, 1, 0]}
+    for code in stations:
+        done(office, f"/station/{code}/lodge",
+             {"slip": "p1", "votes": votes[code], "blank": 0, "spoiled": 0})
+        done(office, f"/station/{code}/close", {"rev": 1})
+
+
+class FirstScreen(SiteCase):
+    def in_order(self, text, *parts):
+        """These are in the text, one after the other."""
+        places = [text.find(part) for part in parts]
+        self.assertEqual((sorted(places), min(places) >= 0), (places, True), (parts, text))
+
+    def test_while_the_count_goes_on(self):
+        """First comes how much is counted, then that a certificate is withdrawn, with the reason;
+        then the seats of each list in one number, what they are, and the votes. The table of the
+        seats comes before the bars."""
+        with four() as (office, port):
+            press(port, "--setup", "setup.toml")
+            press(port, "--setup", "setup.toml", *site_folder(site=SPANISH), folder="es")
+            done(office, "/station/o2/lodge",
+                 {"slip": "p2", "votes": [0, 0, 1], "blank": 0, "spoiled": 0})
+            done(office, "/station/o2/close", {"rev": 1})
+            press(port, "--setup", "setup.toml", folder="all")
+        self.in_order(header("index.html", "all"), "All 6 polling stations are counted.",
+                      "Sur was certified", "Reopened: votes and seats may still change.")
+        self.assertEqual(re.findall("(?i)all votes are counted|until the board",
+                                    shown_text(read("index.html", "all"))), [])
+        self.in_order(header("index.html"), "83.33% of the polling stations are counted, 5 of 6.",
+                      "Sur was certified and is reopened: its 2 seats are provisional again. "
+                      "Reason: a recount.",
+                      "Seats, 5 of 10 certified: B 5 D 3 A 2",
+                      "Of 10 seats: 5 certified and 5 provisional.",
+                      "\u2068Beta\u2069 leads with 42.89% of the votes counted")
+        self.in_order(header("con-sur.html"), "The only polling station is counted.",
+                      "Sur was certified and is reopened: its 2 seats are provisional again.",
+                      "Seats so far, provisional: B 2", "Reopened: votes and seats may still "
+                      "change.", "has the most votes")
+        for name, sentence in (
+                ("pages/con-sur", "Certificate withdrawn. Reopened: votes and seats may still "
+                                  "change."),
+                ("pages/embed-sur", "Reopened: votes and seats may still change."),
+                ("es/con-sur", "Reabierta: votos y escaños aún pueden cambiar.")):
+            with self.subTest(name=name):
+                text = shown_text(read(f"{name}.html", "."))
+                self.assertIn(sentence, text)
+                self.assertEqual(re.findall("(?i)until the board|has not certified|hasta que la "
+                                            "Junta|all votes are counted", text), [])
+        self.in_order(header("con-oeste.html"), "50.00% of the polling stations are counted, 1 of "
+                      "2.", "Seats so far, provisional: D 3",
+                      "3 seats; the count goes on, and none is certified.", "leads with")
+        self.in_order(header("con-norte.html"), "has won 2 of 3 seats", "are counted",
+                      "Certified seats: A 2 B 1")
+        self.assertNotIn("rovisional", header("con-norte.html"))
+        self.in_order(header("index.html", "es"), "Escrutado el 83,33 % de las mesas",
+                      "Sur estaba proclamada y se ha reabierto: sus 2 escaños vuelven a ser "
+                      "provisionales. Motivo: a recount.",
+                      "Escaños, 5 de 10 proclamados: B 5 D 3 A 2",
+                      "De 10 escaños: 5 proclamados y 5 provisionales.")
+        # Those of A are certified, and those of Sur all provisional.
+        for name, so_far, lists in (("index", 0, ["B", "D"]), ("con-sur", 1, ["B"]),
+                                    ("con-norte", 0, [])):
+            with self.subTest(name=name):
+                text = read(f"{name}.html")
+                self.assertEqual(text.count('<p class="outlook so-far">'), so_far)
+                self.assertEqual(re.findall('<span class="piece not-yet">.*?list-([A-Z])',
+                                            text), lists)
+        text = read("index.html")
+        self.assertLess(text.index("<caption>Seats and votes of each list"),
+                        text.index('<figure class="bars"'))
+
+    def test_where_a_lot_is_needed(self):
+        """Both lists are named before any seat, in the box and with the votes; neither is
+        there as if it had none; and the country says which seat is missing."""
+        Path("setup.toml").write_text(level_setup(), encoding="utf-8")
+        with modelled(level_setup()) as (office, port):
+            count_level(office, ["s1"])
+            press(port, "--setup", "setup.toml", folder="half")
+            count_level(office, ["s2"])
+            press(port, "--setup", "setup.toml")
+            press(port, "--setup", "setup.toml", *site_folder(site=SPANISH), folder="es")
+        self.in_order(header("con-c1.html", "half"), "If the votes counted so far were all, a lot "
+                      "between B and C would decide 1 seat.",
+                      "Seats so far, provisional: A 1 So far 1 seat would wait for a lot: B or C")
+        self.in_order(header("con-c1.html"), "All 2 polling stations are counted.",
+                      "A lot must be drawn between B and C for 1 seat.",
+                      "Seats so far, provisional: A 1 1 seat waits for a lot: B or C",
+                      "All votes are counted; 1 seat is provisional until the board certifies.",
+                      "\u2068Alpha\u2069 has the most votes, 41.67%, 16.67 points and "
+                      "2 votes ahead of \u2068Beta\u2069 and \u2068Iris\u2069. These have as "
+                      "many votes as one another.")
+        self.assertIn("No certificate yet. A lot must be drawn between B and C for 1 seat; the "
+                      "board can certify after it.", shown_text(read("con-c1.html")))
+        [caption] = [one for one in page_of("con-c1.html").tables if one.startswith("Provisional")]
+        self.assertEqual([row[1] for row in page_of("con-c1.html").tables[caption][1:]], [
+            "1 provisional", "0 provisional or by lot", "0 provisional or by lot",
+            "0 provisional", "1 provisional", "2 provisional"])
+        self.assertIn(">lot pending 1</text>", read("con-c1.html"))
+        self.assertIn('<p class="outlook lot">1 seat waits for a lot: B or C</p>',
+                      read("con-c1.html"))
+        self.in_order(header("index.html"),
+                      "Soria: a lot must be drawn between B and C for 1 seat.",
+                      "Seats so far, provisional: A 1 1 seat waits for a lot Of",
+                      "Of 2 seats: 1 provisional and 1 waiting for a lot.")
+        self.assertEqual(
+            page_of("index.html").tables["Constituencies in the order of their names"][1],
+            ["Soria no certificate yet, 100.00% counted", "A", "provisional: A 1 lot pending 1"])
+        self.in_order(header("con-c1.html", "es"), "Hay que sortear 1 escaño entre B y C.",
+                      "Escaños hasta ahora, provisionales: A 1 1 escaño pendiente de sorteo: B o C",
+                      "más que \u2068Beta\u2069 e \u2068Iris\u2069.")
+
+    def test_once_all_is_counted(self):
+        """The count is over, and so say the words: nobody leads, and what is missing is the
+        board."""
+        Path("setup.toml").write_text(level_setup(), encoding="utf-8")
+        with modelled(level_setup()) as (office, port):
+            count_level(office, ["s1", "s2"])
+            done(office, "/con/c1/draw", {"edition": 1, "order": ["C", "B"]})
+            press(port, "--setup", "setup.toml")
+        for name in ("index.html", "con-c1.html"):
+            with self.subTest(name=name):
+                text = shown_text(read(name))
+                self.assertEqual(re.findall("leads|so far were|may still change", text), [])
+                self.in_order(header(name), "All 2 polling stations are counted.",
+                              "Seats so far, provisional: A 1 C 1",
+                              "All votes are counted; 2 seats are provisional until the board "
+                              "certifies.", "has the most votes")
+
+    def test_before_the_count(self):
+        """The number of seats is there, and which have no count; no list is said to take no part,
+        and no bar is drawn."""
+        Path("setup.toml").write_text(setup_of_four(), encoding="utf-8")
+        with modelled(setup_of_four()) as (_, port):
+            press(port, "--setup", "setup.toml")
+        self.in_order(header("index.html"), "No polling station is counted yet.",
+                      "Of 10 seats: 10 with no count yet.")
+        self.in_order(header("con-norte.html"), "No polling station is counted yet.",
+                      "3 seats, which nobody has yet.")
+        page, text = page_of("con-norte.html"), read("con-norte.html")
+        self.assertEqual([row[3] for row in page.tables["Votes of each list"][1:]], ["–"] * 3)
+        self.assertEqual((page.figures, "Not all votes" in text), (0, False))
+        self.assertEqual(
+            page_of("index.html").tables["Constituencies in the order of their names"][1],
+            ["Este no certificate yet, 0.00% counted", "–", "no count yet 2"])
+
+    def test_seats_that_are_nobodys_have_words_of_their_own(self):
+        """Seats without a count, those that a lot decides and those that are not certified are
+        named apart."""
+        setup = level_setup() + constituency("c2", "Ávila", 3, "d0") + party_list(
+            "A", "Alpha", "Ana") + station("s3", 500)
+        Path("setup.toml").write_text(setup, encoding="utf-8")
+        with modelled(setup) as (office, port):
+            count_level(office, ["s1"])
+            press(port, "--setup", "setup.toml")
+            press(port, "--setup", "setup.toml", *site_folder(site="provisional = false\n"),
+                  folder="none")
+        self.assertEqual(sorted(re.findall("<text [^>]*>([^<]*)</text>", read("index.html"))),
+                         ["5", "A 0+1", "lot pending 1", "no count yet 3"])
+        text = shown_text(read("index.html"))
+        for sentence in ("Of 5 seats: 1 provisional, 1 waiting for a lot and 3 with no count yet.",
+                         "Not certified: 5.", "Seats that a lot decides: 1.",
+                         "Seats with no count yet: 3.", "Constituencies without a certificate: 2."):
+            with self.subTest(sentence=sentence):
+                self.assertIn(sentence, text)
+        self.assertEqual(re.findall(r"(?i)\bopen\b", text), [])
+        self.assertIn("Of 5 seats: 3 with no count yet and 2 not certified.",
+                      header("index.html", "none"))
+
+    def test_lists_with_as_many_seats(self):
+        """Of lists with as many seats, provisional or certified, that with more votes is first:
+        in the line of the seats, the half circle, the tables, and the part for other sites."""
+        lists = [{"code": code, "name": f"List {code}", "votes": votes, "eligible": True,
+                  "seats": many, "provisional": many, "short": None}
+                 for code, votes, many in (("A", 10, 1), ("B", 30, 1), ("C", 20, 1), ("D", 40, 2))]
+        certified = RESULT | {"lists": lists, "seats": 5, "awards": [], "quota": [], "holders": [],
+                              "method": "hare", "lot": []}
+        provisional = certified | {"certified": False, "status": "open",
+                                   "lists": [row | {"seats": None} for row in lists]}
+        for folder, result in (("certified", certified), ("provisional", provisional)):
+            with answering_desk(TWIN | results_of(result)) as (port, _):
+                press(port, folder=folder)
+            for name in ("index", "con-c1"):
+                with self.subTest(folder=folder, name=name):
+                    self.assertIn("D 2 B 1 C 1 A 1", header(f"{name}.html", folder))
+            for name in ("index", "con-c1", "embed-c1"):
+                with self.subTest(folder=folder, name=name):
+                    self.assertEqual(re.findall('<g class="list-([A-D])"><path',
+                                                read(f"{name}.html", folder)), list("DBCA"))
+            row = page_of("index.html", folder).tables["Constituencies in the order of their names"]
+            self.assertIn("D 2 B 1 C 1 A 1", row[1][2])
+        [table] = [rows for caption, rows in page_of("con-c1.html", "provisional").tables.items()
+                   if caption.startswith("Provisional seats")]
+        self.assertEqual([row[0][0] for row in table[1:5]], list("DBCA"))
+
+    def test_one_and_many(self):
+        """Numbers and their nouns agree, in both languages."""
+        for language, one, two in (("en", "1\u00a0vote ahead", "2\u00a0votes ahead"),
+                                   ("es", "1\u00a0voto más", "2\u00a0votos más")):
+            folder = site_folder(site=f'language = "{language}"\n')[1]
+            site = press_site.Site(Path(folder))
+            for votes, said in ((6, one), (7, two)):
+                with self.subTest(language=language, votes=votes):
+                    standings = [press_head.Standing("A", votes), press_head.Standing("B", 5)]
+                    self.assertIn(said, press_head.leads(site, standings, votes + 5))
+            many = {key: text for key, text in site.words.items()
+                    if isinstance(text, list) and "{number}" in "".join(text)}
+            self.assertGreater(len(many), 40)
+            self.assertEqual({key for key, text in many.items() if len(text) != 2}, set())
+        self.assertEqual([site.listed(names) for names in (
+            ["PSOC"], ["PSOC", "IU"], ["PSOC", "SUMA", "Hierro"])],
+            ["PSOC", "PSOC e IU", "PSOC, SUMA y Hierro"])
+        self.assertEqual([site.one_of(names) for names in (
+            ["PSOC", "SORIA-YA"], ["PSOC", "Osma"], ["A", "B", "Hoz"])],
+            ["PSOC o SORIA-YA", "PSOC u Osma", "A, B u Hoz"])
+
+    @needs("chromium")
+    def test_the_pages_on_a_phone(self):
+        """No table of the pages of the country and of a constituency is wider than a phone, and no
+        number is cut; the first screen has what is counted and the seats."""
+        big = [["A", "Alpha", 1_234_567], ["B", "Beta", 1_134_567], ["C", "Gamma", 934_567]]
+        lists = [{"code": code, "name": name * 6, "votes": votes, "eligible": True, "seats": many,
+                  "provisional": many, "short": None} for (code, name, votes), many
+                 in zip(big, (14, 12, 11))]
+        first = RESULT | {"lists": lists, "seats": 37, "awards": [], "quota": [], "holders": [],
+                          "method": "hare", "lot": []}
+        second = first | {"con": "c2", "name": "Castellón", "certified": False, "status": "open",
+                          "lists": [row | {"seats": None} for row in lists]}
+        cut = ("return [...document.querySelectorAll('.scroll')].filter((e) => e.scrollWidth > "
+               "e.clientWidth + 1).map((e) => e.innerText)")
+        with answering_desk(TWIN | results_of(first, second)) as (port, _):
+            press(port, folder="pages")
+            press(port, *site_folder(site=SPANISH), folder="es")
+        with browser.browser(Path.cwd()) as it:
+            for folder in ("pages", "es"):
+                for name in ("index", "con-c2", "count", "list-A", "embed"):
+                    it.open((Path.cwd() / f"{folder}/{name}.html").as_uri())
+                    for width in (320, 360):
+                        with self.subTest(folder=folder, name=name, width=width):
+                            it.size(width, 640)
+                            self.assertEqual(it.run(cut), [])
+                            self.assertEqual(it.run("return document.documentElement.scrollWidth"),
+                                             width)
+                            if name in ("index", "con-c2"):
+                                ends = it.run("return [...document.querySelectorAll('.counted, "
+                                              ".outlook, .missing')].map((e) => "
+                                              "e.getBoundingClientRect().bottom)")
+                                self.assertEqual((len(ends), max(ends) < 640), (3, True), ends)

@@ -1,0 +1,78 @@
+"""The search of the first page and the page that renews itself, in a browser."""
+
+from pathlib import Path
+
+from tests.deploy.test_places import PLACES
+from tests.deploy.test_shown_pages import web_server
+from tests.support import browser
+from tests.support.case import needs
+from tests.support.countries import four
+from tests.support.desks import done
+from tests.support.pages import press, site_folder
+from tests.support.site import SiteCase
+
+FOUND = ("return [...document.querySelectorAll('.found a')].map((e) => [e.textContent, "
+         "e.getAttribute('href')])")
+SAID = "return document.querySelector('.renew output').textContent.includes(arguments[0])"
+
+
+class RenewedPages(SiteCase):
+    @needs("chromium")
+    def test_what_the_first_page_finds(self):
+        """Constituencies, towns and stations, whatever the accents and the case; the row of a
+        station is shown. Without scripts there is no field."""
+        with four() as (_, port):
+            press(port, "--setup", "setup.toml", *site_folder(stations=PLACES), folder="four")
+        with browser.browser(Path.cwd()) as it, web_server(Path.cwd()) as site:
+            for typed, wanted in (
+                ("OEST", [["Óeste <3>", "con-oeste.html"]]),
+                ("alcaniz", [["Alcañiz", "place-este-1.html"]]),
+                ("ribera", [["Ribera", "place-norte-1.html"], ["Ribera", "place-sur-1.html"]]),
+                ("n1", [["n1 School <old>, hall", "stations-norte-1.html#n1"]])):
+                with self.subTest(typed=typed):
+                    it.open(f"{site}/four/index.html")
+                    it.type(".find input", typed)
+                    it.wait("return document.querySelector('.found a')")
+                    self.assertEqual((it.run(FOUND), it.text(".find output")),
+                                     (wanted, str(len(wanted))))
+            it.type(".find input", "n1\ue007")
+            it.wait("return location.hash === '#n1'")
+            self.assertEqual(it.run("return document.querySelector(':target th').innerText"),
+                             "n1 School <old>, hall")
+            it.open(f"{site}/four/index.html")
+            it.type(".find input", "nowhere")
+            it.wait("return document.querySelector('.find output').textContent.startsWith('none')")
+            it.command("Emulation.setScriptExecutionDisabled", value=True)
+            it.open(f"{site}/four/index.html")
+            self.assertEqual((it.visible(".find"), it.visible(".renew")), (False, False))
+
+    @needs("chromium")
+    def test_a_page_that_renews_itself(self):
+        """It shows each change, and says so; the focus stays. Once somebody does not want it,
+        nothing changes, on other pages too."""
+        with four() as (office, port), browser.browser(Path.cwd()) as it:
+            press(port, "--setup", "setup.toml")
+            with web_server(Path.cwd()) as site:
+                it.open(f"{site}/pages/con-oeste.html")
+                it.run("document.querySelector('main a').focus()")
+                done(office, "/station/o2/lodge",
+                     {"slip": "p2", "votes": [0, 0, 1], "blank": 0, "spoiled": 0})
+                done(office, "/station/o2/close", {"rev": 1})
+                press(port, "--setup", "setup.toml")
+                it.run("document.dispatchEvent(new Event('visibilitychange'))")
+                it.wait(SAID, "Something changed")
+                self.assertIn("All 2 polling stations are counted.", it.text("header .counted"))
+                self.assertEqual(it.run("return document.activeElement.tagName"), "A")
+                it.click(".renew input")
+                done(office, "/con/oeste/certify", {"edition": 1})
+                press(port, "--setup", "setup.toml")
+                it.run("document.dispatchEvent(new Event('visibilitychange'))")
+                self.assertIn("No certificate yet", it.text("header .state"))
+                it.open(f"{site}/pages/con-norte.html")
+                self.assertFalse(it.run("return document.querySelector('.renew input').checked"))
+                it.open(f"{site}/pages/con-oeste.html")
+                it.click(".renew input")
+                it.wait("return document.querySelector('.renew input').checked")
+            # The site is gone.
+            it.run("document.dispatchEvent(new Event('visibilitychange'))")
+            it.wait(SAID, "The site was not reached")
