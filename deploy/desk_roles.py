@@ -24,6 +24,7 @@ ACTS = {
     "reopen": ("board",),
     "vacate": ("board",),
     "history": ("clerk", "second", "board"),
+    "typed": ("clerk", "second", "board"),
 }
 # Bytes that the body of an import, and of another command, may have.
 MOST_OF_IMPORT, MOST_OF_COMMAND = 1_048_576, 16_384
@@ -31,13 +32,14 @@ MOST_OF_IMPORT, MOST_OF_COMMAND = 1_048_576, 16_384
 # The source of the answer to each kind of request: `page` is the clerks' page, `setup` the lists of
 # the setup, `file` a press page. The reader has each `table`, also those that are asked for `now`,
 # for who acts on them; what says `slips`, for who may see these; and `all` stations of a
-# constituency, as a role may see them. The recorder has a `history`, and passes on each `command`.
+# constituency, as a role may see them. The recorder has a `history` and who `typed` how much, and
+# passes on each `command`.
 READ = ("GET", "HEAD")
 METHODS = {"page": READ, "logout": READ, "setup": READ, "file": READ, "table": READ, "slips": READ,
            "now": ("GET",), "now_slips": ("GET",), "now_all": ("GET",), "history": ("GET",),
-           "command": ("POST",)}
+           "typed": ("GET",), "command": ("POST",)}
 # Of these a web page of the site asks, and no typed address leads there.
-FROM_A_PAGE = ("now", "now_slips", "now_all", "history", "command", "logout")
+FROM_A_PAGE = ("now", "now_slips", "now_all", "history", "typed", "command", "logout")
 # Who sees what a slip says before it is closed; a station sees its own.
 SEE_SLIPS = ("clerk", "board")
 
@@ -53,6 +55,7 @@ TARGETS = [(kind, re.compile(pattern)) for kind, pattern in (
     ("slips", f"{CON}/({OF_ALL})"),
     ("now_all", f"/now{CON}/(?P<table>{OF_ALL})"),
     ("now_slips", f"/now(?P<table>{STATION})"),
+    ("typed", f"/now{CON}/(?P<act>typed)"),
     ("now", f"/now(?P<table>/progress|/country|/results|{CON}(/[a-z]+)?)"),
     ("history", f"/now{STATION}/(?P<act>history)"),
     ("command", f"{STATION}/(?P<act>lodge|query|correct|close|confirm)"),

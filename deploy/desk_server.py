@@ -276,6 +276,12 @@ class Handler(http.server.BaseHTTPRequestHandler):
         self.pass_on(self.server.house.recorder, "GET", f"/history/{found.station}",
                      Office_Role=self.server.person.role, Office_Allowed=self.says_allowed(found))
 
+    def answer_typed(self, found):
+        person = self.server.person
+        self.pass_on(self.server.house.recorder, "GET", f"/typed/{found.con}",
+                     Office_Name=person.name, Office_Role=person.role,
+                     Office_Allowed=self.says_allowed(found))
+
     def answer_command(self, found):
         person, length = self.server.person, self.length()
         body = self.rfile.read(length)

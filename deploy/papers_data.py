@@ -162,15 +162,14 @@ class Con:
         """The places of the lists that a lot has to decide among; none where the votes decide."""
         return recounts.group(self.setup, self.votes, self.eligible) if self.eligible else []
 
-    @property
-    def elected(self):
-        """Per seat, by lists: the list's place, the candidate's place in it, and the name; None for
-        both where nobody is left."""
+    def elected(self, gone):
+        """Per seat, by lists, where these are gone: the list's place, the candidate's place in it,
+        and the name; None for both where nobody is left."""
         found = []
         for place, one in enumerate(self.lists, 1):
             seats = self.given.get(place, 0)
             left = [(order, name) for order, name in enumerate(one["candidates"], 1)
-                    if (place, order) not in self.gone][:seats]
+                    if (place, order) not in gone][:seats]
             found += [(place, *who) for who in left]
             found += [(place, None, None)] * (seats - len(left))
         return found
@@ -277,20 +276,45 @@ class Record(entries.Reading):
     def __init__(self, setup):
         super().__init__(setup)
         self.number, self.closers, self.events = 0, {}, []
+        # Of each correction, by its line, the figures before it and after it; and who was gone at
+        # the last certificate of a constituency.
+        self.corrections, self.gone_before = {}, {}
 
     def look(self, said):
         """Counts a line that the reader of entries would print: what a paper says of it is looked for there."""
         self.left += 1
 
     def done(self, command):
-        left = self.left
+        left, before = self.left, self.figures_of(command.code)
         super().done(command)
-        if self.left == left and command.what in ("query", "reopen", "draw"):
+        if self.left == left and command.what in ("query", "correct", "reopen", "draw"):
             self.events.append(command)
+        if command.what == "correct":
+            self.corrections[command.number] = before, self.figures_of(command.code)
+        if command.what == "certify":
+            self.gone_before[command.code] = set(self.gone)
         if command.what == "close":
             self.closers[command.code] = command.name, command.time
 
+    def figures_of(self, station):
+        """The slip and the numbers of a station's return as it is by now; None where they are not
+        known."""
+        known = self.returns[station].revisions if station in self.returns else []
+        return known[-1][1] if known else None
+
     # ---- of a constituency
+
+    def gone_since(self, con):
+        """Those who are gone since the certificate; None where the record does not say."""
+        whole = len(self.editions[con.code]) - 1 == con.edition
+        if not whole or con.gone.keys() - self.places_of(con, self.gone):
+            return None
+        return con.gone.keys() - self.places_of(con, self.gone_before.get(con.code, ()))
+
+    def places_of(self, con, gone):
+        """Those of a constituency among these, as the tables have them."""
+        return {(place, order) for code, named, order in gone if code == con.code
+                for place, one in enumerate(con.lists, 1) if one["code"] == named}
 
     def meet(self, con):
         """Refuses a record that knows more of the constituency than the copy, or something else."""
@@ -303,9 +327,7 @@ class Record(entries.Reading):
             if one and len(known) == one.revision and known[-1] != (one.status, one.figures):
                 raise Refused("other_record", con=con.code, what=station["code"])
         known = self.editions[con.code]
-        gone = {(place, order) for code, named, order in self.gone if code == con.code
-                for place, one in enumerate(con.lists, 1) if one["code"] == named}
-        if len(known) - 1 > con.edition or gone - con.gone.keys():
+        if len(known) - 1 > con.edition or self.places_of(con, self.gone) - con.gone.keys():
             raise Refused("copy_is_older", con=con.code, what=con.code)
         if len(known) - 1 == con.edition and known[-1] != con.certified:
             raise Refused("other_record", con=con.code, what=con.code)
@@ -348,6 +370,14 @@ def read_record(file, text):
         raise Refused("record_of_another", file=file)
     record.number = chain.number
     return record
+
+
+def gone_since(con, record):
+    """Those who are gone since the certificate, whom it has among the elected; None where nobody
+    knows. A seat is vacated only under a certificate: since the first one, all of them are gone."""
+    if not con.gone or not con.past:
+        return con.gone.keys()
+    return record.gone_since(con) if record else None
 
 
 def note_of(command):

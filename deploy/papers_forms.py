@@ -1,14 +1,17 @@
 """The papers that a board signs: texts of a language, and what each template is given."""
 
+import json
 import re
 import string
 import tomllib
+from collections import Counter
 from datetime import datetime
 from pathlib import Path
+from zoneinfo import ZoneInfo
 
-from papers_data import Refused, Unusable, note_of
+from papers_data import SPOILED, Refused, Unusable, gone_since, note_of
 from press_parts import hundredths
-from press_site import Site
+from press_site import ABOUT, Site, check_values, read_about
 from press_templates import Markup
 
 HERE = Path(__file__).resolve().parent
@@ -17,8 +20,8 @@ REFERENCE = "en"
 # Columns of lists in a table of stations, on a sheet that lies: beside the sums, and in each
 # further table.
 WIDE_FIRST, WIDE = 10, 15
-# Rows to write complaints and appeals in.
-ROOM_FOR_COMPLAINTS, ROOM_FOR_APPEALS = 4, 2
+# Rows to write complaints, appeals, and other statements in.
+ROOM_FOR_COMPLAINTS, ROOM_FOR_APPEALS, ROOM_FOR_MORE = 4, 2, 2
 # Codes of lists that are longer are written upwards above their columns.
 LONG_CODE = 8
 # In the text of page numbers, where they are to be.
@@ -83,9 +86,20 @@ class Forms(Site):
     def __init__(self, folder, language=None, trial=False):
         super().__init__(folder)
         self.trial = trial
-        self.language = language or self.language
+        if language:
+            self.speak(folder, language)
         self.words = read_texts(self.language)
         self.templates.environment.filters |= {"in_style": in_style, "page_counters": counters}
+
+    def speak(self, folder, language):
+        """Takes another language than that of the site, and the texts that the site has in it."""
+        self.language = language
+        if folder:
+            about = read_about(file := folder / "site.toml")
+            check_values(file, own := about.get(language, {}))
+            self.about = about | own
+            self.templates.environment.globals["about"] = {
+                key: self.about.get(key) for key in ABOUT}
 
     def board_of(self, con, *roles):
         """The members of the board of a constituency, each with its office in it; of these roles,
@@ -102,8 +116,11 @@ class Forms(Site):
         return self.board_of(con, *roles) + blank
 
     def when(self, time):
-        """A moment of the record."""
+        """A moment of the record, in the zone of the site; in that of the record where the site has
+        none."""
         moment = datetime.fromisoformat(time)
+        if "timezone" in self.about:
+            moment = moment.astimezone(ZoneInfo(self.about["timezone"]))
         zone = moment.strftime("%z")
         return self.say("moment", day=self.day(moment), hour=moment.strftime("%H:%M"),
                         zone=f"{zone[:3]}:{zone[3:]}")
@@ -149,11 +166,12 @@ def done_at(forms):
     return forms.say("done_at", place=place) if place else forms.say("done_at_blank")
 
 
-def result(forms, con):
-    """The sums of a constituency, as rows of a text and a number."""
+def result(forms, con, by_hand=()):
+    """The sums of a constituency, as rows of a text and a number; those that the office does not
+    know, and that are written in by hand, have none."""
     voters = con.valid + con.spoiled
     turnout = forms.say("per_cent", share=forms.per_cent(hundredths(voters, con.electors)))
-    rows = [("electors", forms.number(con.electors)),
+    rows = [("electors", forms.number(con.electors)), *((key, "") for key in by_hand),
             *([("agents", forms.number(con.agents))] if con.agents else []),
             ("voters", forms.number(voters)), ("turnout", turnout),
             ("valid", forms.number(con.valid)),
@@ -179,9 +197,8 @@ def threshold(forms, con):
     return forms.say("threshold", share=forms.per_cent(least))
 
 
-def in_order(forms, con, places):
+def in_order(forms, codes):
     """Lists in the order of a lot, as a text."""
-    codes = [con.lists[place - 1]["code"] for place in places]
     return ", ".join(forms.say("lot_place", place=n, list=code)
                      for n, code in enumerate(codes, 1))
 
@@ -193,7 +210,8 @@ def lot(forms, con, record):
     if not con.lot:
         needed = ", ".join(con.lists[place - 1]["code"] for place in con.lot_needed)
         return [forms.say("lot_missing", lists=needed) if needed else forms.say("lot_none")]
-    found = [forms.say("lot_drawn", lists=in_order(forms, con, con.lot))]
+    found = [forms.say("lot_drawn", lists=in_order(
+        forms, [con.lists[place - 1]["code"] for place in con.lot]))]
     rule = con.setup["rule"]
     if rule.get("lot") == "alternating" and rule["method"] != "hare":
         found.append(forms.say("lot_turned"))
@@ -212,21 +230,48 @@ def withdrawn(forms, con):
 # ---- the act of the general count
 
 
+def changes(forms, con, correction):
+    """The figures that a correction changed, as a text: each before it and after it."""
+    before, after = correction
+    if not before or not after:
+        return forms.say("unknown_entry")
+    names = {0: forms.say("short_blank"), SPOILED: forms.say("short_spoiled"),
+             **{place: one["code"] for place, one in enumerate(con.lists, 1)}}
+    old, new = dict(before[1]), dict(after[1])
+    pairs = [(names.get(item, item), forms.number(old.get(item, 0)), forms.number(new.get(item, 0)))
+             for item in sorted(old.keys() | new.keys()) if old.get(item) != new.get(item)]
+    pairs += [(forms.say("slip"), before[0], after[0])] if before[0] != after[0] else []
+    return "; ".join(forms.say("changed", what=what, before=before, after=after)
+                     for what, before, after in pairs) or forms.say("changed_nothing")
+
+
+def incident(forms, con, record, one):
+    """An incident by its command: what was done, why, and when and by whom."""
+    said = {"query": "query_of", "correct": "correction_of", "draw": "draw_of",
+            "reopen": "reopening_of"}[one.what]
+    if one.what == "correct":
+        why = changes(forms, con, record.corrections[one.number])
+    elif one.what == "draw":
+        why = in_order(forms, json.loads(one.body)["order"])
+    else:
+        why = note_of(one)
+    return (forms.words[said].format(station=one.code), why,
+            forms.say("by_and_when", name=one.name, moment=forms.when(one.time)))
+
+
 def incidents(forms, con, record):
-    """Queries and reopenings: what, why, when and by whom. What the record does not have is
-    there from the copy, without its moment."""
-    queries = record.events_of(con, "query") if record else []
-    reopened = record.events_of(con, "reopen") if record else []
+    """Queries, corrections, lots and reopenings: what, why, when and by whom. What the record does
+    not have is there from the copy, without its moment."""
+    queries, corrected, drawn, reopened = (
+        record.events_of(con, what) if record else []
+        for what in ("query", "correct", "draw", "reopen"))
     known = {(one.code, note_of(one)) for one in queries + reopened}
     found = [(forms.say("query_of", station=one.station), one.note, None) for one in con.returns
              if one.note and (one.station, one.note) not in known]
     if con.note and (con.code, con.note) not in known:
         found.append((forms.say("reopening_of"), con.note, None))
-    of_record = sorted(queries + reopened, key=lambda one: one.number)
-    return [*((forms.say("reopening_of") if one.what == "reopen"
-               else forms.say("query_of", station=one.code), note_of(one),
-               forms.say("by_and_when", name=one.name, moment=forms.when(one.time)))
-              for one in of_record), *found]
+    of_record = sorted(queries + corrected + drawn + reopened, key=lambda one: one.number)
+    return [*(incident(forms, con, record, one) for one in of_record), *found]
 
 
 def annex(forms, con):
@@ -264,14 +309,33 @@ def act_of_count(forms, con, record):
                       stations=forms.number(len(con.stations)))
     return {**paper(forms, con, "count_form", record), "said": said,
             "board": forms.board_of(con.code), "signers": forms.signers(con.code),
-            "result": result(forms, con), "lists": list_rows(forms, con),
+            "result": result(forms, con, by_hand=("certificates",)),
+            "lists": list_rows(forms, con),
             "threshold": threshold(forms, con), "lot": lot(forms, con, record),
             "incidents": incidents(forms, con, record), "withdrawn": withdrawn(forms, con),
-            "lost": ", ".join(lost), "room": ROOM_FOR_COMPLAINTS, "done_at": done_at(forms),
-            "annex": annex(forms, con)}
+            "lost": ", ".join(lost), "room": ROOM_FOR_COMPLAINTS, "more": ROOM_FOR_MORE,
+            "done_at": done_at(forms), "annex": annex(forms, con)}
 
 
 # ---- the act of proclamation
+
+
+def gone_of(forms, con, wanted):
+    """Who of these is gone, and why."""
+    return [forms.said("gone_of", list=con.lists[place - 1]["code"], order=order,
+                       name=forms.templates.name(con.lists[place - 1]["candidates"][order - 1]),
+                       note=forms.templates.name(note))
+            for (place, order), note in con.gone.items() if (place, order) in wanted]
+
+
+def holders(forms, con, since):
+    """Who has a seat in the place of those who are gone since the certificate, and the seats for
+    which nobody is left."""
+    added = Counter(con.elected(con.gone)) - Counter(con.elected(con.gone.keys() - (since or ())))
+    return [forms.said("holder_of", list=con.lists[place - 1]["code"], order=order,
+                       name=forms.templates.name(name)) if order
+            else forms.said("holder_none", list=con.lists[place - 1]["code"])
+            for place, order, name in added.elements()]
 
 
 def act_of_proclamation(forms, con, record):
@@ -282,19 +346,20 @@ def act_of_proclamation(forms, con, record):
     said = forms.said(key, con=forms.templates.name(con.setup["name"]),
                       seats=forms.number(con.setup["seats"]),
                       method=forms.words["methods"][con.setup["rule"]["method"]])
+    since = gone_since(con, record)
+    before = con.gone.keys() - (since or ())
     elected = [{"seat": forms.number(seat), "list": con.lists[place - 1], "order": order,
-                "name": name} for seat, (place, order, name) in enumerate(con.elected, 1)]
-    gone = [forms.said("gone_of", list=con.lists[place - 1]["code"], order=order,
-                       name=forms.templates.name(con.lists[place - 1]["candidates"][order - 1]),
-                       note=forms.templates.name(note))
-            for (place, order), note in con.gone.items()]
+                "name": name} for seat, (place, order, name) in enumerate(con.elected(before), 1)]
+    gone = gone_of(forms, con, before)
     return {**paper(forms, con, "proclamation_form", record), "said": said,
             "board": forms.board_of(con.code),
             "signers": forms.signers(con.code, "president", "secretary"),
             "result": result(forms, con), "lists": list_rows(forms, con),
             "threshold": threshold(forms, con), "lot": lot(forms, con, record),
-            "elected": elected, "gone": gone, "withdrawn": withdrawn(forms, con),
-            "room": ROOM_FOR_COMPLAINTS, "appeals": ROOM_FOR_APPEALS,
+            "elected": elected, "gone": gone, "gone_unknown": since is None,
+            "gone_since": gone_of(forms, con, since or ()), "holders": holders(forms, con, since),
+            "withdrawn": withdrawn(forms, con), "room": ROOM_FOR_COMPLAINTS,
+            "appeals": ROOM_FOR_APPEALS, "more": ROOM_FOR_MORE,
             "done_at": done_at(forms), "total": forms.number(sum(con.given.values()))}
 
 

@@ -47,12 +47,13 @@ from press_data import (ACTS, OF_HASH, OPEN, STATION, adds_up, con_csv, con_json
                         index_csv, index_json, json_text, manifest, record_csv, results_csv,
                         returns_csv, returns_in, schemas)
 from press_country import together
-from press_embed import con_embedded, country_embedded
+from press_embed import con_embedded, country_embedded, withdrawn_embedded
 from press_image import shared_image
 from press_lists import elected_csv, elected_pages, list_pages
-from press_pages import aged, con_bodies, con_page, count_pages, details_page, index_pages, unaged
+from press_pages import aged, con_bodies, con_page, count_pages, details_page, index_pages, unaged, withdrawn_page
+from press_parts import AGE
 from press_places import find_json, places_csv
-from press_results import NoAnswer, read_results, read_stations
+from press_results import NoAnswer, read_results, read_stations, without_provisional
 from press_site import LANGUAGES, Site, Wrong, fault_of
 from press_stations import places_pages, stations_pages
 from press_templates import TemplateError
@@ -212,11 +213,33 @@ def con_of(page):
     return found and (found[1] or found[2])
 
 
+def withdraw(folder, site, codes):
+    """Of a constituency that is none of these, as of an election before: its pages say that they are withdrawn, for whoever has their
+    address, and its files for programs are removed. A page that this program did not make is left."""
+    moment, gone = datetime.now().astimezone(), set()
+    for one, into in site.editions(folder):
+        for page in into.glob("*.html"):
+            code = con_of(page.name)
+            if code and code not in codes and is_ours(page):
+                gone.add(code)
+                put_dated(into, page.name, withdrawn_embedded(one) if page.name.startswith("embed-") else withdrawn_page(one), moment)
+    for code in gone:
+        returns = re.compile(rf"stations-{re.escape(code)}-(\d+|{OPEN})\.csv")
+        names = [file.name for file in folder.glob("stations-*.csv") if returns.fullmatch(file.name)]
+        for name in (f"con-{code}.csv", f"con-{code}.json", f"places-{code}.csv", *names):
+            remove(folder, name)
+
+
 def remove_languages(folder, site):
     """Removes the pages of each language that the site no longer has beside its own: nobody would renew them."""
     for language in LANGUAGES.keys() - {one.language for one in site.others}:
         if (folder / language).is_dir():
             shutil.rmtree(folder / language)
+
+
+def is_ours(page):
+    """Whether this program made a page: the folder may have others of the board's, in any encoding."""
+    return AGE[0].encode() in page.read_bytes()
 
 
 def mark_old(site, file):
@@ -345,7 +368,7 @@ def write_stations(folder, site, code, con, entry, seen, file, states=None):
         pages, seen.starts[one.language, code] = stations_pages(one, code, con, entry, text, states) if file else ([], [])
         write_parts(into, f"stations-{code}", pages)
         of_each, of_table, places = places_pages(one, code, con, entry, text, states)
-        write_parts(into, f"place-{code}", of_each)
+        write_parts(into, f"place-{code}", left_as_they_are(into, f"place-{code}", of_each, seen.places.setdefault(code, {})))
         write_parts(into, f"places-{code}", of_table)
     if places:
         put(folder, f"places-{code}.csv", places_csv(con, places))
@@ -353,11 +376,23 @@ def write_stations(folder, site, code, con, entry, seen, file, states=None):
         remove(folder, f"places-{code}.csv")
 
 
+def left_as_they_are(folder, name, pages, before):
+    """These pages, with None in the place of each that shows what it showed when it was made last. `before` keeps what each shows."""
+    found = []
+    for place, (shows, written) in enumerate(pages, 1):
+        file = folder / f"{name}-{place}.html"
+        found.append(None if before.get(file) == shows and file.exists() else written)
+        before[file] = shows
+    return found
+
+
 def write_parts(folder, name, pages):
-    """Writes pages that follow one another, each a text or a function of its moment, and removes those of before that are not of
-    them."""
+    """Writes pages that follow one another, each a text, a function of its moment, or None where it stays as it is, and removes those
+    of before that are not of them."""
     moment = datetime.now().astimezone()
     for place, one in enumerate(pages, 1):
+        if one is None:
+            continue
         if callable(one):
             put_dated(folder, f"{name}-{place}.html", one, moment)
         else:
@@ -376,7 +411,8 @@ class Seen:
     """The state of an election as it was seen: its constituencies, and of each what was written last, and the moment that its page says; of one
     without a certificate its stations, and when they were asked for; of each the electors of the stations that are counted, and the
     places of those with which its pages of stations begin; the constituencies of which the pages of lists were made; in each language, of
-    which beginnings find.json was made; the seconds that the last round left for stations, fewer than none where it waited longer."""
+    which beginnings find.json was made; of each what the page of each place shows; the seconds that the last round left for stations,
+    fewer than none where it waited longer."""
     cons: dict = field(default_factory=dict)
     written: dict = field(default_factory=dict)
     moments: dict = field(default_factory=dict)
@@ -385,6 +421,7 @@ class Seen:
     starts: dict = field(default_factory=dict)
     lists: dict = field(default_factory=dict)
     found: dict = field(default_factory=dict)
+    places: dict = field(default_factory=dict)
     left: float = 0.0
 
 
@@ -507,9 +544,8 @@ class Round:
         self.whole = not self.failures
         # By constituency its office, what it is, and the files of returns that are there.
         self.offices = {code: office for code, (office, _) in found.items()}
-        for _, con in found.values():
-            if not site.provisional:
-                con.pop("provisional", None)
+        if not site.provisional:
+            found = {code: (office, without_provisional(con)) for code, (office, con) in found.items()}
         self.cons = {code: self.as_before(code, con) for code, (_, con) in found.items()}
         self.files, self.failed = {}, set()
         for con in self.cons.values():
@@ -528,14 +564,15 @@ class Round:
         self.failures[-1] += f"; left as they are: {len(pages)} pages"
 
     def pages(self):
-        """The pages that are there, each with the site of its language."""
-        return [(site, page) for site, into in self.site.editions(self.folder) for page in into.glob("*.html")]
+        """The pages of this program that are there, each with the site of its language."""
+        return [(site, page) for site, into in self.site.editions(self.folder) for page in into.glob("*.html") if is_ours(page)]
 
     def mark_old(self, site, page):
         """Says on a page how old it is; that of a constituency is written again once there is an answer."""
         mark_old(site, page)
         self.seen.written.pop(con_of(page.name), None)
         self.seen.stations.pop(con_of(page.name), None)
+        self.seen.places.pop(con_of(page.name), None)
         self.seen.lists.clear()
 
     def each(self, act, order=None):
@@ -598,6 +635,8 @@ def write_all(offices, folder, site, setup, seen, head=None, seconds=math.inf):
     it.each(it.write_returns, it.waits)
     seen.left = it.seconds
     it.each(it.write_con)
+    if it.whole and it.cons:
+        withdraw(folder, site, {*it.cons, *setup})
     it.write_rest(head)
     return len(it.cons) - len(it.failed) + it.whole, it.failures
 

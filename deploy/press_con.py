@@ -7,12 +7,13 @@ from fractions import Fraction
 from press_country import loser, seats_before, shares_before
 from press_data import OPEN
 from press_figures import bars, half_circle
-from press_head import Standing, con_outlook, counted_line, has_won, leads
+from press_head import (Standing, con_outlook, counted_line, has_won, leads, lot_said,
+                        reason_said, reopened_counted)
 from press_parts import (COUNTED, NOTHING, TABLE_ROOM, Head, Part, by_votes, changed, changing,
-                         details_links, divided, hundredths, list_link, list_name, numbers, pieces,
+                         details_links, divided, list_link, list_name, numbers, pieces,
                          progress_bar, room_beside, rounded, row_of, sections, sections_on,
                          shown_share, size, stacked_row, table, tables, together, votes_said)
-from press_results import RULES, lot_of, provisional_seats
+from press_results import RULES, counted_share, lot_of, provisional_seats
 from press_templates import Markup
 
 # Columns of quotients side by side, as many as a sheet has room for.
@@ -53,11 +54,11 @@ def seats_sections(site, code, con, row, entry, room):
     heads = (site.said("list"), changing(site, "seats", before))
     first, *more = tables(site, site.said("table_seats"), heads, rows, "totalled", room=room)
     ordered = {one["code"]: given[one["code"]] for one in by_votes(con)}
-    circle, lot = half_circle(site, ordered, total) if total else None, con["view"]["lot"]
+    circle = half_circle(site, ordered, total) if total else None
     # (of Hare's rule a list has one claim to a seat, for which the order is as it was drawn)
     turned = entry and entry["lot"] == "alternating" and entry["method"] != "hare"
     seats = macros.seats(certified_said(site, con, entry), circle, first,
-                         site.say("lot_then").join(lot), turned, last_seat(site, con))
+                         lot_drawn(site, con), turned, last_seat(site, con))
     return [Part(seats, first.heads), *sections_on(site, more)]
 
 
@@ -66,11 +67,36 @@ def why_none(site, con):
     tally, lot = con["tally"], lot_of(con)
     if tally["closed"] < tally["stations"]:
         why = site.said("why_returns")
+        if con["past"]:
+            why = reopened_counted(site, con) + reason_said(site, con) + " " + why
     elif lot:
         why = site.said("why_lot", many=lot[1], lists=site.listed(lot[0]))
     else:
         why = site.said("may_change" if con["past"] else "why_board")
     return "none_withdrawn" if con["past"] else "none_open", why
+
+
+def lot_drawn(site, con):
+    """Which lists were level for the last seats and which of them a lot gave these, where quotients
+    show it; and last the order that was drawn. None of these where no lot was."""
+    order = con["view"]["lot"]
+    if not order:
+        return []
+    said = [site.said("lot", lists=site.say("lot_then").join(order))]
+    if con.get("awards"):
+        unit, divisor = RULES[con["rule"]["method"]]
+        votes = {row["code"]: row["votes"] * unit for row in con["tally"]["lists"]}
+        quotients = [(one["list"], Fraction(votes[one["list"]], divisor(one["of_list"])))
+                     for one in con["awards"]]
+        last = quotients[-1][1]
+        winners = [code for code, quotient in quotients if quotient == last]
+        losers = [code for code, row in con["quotients"]
+                  if Fraction(votes[code], divisor(1 + sum(won for _, won in row))) == last]
+        if losers:
+            lists = [code for code in votes if code in {*winners, *losers}]
+            said.insert(0, site.said("lot_decided", many=len(winners), lists=site.listed(lists),
+                                     winners=site.listed(list(dict.fromkeys(winners)))))
+    return said
 
 
 def last_seat(site, con):
@@ -116,9 +142,10 @@ def provisional_sections(site, con, none, why, room):
     rows = [row_of(site, list_name(site, code, names[code]),
                    word(site.number(given[code]), code in said["group"])) for code in given]
     if question:
-        rows.append(row_of(site, site.said("by_lot"), word(site.number(question))))
-    rows.append(row_of(site, site.said("total"), word(site.number(total))))
-    values = {"share": site.per_cent(hundredths(tally["closed"], tally["stations"])),
+        rows.append(row_of(site, site.said("row_lot"), site.number(question)))
+    of_all = site.number(total)
+    rows.append(row_of(site, site.said("total"), of_all if question else word(of_all)))
+    values = {"share": site.per_cent(counted_share(tally["closed"], tally["stations"])),
               "closed": site.number(tally["closed"]), "stations": site.number(tally["stations"])}
     whole = tally["closed"] == tally["stations"]
     heads = (site.said("list"), numbers(site.said("seats_provisional")))
@@ -126,11 +153,11 @@ def provisional_sections(site, con, none, why, room):
                           room=room)
     circle = half_circle(site, {}, total, [("seats_by_lot", question)], provisional=given)
     # What a lot has to decide where all is counted is said above as what the certificate needs.
-    lot = question and not whole and site.said("lot_would", many=question,
-                                               lists=site.listed(said["group"]))
+    lot = None if whole else lot_said(site, con)
     words = "provisional_said_all" if whole and not con["past"] else "provisional_said"
     seats = site.templates.of_con.provisional_seats(
-        none, why, site.said(words, many=total, **values), lot, circle, first)
+        none, why, site.said(words, many=total - question if whole else total, **values), lot,
+        circle, first)
     return [Part(seats, first.heads), *sections_on(site, more)]
 
 
@@ -146,9 +173,8 @@ def votes_sections(site, code, con, entry, room):
     _, before = former_con(site, code, con, entry)
     lists = [row | {"share": share_of(con, entry, row)} for row in by_votes(con)]
     rows = [stacked_row(site, list_link(site, row["code"], row["name"]),
-                        site.number(row["votes"]),
-                        changed(site, row["code"], row["share"], before, site.share, site.per_cent),
-                        takes_part(site, con, row)) for row in lists]
+                        *votes_cells(site, con, row, before), takes_part(site, con, row))
+            for row in lists]
     base = site.say(f"base_{entry['base']}") if entry else site.say("base_valid")
     threshold, limit = entry["threshold"] if entry else 0, ""
     if threshold:
@@ -161,6 +187,14 @@ def votes_sections(site, code, con, entry, room):
         con["tally"]["closed"], con["tally"]["stations"], bars(site, lists, threshold, limit),
         first, shares, before is not None)
     return [Part(votes, first.heads), *sections_on(site, more)]
+
+
+def votes_cells(site, con, row, before):
+    """The votes of a list and their share, once something is counted."""
+    if not con["tally"]["closed"]:
+        return ["–", "–"]
+    return [site.number(row["votes"]),
+            changed(site, row["code"], row["share"], before, site.share, site.per_cent)]
 
 
 def takes_part(site, con, row):
@@ -258,7 +292,7 @@ def awards_sections(site, con):
     columns = ("seat_of", "votes_unit", "divisor", "quotient")
     heads = (numbers(site.said("seat")), Head(site.said("list_of")),
              *(numbers(site.said(key)) for key in columns))
-    *parts, last = tables(site, site.said("table_awards"), heads, rows, wide=True)
+    *parts, last = tables(site, site.said("table_awards"), heads, rows, "awards")
     said = site.templates.parts.paragraph(site.said("awards_said"))
     return sections(site, site.said("awards"), [*parts, Part(last + said.rstrip(), last.heads)])
 
@@ -302,7 +336,7 @@ def quota_sections(site, con, order):
     said = site.said("quotas_said", votes=site.number(con["quota"]["votes"]),
                      seats=site.number(con["quota"]["seats"]))
     return sections(site, site.said("quotas"),
-                    tables(site, site.said("table_quotas"), heads, rows, wide=True),
+                    tables(site, site.said("table_quotas"), heads, rows, "quotas"),
                     site.templates.parts.paragraph(said))
 
 

@@ -2,7 +2,8 @@
 
 from dataclasses import dataclass, field
 
-from press_results import provisional_seats
+from press_names import in_order
+from press_results import lot_of, provisional_seats
 
 # How many of the closest seats are shown.
 CLOSEST = 10
@@ -16,6 +17,17 @@ class Party:
     votes: int = 0
     seats: int = 0
     provisional: int = 0  # seats in constituencies without a certificate
+    # How many constituencies with a certificate have it, and how many with provisional seats; and
+    # how many counted stations have it. Where there are none a number is a dash, and not 0.
+    certified_cons: int = 0
+    provisional_cons: int = 0
+    closed: int = 0
+
+    @classmethod
+    def of_all(cls, parties):
+        """Lists as one."""
+        keys = ("votes", "seats", "provisional", "certified_cons", "provisional_cons", "closed")
+        return cls("", "", *(sum(getattr(party, key) for party in parties) for key in keys))
 
 
 @dataclass
@@ -26,6 +38,7 @@ class Country:
     provisional: int = 0  # seats in constituencies without a certificate
     question: int = 0  # seats there that a lot would decide
     uncounted: int = 0  # seats in constituencies in which nothing is counted
+    is_provisional: bool = False  # whether a constituency shows provisional seats
     cons: int = 0
     certified_cons: int = 0
     withdrawn: list = field(default_factory=list)  # codes of constituencies
@@ -66,9 +79,27 @@ class Country:
                 ("seats_kind_uncounted", self.uncounted), ("seats_kind_open", self.open))
 
     @property
+    def nobodys(self):
+        """How many seats no list has, of each kind, by the words for it in a picture and in a
+        table."""
+        return (("seats_by_lot", "row_lot", self.question),
+                ("seats_uncounted", "row_uncounted", self.uncounted),
+                ("seats_open", "row_open", self.open))
+
+    @property
+    def is_mixed(self):
+        """Whether some seats are certified and some provisional."""
+        return bool(self.certified_cons and self.is_provisional)
+
+    @property
     def base(self):
         """Votes of which shares are: the valid ones, or those of the lists where every rule says so."""
         return sum(party.votes for party in self.parties) if self.bases == {"lists"} else self.valid
+
+
+def by_name(cons):
+    """The constituencies in the order of their names: codes, and what each is."""
+    return sorted(cons.items(), key=lambda one: in_order(one[1]["tally"]["name"]))
 
 
 def together(cons, setup, counted):
@@ -82,6 +113,7 @@ def together(cons, setup, counted):
         add_electors(found, con, counted.get(code))
     found.parties = sorted(parties.values(),
                            key=lambda party: (-party.seats - party.provisional, -party.votes))
+    found.withdrawn = [code for code, con in by_name(cons) if is_withdrawn(con)]
     found.closest = sorted(found.closest, key=lambda one: one[0])[:CLOSEST]
     return found
 
@@ -95,7 +127,9 @@ def add_votes(found, parties, con, entry):
     found.spoiled += tally["spoiled"]
     found.bases.add(con["rule"]["base"])
     for row in tally["lists"]:
-        parties.setdefault(row["code"], Party(row["code"], row["name"])).votes += row["votes"]
+        party = parties.setdefault(row["code"], Party(row["code"], row["name"]))
+        party.votes += row["votes"]
+        party.closed += tally["closed"]
     if tally["closed"] == tally["stations"]:
         found.whole_cons += 1
         found.papers += tally["valid"] + tally["spoiled"]
@@ -111,16 +145,21 @@ def add_electors(found, con, counted):
 
 def add_seats(found, parties, code, con):
     if "seats" not in con:
-        found.withdrawn += [code] if con["past"] else []
         add_provisional(found, parties, con)
         return
     found.certified_cons += 1
     found.certified += con["seats"]["total"]
     for of_list, many in con["seats"]["seats"].items():
         parties[of_list].seats += many
+        parties[of_list].certified_cons += 1
     found.closest += [(row["short"], row["list"], code, loser(con, row["list"])) for row in con.get("short", ())
                       if row["short"] is not None]
     found.without_short += "short" not in con
+
+
+def is_withdrawn(con):
+    """Whether a constituency was certified and is reopened."""
+    return bool(con["past"]) and "seats" not in con
 
 
 def loser(con, code):
@@ -132,8 +171,10 @@ def add_provisional(found, parties, con):
     given = provisional_seats(con)
     for of_list, many in given.items():
         parties[of_list].provisional += many
+        parties[of_list].provisional_cons += 1
         found.provisional += many
-    found.question += con["provisional"]["question"] if given else 0
+    found.is_provisional = found.is_provisional or bool(given)
+    found.question += lot[1] if (lot := lot_of(con)) else 0
     found.uncounted += 0 if con["tally"]["closed"] else con["rule"]["seats"]
 
 

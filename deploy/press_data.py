@@ -9,11 +9,11 @@ import uuid
 import xml.etree.ElementTree as ET
 
 from press_names import isolated
-from press_results import provisional_seats
+from press_results import counted_share, provisional_seats
 
 # Of the form of the files. The first number is raised when something goes or means something else,
 # the second when something is added.
-VERSION = "2.1.0"
+VERSION = "2.2.0"
 
 # In the name of a file of returns, in the place of the edition of a certificate.
 OPEN = "open"
@@ -144,12 +144,14 @@ PROVISIONAL = described(an_object({
     "group": described(an_array(CODE), "The lists among which it would decide them."),
     "seats": {"type": "object", "additionalProperties": COUNT},
 }), "Seats if the votes that are closed were all the votes: the result where there is a certificate, and nowhere else.")
+LOT = an_object({key: PROVISIONAL["properties"][key] for key in ("question", "group")})
+LOT_NEEDED = described(LOT, "The lot that is needed where all is counted; there where no provisional seats are published, and no lot was drawn.")
 IF_CERTIFIED = ("seats", "holders", "quotients", "awards", "short", "quota")
 SCHEMAS = {
     "index": ("The progress of all constituencies: index.json", an_object(HEAD | {"constituencies": an_array(an_object(PROGRESS))})),
     "con": ("A constituency: con-CODE.json", an_object(
         HEAD | {"progress": an_object(PROGRESS), "view": described(VIEW, "What GET /con/CODE shows."), "rule": an_object(RULE),
-                "provisional": PROVISIONAL, **REPORTS}, "provisional", *IF_CERTIFIED)),
+                "provisional": PROVISIONAL, "lot_needed": LOT_NEEDED, **REPORTS}, "provisional", "lot_needed", *IF_CERTIFIED)),
     "setup": ("The setup of the election: setup.json", an_array(an_object({
         "code": PROGRESS["con"], "name": RESULTS["con_name"], **{key: kind for key, kind in RULE.items() if key != "lot_rule"},
         "lot": RULE["lot_rule"],
@@ -387,7 +389,7 @@ def provisional_event(site, con):
     """The provisional seats of a constituency, where it has some. Its words are the seats, so that others are another event."""
     if given := ", ".join(f"{code} {many}" for code, many in provisional_seats(con).items() if many):
         tally = con["tally"]
-        share = site.per_cent(tally["closed"] * 10_000 // tally["stations"])
+        share = site.per_cent(counted_share(tally["closed"], tally["stations"]))
         yield "provisional", given, {"share": share}, site.say("feed_provisional_seats", seats=given)
 
 

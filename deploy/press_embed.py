@@ -1,76 +1,122 @@
 """The parts that other sites may embed: the result of the country, or of a constituency, without a
 script, as small pages whose links open in a window of their own."""
 
-from press_con import state_of
+from press_con import lot_drawn, state_of
 from press_figures import half_circle
-from press_pages import certified_said, circle_of, country_head, provisional_said
-from press_parts import (base_of, by_votes, framed, hundredths, list_name, numbers, rounded,
+from press_head import lot_said, reason_said
+from press_pages import (certified_said, circle_of, country_head, others_cells, provisional_said,
+                         seats_cells, seats_heads, total_cells, votes_cells)
+from press_parts import (NOTHING, base_of, by_votes, framed, list_name, numbers, rounded,
                          stacked_row)
-from press_results import by_seats, provisional_seats
+from press_results import by_seats, counted_share, provisional_seats
 
-# Lists that such a part shows.
+# Lists that such a part shows, before the others together.
 SHOWN = 8
 
 
-def embedded(site, values, rows, circle):
-    """The page of a part, as a function of its moment. A row is a list with its certified seats,
-    its provisional ones, its votes and its share; what is None there is not shown."""
-    provisional = site.templates.parts.provisional
-    is_provisional = any(row["provisional"] is not None for row in rows)
-    cells = [stacked_row(
-        site, list_name(site, row["code"], row["name"]),
-        "–" if row["seats"] is None else site.number(row["seats"]),
-        *([provisional(site.number(row["provisional"] or 0))] if is_provisional else []),
-        site.number(row["votes"]), site.share(row["share"])) for row in rows[:SHOWN]]
-    heads = [site.said("list"),
-             numbers(site.said("seats_certified" if is_provisional else "seats").lower())]
-    heads += [numbers(site.said("seats_provisional"))] if is_provisional else []
-    heads += [numbers(site.said("votes").lower()), numbers(site.said("share"))]
-    table = framed(site, site.said("table_country"), heads, cells, "stacked under")
-    left = max(len(rows) - SHOWN, 0)
+def embedded(site, values, heads, rows, circle, codes):
+    """The page of a part, as a function of its moment, with a table of these heads beside those of
+    the lists and the votes, and of these cells of each row."""
+    heads = [site.said("list"), *heads, numbers(site.said("votes").lower()),
+             numbers(site.said("share"))]
+    table = framed(site, site.said("table_country"), heads,
+                   [stacked_row(site, *cells) for cells in rows], "stacked under totalled")
 
     def written(moment):
-        return site.templates.page(
-            "embed.html", circle=circle, table=table, left=left, moment=moment,
-            colours=site.colours_in(row["code"] for row in rows), **values)
+        return site.templates.page("embed.html", circle=circle, table=table, moment=moment,
+                                   colours=site.colours_in(codes), **values)
 
     return written
 
 
 def country_embedded(site, country, cons):
     """The part of the country."""
-    rows = [{"code": party.code, "name": party.name, "votes": party.votes,
-             "seats": party.seats if country.certified_cons else None,
-             "provisional": party.provisional if country.provisional else None,
-             "share": rounded(party.votes, country.base)} for party in country.parties]
+    rows = [[list_name(site, party.code, party.name),
+             *seats_cells(site, country, party, site.number(party.seats)),
+             *votes_cells(site, country, party)] for party in country.parties[:SHOWN]]
+    if left := country.parties[SHOWN:]:
+        rows.append(others_cells(site, country, left))
     values = country_head(site, country, cons) | {
         "name": None, "page": "index.html", "state": certified_said(site, country),
-        "warning": provisional_said(site, country)}
-    return embedded(site, values, rows, circle_of(site, country))
+        "warnings": [one for one in (provisional_said(site, country, cons),) if one]}
+    return embedded(site, values, seats_heads(site, country, None),
+                    [*rows, *total_cells(site, country)], circle_of(site, country),
+                    [party.code for party in country.parties])
 
 
 def con_embedded(site, code, con, head):
     """The part of a constituency, with the lines under the title of its page."""
-    seats, more, tally = con.get("seats"), provisional_seats(con), con["tally"]
-    given, base, warning = by_seats(con, seats["seats"]) if seats else {}, base_of(con), None
+    more, tally = provisional_seats(con), con["tally"]
+    given = by_seats(con, con["seats"]["seats"]) if "seats" in con else {}
+    question = con["provisional"]["question"] if more else 0
     circle = None
     if given or more:
-        question = con["provisional"]["question"] if more else 0
-        left = [("seats_by_lot", question)]
-        circle = half_circle(site, given, con["rule"]["seats"], left, provisional=more)
+        circle = half_circle(site, given, con["rule"]["seats"], [("seats_by_lot", question)],
+                             provisional=more)
+    values = head | {"name": tally["name"], "page": f"con-{code}.html",
+                     "state": site.said(f"con_{state_of(con, con['progress'])}"),
+                     "warnings": con_warnings(site, con, more)}
+    heads = [numbers(site.said("seats_provisional") if more else site.said("seats").lower())]
+    return embedded(site, values, heads, con_rows(site, con, given, more, question), circle,
+                    [row["code"] for row in tally["lists"]])
+
+
+def con_warnings(site, con, more):
+    """Sentences on a reopening, on a lot that is needed or decided a seat, and on provisional
+    seats."""
+    tally = con["tally"]
+    whole = tally["closed"] == tally["stations"]
+    found = []
+    if con["past"] and "seats" not in con:
+        found.append(NOTHING.join([site.said("may_change"), reason_said(site, con)]))
+    if lot := lot_said(site, con):
+        found.append(lot)
+    if con["view"]["certified"]:
+        found += lot_drawn(site, con)[:1]
     if more:
-        share = site.per_cent(hundredths(tally["closed"], tally["stations"]))
-        whole = tally["closed"] == tally["stations"] and not con["past"]
-        warning = site.said("provisional_said_all" if whole else "provisional_said",
-                            many=con["rule"]["seats"], share=share,
-                            closed=site.number(tally["closed"]),
-                            stations=site.number(tally["stations"]))
-    if more and con["past"]:
-        warning = site.said("may_change") + " " + warning
-    rows = [{"code": row["code"], "name": row["name"], "votes": row["votes"],
-             "seats": given.get(row["code"]), "provisional": more.get(row["code"]),
-             "share": rounded(row["votes"], base)} for row in by_votes(con)]
-    state = site.said(f"con_{state_of(con, con['progress'])}")
-    values = head | {"name": tally["name"], "page": f"con-{code}.html", "state": state,
-                     "warning": warning}
-    return embedded(site, values, rows, circle)
+        found.append(site.said(
+            "provisional_said_all" if whole and not con["past"] else "provisional_said",
+            many=con["rule"]["seats"] - (con["provisional"]["question"] if whole else 0),
+            closed=site.number(tally["closed"]),
+            share=site.per_cent(counted_share(tally["closed"], tally["stations"])),
+            stations=site.number(tally["stations"])))
+    return found
+
+
+def con_rows(site, con, given, more, question):
+    """The rows of the lists of a constituency, and those of the seats that a lot decides and of all
+    seats, where some are given."""
+    word, base, lists = site.templates.parts.provisional, base_of(con), by_votes(con)
+
+    def seats(codes):
+        if not given and not more:
+            return "–"
+        many = site.number(sum((given or more)[code] for code in codes))
+        return word(many) if more else many
+
+    def cells(said, rows):
+        votes = sum(row["votes"] for row in rows)
+        shown = [site.number(votes), site.share(rounded(votes, base))]
+        return [said, seats([row["code"] for row in rows]),
+                *(shown if con["tally"]["closed"] else ["–", "–"])]
+
+    found = [cells(list_name(site, row["code"], row["name"]), [row]) for row in lists[:SHOWN]]
+    if left := lists[SHOWN:]:
+        found.append(cells(site.said("others", many=len(left)), left))
+    if question:
+        found.append([site.said("row_lot"), site.number(question), "–", ""])
+    total, votes = site.number(con["rule"]["seats"]), sum(row["votes"] for row in lists)
+    found.append([site.said("total"), word(total) if more and not question else total,
+                  site.number(votes) if con["tally"]["closed"] else "–", ""])
+    return found
+
+
+def withdrawn_embedded(site):
+    """The part of a constituency that is none of the election, as a function of its moment."""
+    values = {"circle": None, "colours": (), "name": None, "page": "index.html",
+              "state": site.said("page_withdrawn_said"), "table": NOTHING, "warnings": ()}
+
+    def written(moment):
+        return site.templates.page("embed.html", moment=moment, **values)
+
+    return written

@@ -7,6 +7,8 @@ from press_site import like
 
 # Bars that a page shows; and seats and lists of which a half circle can be made out.
 SHOWN_BARS, MOST_DOTS, MOST_LABELS = 12, 1_000, 60
+# Lists that are named beside a half circle, so that their labels are no higher than it is.
+NAMED_LISTS = 16
 # Of the labels beside a half circle: how far one is below another, and how wide a letter is.
 LABEL_STEP, LETTER_WIDTH = 11.5, 7.4
 
@@ -60,10 +62,10 @@ def places_of_dots(count):
 
 def half_circle(site, seats, total, left=(), majority=None, provisional=None):
     """The seats as a half circle of dots, by list in the order of seats, then those that are left,
-    each kind with its words; each list is named beside its own. Certified seats are full dots, with
-    a bar across each where the colour is much like that of the list before. Provisional seats are
-    hollow dots after those of the list, and their number is after a plus: the word is in the
-    caption."""
+    each kind with its words; the first lists are named beside their own. Certified seats are full
+    dots, with a bar across each where the colour is much like that of the list before. Provisional
+    seats are hollow dots after those of the list, and their number is after a plus: the word is in
+    the caption."""
     provisional = provisional or {}
     sums = {code: (seats.get(code, 0), provisional.get(code, 0))
             for code in dict.fromkeys([*seats, *provisional])}
@@ -83,11 +85,13 @@ def half_circle(site, seats, total, left=(), majority=None, provisional=None):
         before = code
         middle = (own[0][0] + own[-1][0]) / 2
         said = f"{many}+{more}" if more else f"{many}"
-        labels.append((clear_of(at, middle), f"{code or site.say(words)} {said}"))
+        if code is None or len(labels) < NAMED_LISTS:
+            labels.append((clear_of(at, middle), f"{code or site.say(words)} {said}"))
     sides, lines, width, top, bottom = placed_labels(labels, 100 + size)
     return {
         "said": ", ".join(dots_said(site, *group) for group in named),
-        "hollow": any(provisional.values()),
+        "hollow": any(provisional.values()), "barred": any(group["bars"] for group in drawn),
+        "named": NAMED_LISTS if len(groups) > NAMED_LISTS else None, "many": len(groups),
         "box": f"{-width:.0f} {top:.0f} {2 * width:.0f} {bottom - top:.0f}",
         "stroke": f"{2 * size:.1f}", "groups": drawn, "sides": sides, "lines": lines,
         "line": majority_line(at, 100 + size) if majority else None,

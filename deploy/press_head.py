@@ -3,9 +3,10 @@ how many seats so far and what they are; what is missing; and who leads or has w
 
 from typing import NamedTuple
 
+from press_country import by_name, is_withdrawn
 from press_names import isolated
-from press_parts import hundredths, rounded
-from press_results import by_seats, lot_of, provisional_seats
+from press_parts import rounded
+from press_results import by_seats, counted_share, lot_of, provisional_seats
 
 # Lists that are named one by one, where they have as many votes; lists whose seats are in the line
 # of the seats; and constituencies that are named one by one, where each lacks something.
@@ -23,9 +24,9 @@ class Standing(NamedTuple):
 
 
 def counted_line(site, closed, stations, papers=0, electors=None):
-    """How much is counted. It is rounded down, so that only all of it is a hundred per cent. The
-    electors are those of the stations that are counted, or None where they are not known."""
-    share = hundredths(closed, stations)
+    """How much is counted. The electors are those of the stations that are counted, or None where
+    they are not known."""
+    share = counted_share(closed, stations)
     words = "head_none" if not closed else "head_all" if closed == stations else "head_part"
     said = site.say(words, closed=site.number(closed), many=stations,
                     share=site.per_cent(share))
@@ -51,9 +52,10 @@ def leads(site, standings, base, whole=False):
         return site.say(f"head_alone{end}", first=name(first[0]), share=share)
     second = [one for one in others if one.votes == others[0].votes]
     ahead = site.per_cent(rounded(votes, base) - rounded(second[0].votes, base))
-    said = site.say(f"head_leads{end}", first=name(first[0]), second=level(site, second),
-                    share=share, ahead=ahead, many=votes - second[0].votes)
-    return said if len(second) == 1 else f"{said} {site.say('head_second_level')}"
+    lists = level(site, second)
+    return site.say(f"head_leads{end}", first=name(first[0]), share=share, ahead=ahead,
+                    second=lists if len(second) == 1 else site.say("head_tied", lists=lists),
+                    many=votes - second[0].votes)
 
 
 def level(site, standings):
@@ -92,20 +94,31 @@ def name(standing):
 # ---- the seats, and what is missing
 
 
-def seats_line(site, words, given, open_lists=(), is_open=False):
+def seats_line(site, words, given, open_lists=(), is_open=False, certified=None):
     """The seats of each list, those with most first, after these words; then the lists beyond
     those that are shown, together. None where there is none. Each is with whether some of its
-    seats are provisional, as they are of the open lists; the line is open where all are."""
+    seats are provisional, as they are of the open lists, and with those of its seats that are
+    certified, where they are given; the line is open where not all are certified."""
     ordered = sorted((one for one in given.items() if one[1]), key=lambda one: -one[1])
     if not ordered:
         return None
-    left = ordered[SHOWN_SEATS:]
+
+    def said(place, codes):
+        many = site.number(sum(given[code] for code in codes))
+        if certified is None:
+            return many
+        # The word is with the first, and then only the numbers: there may be eight of them.
+        return site.say("seats_of_which" if place else "seats_of_which_first", seats=many,
+                        many=sum(certified[code] for code in codes))
+
+    shown, left = ([code for code, _ in part] for part in (ordered[:SHOWN_SEATS],
+                                                           ordered[SHOWN_SEATS:]))
     return {"words": words, "is_open": is_open,
-            "seats": [(code, site.number(many), code in open_lists)
-                      for code, many in ordered[:SHOWN_SEATS]],
-            "others_open": any(code in open_lists for code, _ in left),
-            "others": site.say("seats_others", many=len(left), seats=site.number(
-                sum(many for _, many in left))) if left else None}
+            "seats": [(code, said(place, [code]), code in open_lists)
+                      for place, code in enumerate(shown)],
+            "others_open": any(code in open_lists for code in left),
+            "others": site.say("seats_others", many=len(left),
+                               seats=said(SHOWN_SEATS, left)) if left else None}
 
 
 def lot_line(site, by_lot, whole, codes=()):
@@ -127,24 +140,34 @@ def con_outlook(site, con):
     """Of a constituency the seats so far, what they are, and what is missing."""
     tally, number, given = con["tally"], con["rule"]["seats"], provisional_seats(con)
     if "seats" in con:
-        return {"final": True, "warnings": [], "said": [], "lot": None,
+        return {"final": True, "warnings": [], "said": [], "lot": None, "majority": None,
                 "line": seats_line(site, site.say("line_certified"),
                                    by_seats(con, con["seats"]["seats"]))}
     whole = tally["closed"] == tally["stations"]
     warnings = [reopened_said(site, con)] if con["past"] else []
     codes, by_lot = lot_of(con) or ((), 0)
     if by_lot:
-        words = "lot_needed" if whole else "lot_would"
-        warnings.append(site.said(words, many=by_lot, lists=site.listed(codes)))
-    if given and whole and con["past"]:
-        said = site.said("may_change")
+        warnings.append(lot_said(site, con))
+    if con["past"]:
+        said = site.said("may_change") if whole else reopened_counted(site, con)
     elif given and whole:
         said = site.said("all_counted", many=number - by_lot)
     else:
         said = site.said("seats_count_goes_on" if given else "seats_none_given", many=number)
-    return {"final": False, "warnings": warnings, "said": [said],
+    return {"final": False, "warnings": warnings, "said": [said], "majority": None,
             "lot": lot_line(site, by_lot, whole, codes),
-            "line": seats_line(site, site.say("line_provisional"), given, given, True)}
+            "line": seats_line(site, site.say("line_provisional_all" if whole
+                                              else "line_provisional"), given, given, True)}
+
+
+def lot_said(site, con):
+    """Between which lists a lot must be drawn, or would have to be while votes are missing; None
+    where none is needed."""
+    tally, lot = con["tally"], lot_of(con)
+    if not lot:
+        return None
+    words = "lot_needed" if tally["closed"] == tally["stations"] else "lot_would"
+    return site.said(words, many=lot[1], lists=site.listed(lot[0]))
 
 
 def reopened_said(site, con):
@@ -152,15 +175,28 @@ def reopened_said(site, con):
     words = "reopened" if provisional_seats(con) else "reopened_open"
     said = site.said(words, many=con["rule"]["seats"],
                      con=site.templates.name(con["tally"]["name"]))
+    return said + reason_said(site, con)
+
+
+def reason_said(site, con):
+    """Why a constituency was reopened, after another sentence; nothing where no note says so."""
     note = con["view"]["note"]
-    return said + (" " + site.said("reopened_why", note=site.templates.name(note)) if note else "")
+    return " " + site.said("reopened_why", note=site.templates.name(note)) if note else ""
+
+
+def reopened_counted(site, con, words="reopened_counted"):
+    """How much of a reopened constituency is counted, where that is not all."""
+    closed, stations = con["tally"]["closed"], con["tally"]["stations"]
+    return site.said(words, closed=site.number(closed), many=stations,
+                     share=site.per_cent(counted_share(closed, stations)))
 
 
 def country_outlook(site, country, cons):
-    """Of the country the seats so far, what they are, and what is missing."""
+    """Of the country the seats so far, what they are, who has the majority, and what is missing."""
     given = {party.code: party.seats + party.provisional for party in country.parties}
     if country.whole:
         return {"final": True, "warnings": [], "said": [], "lot": None,
+                "majority": majority_said(site, country),
                 "line": seats_line(site, site.say("line_certified"), given)}
     said = [parts_said(site, country.chamber, country.kinds)]
     if country.provisional and country.closed == country.stations:
@@ -168,32 +204,61 @@ def country_outlook(site, country, cons):
         said.append(site.say(words, many=country.provisional))
     lots = [con["tally"] for con in cons.values() if lot_of(con)]
     return {"final": False, "said": [one for one in said if one],
-            "warnings": country_warnings(site, cons),
+            "warnings": country_warnings(site, cons), "majority": majority_said(site, country),
             "lot": lot_line(site, country.question,
                             all(tally["closed"] == tally["stations"] for tally in lots)),
             "line": seats_line(site, country_words(site, country), given,
                                {party.code for party in country.parties if party.provisional},
-                               not country.certified)}
+                               bool(country.provisional), certified_seats(country))}
+
+
+def certified_seats(country):
+    """The certified seats of each list, where other seats are provisional; else None."""
+    if not country.certified or not country.provisional:
+        return None
+    return {party.code: party.seats for party in country.parties}
+
+
+def majority_said(site, country):
+    """How many seats are a majority, and who has it: in certified seats, and where nobody has, in
+    these and the provisional ones. None where there is one seat, or none."""
+    if country.chamber < 2:
+        return None
+    values = {"majority": site.number(country.majority), "chamber": site.number(country.chamber)}
+    words = "majority_nobody" if country.whole else "majority_not_yet"
+    for party in country.parties:
+        if party.seats >= country.majority:
+            words = "majority_has"
+        elif party.seats + party.provisional >= country.majority:
+            words = "majority_so_far"
+        else:
+            continue
+        values["list"] = site.templates.name(party.name)
+    return site.said(words, **values)
 
 
 def country_words(site, country):
     """The words before the seats of a country that is not certified whole."""
     if not country.provisional:
         return site.say("line_certified_so_far")
-    if not country.certified:
-        return site.say("line_provisional")
-    return site.say("line_part", certified=site.number(country.certified),
-                    all=site.number(country.chamber))
+    if country.certified:
+        return site.say("line_together")
+    return site.say("line_provisional_all" if country.closed == country.stations
+                    else "line_provisional")
 
 
 def country_warnings(site, cons):
     """The reopened constituencies and those that need a lot, a sentence each; of many how many."""
     found = []
-    reopened = [con for con in cons.values() if con["past"] and "seats" not in con]
-    found += [reopened_said(site, con) for con in reopened[:SHOWN_CONS]]
+    ordered = [con for _, con in by_name(cons)]
+    reopened = [con for con in ordered if is_withdrawn(con)]
+    for con in reopened[:SHOWN_CONS]:
+        part = con["tally"]["closed"] != con["tally"]["stations"]
+        found.append(reopened_said(site, con)
+                     + (" " + reopened_counted(site, con, "counted_there") if part else ""))
     if more := len(reopened[SHOWN_CONS:]):
         found.append(site.said("reopened_more", many=more))
-    lots = [(con, lot) for con in cons.values() if (lot := lot_of(con))
+    lots = [(con, lot) for con in ordered if (lot := lot_of(con))
             and con["tally"]["closed"] == con["tally"]["stations"]]
     found += [site.said("lot_needed_in", con=site.templates.name(con["tally"]["name"]),
                         many=many, lists=site.listed(codes))

@@ -11,6 +11,7 @@ import struct
 import zlib
 
 from press_figures import MOST_DOTS, places_of_dots
+from press_results import counted_share
 
 WIDTH, HEIGHT = 1200, 630
 # The ground, the seats that are not certified, the bar and what is counted of it.
@@ -60,6 +61,14 @@ def colour_of(text):
     return tuple(int(text[place:place + 2], 16) for place in (1, 3, 5))
 
 
+def counted_points(closed, stations, width):
+    """How much of the bar is full, in points: all of it only where all is counted, and nothing only
+    where nothing is."""
+    if closed in (0, stations):
+        return width if closed else 0
+    return min(max(width * counted_share(closed, stations) / 10_000, 1), width - 1)
+
+
 def shared_image(site, country):
     """The picture, as PNG."""
     canvas = Canvas()
@@ -74,7 +83,7 @@ def shared_image(site, country):
             if not colour:
                 canvas.dot(x, y, SCALE * size * 0.8, PAPER)
     left, top, width, height = BAR
-    counted = width * country.closed / max(country.stations, 1)
+    counted = counted_points(country.closed, country.stations, width)
     for row in range(top, top + height):
         canvas.line(row, left, left + width, TRACK)
         canvas.line(row, left, left + counted, COUNTED)

@@ -4,20 +4,21 @@ elected of all."""
 from datetime import datetime
 from functools import partial
 
+from press_country import by_name
 from press_data import ELECTED, csv_text, in_a_cell
 from press_head import counted_line
-from press_names import in_order, label
+from press_names import label
 from press_parts import (NOTHING, Head, base_of, by_votes, details_links, divided, framed,
                          list_name, numbers, room_beside, rounded, searched, sections, stacked_row,
                          tables)
-from press_results import provisional_seats
+from press_results import counted_share, provisional_seats
+
 
 def of_list(cons, code):
     """The constituencies that have a list, in the order of their names: code and state, and
     the list's row in each."""
-    found = [(of, con, row) for of, con in cons.items() for row in con["tally"]["lists"]
-             if row["code"] == code]
-    return sorted(found, key=lambda one: in_order(one[1]["tally"]["name"]))
+    return [(of, con, row) for of, con in by_name(cons) for row in con["tally"]["lists"]
+            if row["code"] == code]
 
 
 # ---- the page of a list
@@ -33,9 +34,9 @@ def said_of(site, country, party):
         words = "list_seats_all" if country.whole else "list_seats"
         found.append(site.said(words, many=country.chamber, seats=site.number(party.seats),
                                certified=site.number(country.certified)))
-    if country.provisional + country.question:
-        share = site.per_cent(country.closed * 10_000 // country.stations)
-        words = "list_together" if country.certified else "list_provisional"
+    if party.provisional_cons:
+        share = site.per_cent(counted_share(country.closed, country.stations))
+        words = "list_together" if party.certified_cons else "list_provisional"
         found.append(site.said(words, many=party.provisional, share=share,
                                together=site.number(party.seats + party.provisional)))
     return found
@@ -50,9 +51,11 @@ def votes_tables(site, rows, is_provisional):
         if is_provisional:
             given = site.number(more[row["code"]]) if more else None
             cells.append(site.templates.parts.provisional(given) if given else "–")
+        votes = ["–", "–"]
+        if con["tally"]["closed"]:
+            votes = [site.number(row["votes"]), site.share(rounded(row["votes"], base_of(con)))]
         found.append(stacked_row(
-            site, site.templates.parts.con_link(code, con["tally"]["name"]), *cells,
-            site.number(row["votes"]), site.share(rounded(row["votes"], base_of(con)))))
+            site, site.templates.parts.con_link(code, con["tally"]["name"]), *cells, *votes))
     heads = [Head(site.said("con")),
              numbers(site.said("seats_certified" if is_provisional else "seats").lower())]
     heads += [numbers(site.said("seats_provisional"))] if is_provisional else []
@@ -89,7 +92,7 @@ def list_pages(site, country, party, cons):
     head = {"headline": None, "counted_line": counted_line(
         site, *(sum(one[key] for one in tally) for key in ("closed", "stations")))}
     parts = sections(site, site.said("list_cons"),
-                     votes_tables(site, rows, bool(country.provisional + country.question)))
+                     votes_tables(site, rows, bool(party.provisional_cons)))
     if of_elected := elected_tables(site, rows):
         parts += sections(site, site.said("elected"), of_elected)
 
@@ -118,7 +121,7 @@ def list_pages(site, country, party, cons):
 
 def elected_rows(cons):
     """The holders of seats, by constituency in the order of their names, and in it by list."""
-    for code, con in sorted(cons.items(), key=lambda one: in_order(one[1]["tally"]["name"])):
+    for code, con in by_name(cons):
         order = {row["code"]: place for place, row in enumerate(by_votes(con))}
         for holder in sorted(con.get("holders", ()), key=lambda one: order[one["list"]]):
             yield code, con, holder

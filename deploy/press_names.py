@@ -43,6 +43,9 @@ def label(name):
 
 
 def in_order(name):
-    """The key by which a name is ordered: its letters without accents and case."""
+    """The key by which a name is ordered: its letters without accents and case, and the numbers
+    within it as numbers, so that 2 is before 10. Texts and numbers take turns in it."""
     letters = unicodedata.normalize("NFD", name.casefold())
-    return "".join(letter for letter in letters if not unicodedata.combining(letter))
+    plain = "".join(letter for letter in letters if not unicodedata.combining(letter))
+    return [int(part) if place % 2 else part
+            for place, part in enumerate(re.split(r"(\d+)", plain))]

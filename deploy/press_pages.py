@@ -9,25 +9,31 @@ import re
 from datetime import datetime
 
 from press_con import con_bodies, con_page, details_page
-from press_country import CLOSEST, first_list, seats_before, shares_before, together
+from press_country import (CLOSEST, Party, by_name, first_list, is_withdrawn, seats_before,
+                           shares_before, together)
 from press_figures import MOST_DOTS, MOST_LABELS, bars, half_circle, map_key, map_shape
 from press_head import Standing, country_outlook, counted_line, has_won, leads
-from press_names import in_order, label
+from press_names import label
 from press_parts import (AGE, COUNTED, NOTHING, PAGE_ROOM, Head, Part, changed, changing,
-                         details_links, divided, framed, hundredths, list_link, list_name, numbers,
-                         progress_bar, room_beside, rounded, row_of, searched, sections, size,
+                         details_links, divided, framed, list_link, list_name, numbers,
+                         progress_bar, room_beside, rounded, searched, sections, size,
                          stacked_row, table, tables, unaged, votes_said)
-from press_results import by_seats, lot_of, provisional_seats
+from press_results import by_seats, counted_share, lot_of, provisional_seats
+from press_templates import Markup
 
 __all__ = ["aged", "con_bodies", "con_page", "count_pages", "details_page", "index_pages",
            "unaged"]
 
+# A cell that has a dash.
+DASH = ">–<"
 # Lists without a seat that the page of the country shows.
 SHOWN_WITHOUT_SEAT = 20
+# Constituencies that are named one by one, where they wait for the same.
+NAMED_CONS = 5
 # Bytes of rows that the table of lists may have on the page of the country, and how many of the
 # closest seats.
 TABLES_OF_COUNTRY = ((math.inf, 10), (16_000, 10), (12_000, 10), (8_000, 10), (6_000, 5),
-                     (4_400, 1))
+                     (4_400, 1), (3_000, 1))
 
 
 # ---- the page of the country
@@ -43,21 +49,49 @@ def certified_said(site, country):
                      open=site.number(country.chamber - country.certified))
 
 
-def provisional_said(site, country):
-    """How many seats are provisional, with how much is counted, and how many are neither certified
-    nor provisional; None where none is."""
-    if not country.provisional + country.question:
+def provisional_said(site, country, cons):
+    """How many seats are provisional, with how much is counted; and what the constituencies
+    without a certificate wait for, with all their seats. None where none is provisional."""
+    if not country.is_provisional:
         return None
-    whole = country.closed == country.stations and not country.withdrawn
-    share = site.per_cent(hundredths(country.closed, country.stations))
-    said = [site.said("provisional_country_all" if whole else "provisional_country", share=share,
-                      many=country.provisional),
-            site.said("cons_not_certified",
-                      cons=site.number(country.cons - country.certified_cons))]
-    said += [site.said(words, seats=site.number(many)) for words, many in (
-        ("provisional_country_lot", country.question),
-        ("provisional_country_uncounted", country.uncounted)) if many]
-    return NOTHING.join([said[0], *(" " + one for one in said[1:])])
+    said = [site.said("provisional_country", many=country.provisional,
+                      share=site.per_cent(counted_share(country.closed, country.stations)))]
+    for words, codes in waiting(cons).items():
+        lots = [lot_of(cons[code]) for code in codes]
+        said.append(site.said(
+            words, many=sum(cons[code]["rule"]["seats"] for code in codes),
+            cons=cons_named(site, cons, codes),
+            lots=site.number(sum(lot[1] for lot in lots if lot))))
+    return Markup(" ").join(said)
+
+
+def waiting(cons):
+    """The constituencies without a certificate, by the words for what they wait for, each in the
+    order of names."""
+    found = {"open_counting": [], "open_again": [], "open_board": [], "open_lot": [],
+             "open_uncounted": []}
+    for code, con in by_name(cons):
+        closed, stations = con["tally"]["closed"], con["tally"]["stations"]
+        if not con["view"]["certified"]:
+            found["open_uncounted" if not closed else "open_counting" if closed < stations
+                  else "open_lot" if lot_of(con) else "open_again" if is_withdrawn(con)
+                  else "open_board"].append(code)
+    return {words: codes for words, codes in found.items() if codes}
+
+
+def cons_named(site, cons, codes):
+    """In which constituencies: their names as links where they are few, else how many."""
+    if len(codes) > NAMED_CONS:
+        return site.said("of_cons", many=len(codes))
+    links = [site.templates.parts.con_link(code, cons[code]["tally"]["name"]) for code in codes]
+    return site.said("of_these_cons", cons=Markup(", ").join(links))
+
+
+def withdrawn_said(site, country, cons):
+    """As what the seats of reopened constituencies are counted."""
+    given = sum(sum(provisional_seats(cons[code]).values()) for code in country.withdrawn)
+    seats = sum(cons[code]["rule"]["seats"] for code in country.withdrawn)
+    return site.said("withdrawn_provisional" if given else "withdrawn_why", many=given or seats)
 
 
 def circle_of(site, country):
@@ -67,8 +101,7 @@ def circle_of(site, country):
     total, labels = country.chamber, sum(any(of) for of in zip(seats.values(), more.values()))
     if not 0 < total <= MOST_DOTS or not 0 < labels <= MOST_LABELS:
         return None
-    left = (("seats_by_lot", country.question), ("seats_uncounted", country.uncounted),
-            ("seats_open", country.open))
+    left = [(words, many) for words, _, many in country.nobodys]
     return half_circle(site, seats, total, left, country.majority, more)
 
 
@@ -102,58 +135,72 @@ def parties_table(site, country, former, room):
     shown, left = country.parties[:len(rows)], country.parties[len(rows):]
     if left:
         rows.append(stacked_row(site, *others_cells(site, country, left)))
-    total = seats_cells(site, country, country.certified, country.provisional,
-                        site.number(country.certified))
-    rows.append(stacked_row(site, site.said("total"), *total,
-                            site.number(sum(party.votes for party in country.parties)), ""))
+    rows += [stacked_row(site, *cells) for cells in total_cells(site, country)]
     heads = (site.said("list"), *seats_heads(site, country, seats),
              numbers(site.said("votes").lower()), changing(site, "share", shares))
-    kind = "totalled stacked under" + (" spare" if is_mixed(country) else "")
-    return table(site, site.said("table_country"), heads, rows, kind), shown
-
-
-def is_mixed(country):
-    """Whether some seats are certified and some provisional."""
-    return bool(country.certified and country.provisional)
+    return table(site, site.said("table_country"), heads, rows, "totalled stacked under"), shown
 
 
 def seats_heads(site, country, seats):
-    """The heads of the columns of seats: where some are certified and some provisional, of their
-    sum, of those and of these."""
-    certified = changing(site, "seats" if country.whole else "seats_certified", seats)
+    """The heads of the columns of seats: where some are certified and some provisional, of those,
+    of these and of their sum."""
     provisional = numbers(site.said("seats_provisional"))
-    if is_mixed(country):
-        return [numbers(site.said("seats_together")), certified, provisional]
-    return [provisional if country.provisional else certified]
+    if country.is_mixed:
+        return [changing(site, "seats_certified", seats), provisional,
+                numbers(site.said("seats_together"))]
+    return [provisional if country.is_provisional else changing(site, "seats", seats)]
 
 
-def seats_cells(site, country, certified, provisional, said):
-    """The cells of these seats of a list, of which the certified ones are said so."""
+def seats_cells(site, country, party, said):
+    """The cells of the seats of a list, of which the certified ones are said so: a number where a
+    constituency of that kind has the list, and a dash where none has."""
     word = site.templates.parts.provisional
-    more = word(site.number(provisional)) if provisional else "–"
-    if is_mixed(country):
-        together = site.number(certified + provisional)
-        return [word(together) if provisional else together, said, more]
-    return [more if country.provisional else said if country.certified else "–"]
+    certified = said if party.certified_cons else "–"
+    provisional = word(site.number(party.provisional)) if party.provisional_cons else "–"
+    if not country.is_mixed:
+        return [provisional if country.is_provisional else certified]
+    given = party.certified_cons + party.provisional_cons
+    together = site.number(party.seats + party.provisional) if given else "–"
+    return [certified, provisional, together]
+
+
+def total_cells(site, country):
+    """The rows of the seats that no list has, a kind each, and that of all seats: in each column
+    those above add up to it. It is provisional where all seats are."""
+    more = ["–"] * 2 if country.is_mixed else []
+    for _, words, many in country.nobodys:
+        if many:
+            yield [site.said(words), *more, site.number(many), "–", ""]
+    word, total = site.templates.parts.provisional, site.number(country.chamber)
+    if country.is_mixed:
+        more = [site.number(country.certified), word(site.number(country.provisional))]
+    votes = site.number(sum(party.votes for party in country.parties)) if country.closed else "–"
+    yield [site.said("total"), *more,
+           word(total) if country.provisional == country.chamber else total, votes, ""]
+
+
+def votes_cells(site, country, party, shares=None):
+    """The cells of the votes of a list: dashes where no station is counted that has it."""
+    if not party.closed:
+        return ["–", "–"]
+    share = rounded(party.votes, country.base)
+    return [site.number(party.votes),
+            changed(site, party.code, share, shares, site.share, site.per_cent)]
 
 
 def party_cells(site, country, party, seats, shares):
     given = changed(site, party.code, party.seats, seats, site.number)
-    share = rounded(party.votes, country.base)
-    return [list_link(site, party.code, party.name),
-            *seats_cells(site, country, party.seats, party.provisional, given),
-            site.number(party.votes),
-            changed(site, party.code, share, shares, site.share, site.per_cent)]
+    return [list_link(site, party.code, party.name), *seats_cells(site, country, party, given),
+            *votes_cells(site, country, party, shares)]
 
 
 def others_cells(site, country, parties):
-    votes, seats, more = (sum(getattr(party, what) for party in parties)
-                          for what in ("votes", "seats", "provisional"))
-    words = "others" if seats or more else "others_without"
-    share = site.share(rounded(votes, country.base))
+    """The cells of the lists beyond those that are shown, together."""
+    together = Party.of_all(parties)
+    words = "others" if together.seats or together.provisional else "others_without"
     return [site.said(words, many=len(parties)),
-            *seats_cells(site, country, seats, more, site.number(seats)),
-            site.number(votes), share]
+            *seats_cells(site, country, together, site.number(together.seats)),
+            *votes_cells(site, country, together)]
 
 
 def turnout_said(site, country):
@@ -189,23 +236,24 @@ def programs(site, setup):
 def country_values(site, country, cons):
     """The parts of the page of the country, but for its tables."""
     names = names_of(cons)
-    share = site.per_cent(hundredths(country.closed, country.stations))
+    share = counted_share(country.closed, country.stations)
     return {
         "title": title_of(site), "certified": certified_said(site, country),
         "certified_cons": country.certified_cons,
-        "provisional": provisional_said(site, country),
+        "provisional": provisional_said(site, country, cons),
         "withdrawn": [(code, names[code]) for code in country.withdrawn],
-        "withdrawn_why": "withdrawn_provisional" if country.provisional else "withdrawn_why",
+        "withdrawn_why": withdrawn_said(site, country, cons),
         "circle": circle_of(site, country), "chart": chart_of(site, country),
         "base": site.say(f"base_{'lists' if country.bases == {'lists'} else 'valid'}"),
-        "counted": site.said("counted", closed=site.number(country.closed), share=share,
-                             many=country.stations),
-        "done": f"{country.closed / max(country.stations, 1) * 100:.2f}",
+        "counted": site.said("counted", closed=site.number(country.closed), many=country.stations,
+                             share=site.per_cent(share)),
+        "done": f"{share / 100:.2f}",
         "turnout": turnout_said(site, country),
         "votes": votes_said(site, country.valid, country.blank, country.spoiled),
         "closest": [{"votes": short, "code": code, "con": con, "name": names[con], "loser": of}
                     for short, code, con, of in country.closest],
-        "without_short": country.without_short,
+        "without_short": country.without_short, "whole": country.whole,
+        "cons_in_all": country.cons,
         "map": map_shape(site.map, cons) if site.map else None, "map_key": map_key(cons)}
 
 
@@ -229,7 +277,7 @@ def index_pages(site, cons, setup, moment, changed, electors):
         codes = shown_codes(values, shown, firsts if own or site.map else set())
         text = site.templates.page(
             "index.html", here="index.html", parties=parties,
-            cons=cons_table(site, rows) if own else links, own=own,
+            dashes=DASH in parties, cons=cons_table(site, rows) if own else links, own=own,
             colours=site.colours_in(party.code for party in country.parties if party.code in codes),
             **values)
         if size(text) <= PAGE_ROOM:
@@ -261,13 +309,12 @@ def names_of(cons):
 
 def cons_rows(site, cons):
     """The constituencies in the order of their names: code and row of each."""
-    macros, rows, names = site.templates.of_country, [], names_of(cons)
-    for code in sorted(cons, key=lambda code: in_order(names[code])):
-        con = cons[code]
+    macros, rows = site.templates.of_country, []
+    for code, con in by_name(cons):
         first, counted = first_list(con), con["tally"]
         rows.append((code, stacked_row(
-            site, macros.con_cell(code, names[code], state_of(con), site.share(
-                hundredths(counted["closed"], counted["stations"]))),
+            site, macros.con_cell(code, counted["name"], state_of(con), site.share(
+                counted_share(counted["closed"], counted["stations"]))),
             list_name(site, first) if first else "–", con_seats(site, con))))
     return rows
 
@@ -279,9 +326,9 @@ def con_seats(site, con):
     seats, not_final = seats_of(con), provisional_seats(con)
     given = [(of, many) for of, many in seats or not_final.items() if many]
     left = [("seats_by_lot", lot[1])] if lot else []
-    if not given and not left:
+    if more := con["rule"]["seats"] - sum(many for _, many in [*given, *left]):
         words = "seats_open" if con["tally"]["closed"] else "seats_uncounted"
-        left = [(words, con["rule"]["seats"])]
+        left.append((words, more))
     return macros.seats_cell(given, bool(not_final), left)
 
 
@@ -330,7 +377,7 @@ def cons_pages(site, rows, cons, moment, changed, head):
 
 def count_sections(site, cons):
     rows = []
-    for code, con in cons.items():
+    for code, con in by_name(cons):
         row, state = con["progress"], state_of(con)
         said = site.said(state)
         if state == "state_certified":
@@ -386,9 +433,23 @@ def title_of(site):
 
 
 def aged(site, text, moment):
-    """A page that stays as it is, with a line that says how old it is."""
+    """A page that stays as it is, with a line that says how old it is; one of a board's own
+    template may say no moment."""
     since = re.search(r'<time datetime="([^"]+)">', text)
+    if not since:
+        return text
     age = site.age_of(datetime.fromisoformat(since[1]), moment)
     begin, end = AGE
     line = site.templates.parts.old(site.hour(moment), age)
     return unaged(text).replace(begin + end, f"{begin}{line}{end}", 1)
+
+
+def withdrawn_page(site):
+    """In the place of a page of a constituency that is none of the election, as a function of its
+    moment."""
+
+    def written(moment):
+        return site.templates.page("withdrawn.html", title=site.say("page_withdrawn"),
+                                   moment=moment, colours=())
+
+    return written

@@ -8,6 +8,7 @@ import math
 import re
 from typing import NamedTuple
 
+from press_results import counted_share
 from press_templates import Markup
 
 # Bytes of a page, which is then below 60 kB with a line that says how old it is too; and of rows
@@ -83,13 +84,13 @@ def stacked_row(site, first, *cells):
 
 
 def framed(site, caption, heads, rows, kind="", wide=False):
-    """A table of such rows, whose classes name the columns of numbers by their places. One that
-    may be wider than a phone is `wide`. The kind `stacked` has the head of each row above its cells
-    on a phone, so that no name is broken; there `under` has the last cell under the one before it,
-    `spare` not the fourth, which the others say too, and `count` not the fifth to the seventh."""
+    """A table of such rows, whose classes name the columns of numbers by their places. One that is
+    wider than a phone is `wide`: there it has a frame, within which it is moved. The kind `stacked`
+    has the head of each row above its cells on a phone, so that no name is broken; there `under`
+    has the last cell under the one before it, and `count` not the fifth to the seventh."""
     heads = [head if isinstance(head, Head) else Head(head) for head in heads]
     classes = [*kind.split(), *(f"n{place}" for place, head in enumerate(heads, 1) if head.numbers)]
-    fewer = {"under": 1, "spare": 1, "count": 3}
+    fewer = {"under": 1, "count": 3}
     columns = len(heads) - 1 - sum(fewer.get(one, 0) for one in classes)
     table = site.templates.parts.table(caption, heads, rows, " ".join(classes), wide,
                                        columns if "stacked" in classes else 0)
@@ -97,8 +98,12 @@ def framed(site, caption, heads, rows, kind="", wide=False):
 
 
 def tables(site, caption, heads, rows, kind="", wide=False, room=TABLE_ROOM):
-    """A table of rows; where they have more bytes than there is room for, several."""
-    return [framed(site, caption, heads, part, kind, wide) for part in pieces(rows, room)]
+    """A table of rows; where they have more bytes than there is room for, several, of which the
+    last one alone ends with the sum."""
+    *parts, last = pieces(rows, room)
+    goes_on = kind.replace("totalled", "").strip()
+    return [*(framed(site, caption, heads, part, goes_on, wide) for part in parts),
+            framed(site, caption, heads, last, kind, wide)]
 
 
 def table(site, caption, heads, rows, kind="", wide=False):
@@ -133,7 +138,7 @@ def changing(site, words, before):
 
 
 def progress_bar(site, said, done, of):
-    return site.templates.parts.progress(said, f"{done / max(of, 1) * 100:.2f}")
+    return site.templates.parts.progress(said, f"{counted_share(done, of) / 100:.2f}")
 
 
 def votes_said(site, valid, blank, spoiled):

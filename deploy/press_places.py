@@ -1,17 +1,21 @@
 """The places of a constituency, such as its towns: their votes, added up of the returns of their
 stations, with a page each and a table of all; and the names that the first screen finds."""
 
+import hashlib
 import json
 from dataclasses import dataclass, field
 from datetime import datetime
 from functools import partial
+from typing import Callable, NamedTuple
 
+from press_country import by_name
 from press_data import PLACE, VERSION, csv_text, in_a_cell
 from press_figures import bars
 from press_head import Standing, counted_line, leads
-from press_names import closed, isolated, label
-from press_parts import (NOTHING, TABLE_ROOM, by_votes, changed, framed, hundredths, list_name,
-                         numbers, pieces, rounded, searched, stacked_row, votes_said)
+from press_names import closed, in_order, isolated, label
+from press_parts import (NOTHING, TABLE_ROOM, changed, framed, list_name, numbers, pieces,
+                         rounded, searched, stacked_row, votes_said)
+from press_results import counted_share
 
 
 @dataclass
@@ -88,10 +92,13 @@ def place_head(site, entry, place, names):
 
 
 def votes_of(site, con, entry, place):
-    """The bars and the table of the votes of a place."""
+    """The bars and the table of the votes of a place. Lists with as many votes are in the order of
+    the setup: in that of the constituency, the pages of all places would change where two lists
+    change their places there."""
     base = base_of(entry, place)
     lists = [row | {"votes": place.votes[row["code"]], "eligible": True,
-                    "share": rounded(place.votes[row["code"]], base)} for row in by_votes(con)]
+                    "share": rounded(place.votes[row["code"]], base)}
+             for row in con["tally"]["lists"]]
     lists.sort(key=lambda row: -row["votes"])
     rows = [stacked_row(site, list_name(site, row["code"], row["name"]), site.number(row["votes"]),
                         changed(site, row["code"], row["share"], None, site.share))
@@ -104,15 +111,24 @@ def votes_of(site, con, entry, place):
             "votes": votes_said(site, place.of_lists + place.blank, place.blank, place.spoiled)}
 
 
-def place_pages(site, code, con, entry, places, heads, rows, has_stations):
-    """The page of each place, as a function of its moment; `heads` and `rows` are those of the
-    table of stations, whose pages are there or not."""
+class PlacePage(NamedTuple):
+    """The page of a place: a hash of all that it shows of an election, and the page as a function
+    of its moment."""
+
+    shows: bytes
+    written: Callable
+
+
+def place_pages(site, code, con, entry, places, stations_of, has_stations):
+    """The page of each place. `stations_of` has two functions of a place: what its stations have,
+    and the heads and the rows of their table. The pages of stations are there or not."""
     names = {row["code"]: row["name"] for row in con["tally"]["lists"]}
     colours = site.colours_in(names)
+    seen, table_of = stations_of
 
     def written(number, place, moment):
-        own = [rows[station["code"]] for station in place.stations]
-        shown, *more = pieces(own, TABLE_ROOM / 2)
+        heads, rows = table_of(place)
+        shown, *more = pieces(rows, TABLE_ROOM / 2)
         stations = framed(site, site.said("table_stations"), heads, shown, "stations", wide=True)
         return site.templates.page(
             "place.html", here=f"place-{code}-{number}.html", code=code,
@@ -120,13 +136,18 @@ def place_pages(site, code, con, entry, places, heads, rows, has_stations):
             stations=stations, left=sum(map(len, more)), has_stations=has_stations,
             **votes_of(site, con, entry, place), **place_head(site, entry, place, names))
 
-    return [partial(written, number, place) for number, place in enumerate(places, 1)]
+    def page(number, place):
+        shows = repr((place, seen(place), names, con["tally"]["name"], has_stations))
+        return PlacePage(hashlib.sha256(shows.encode()).digest(), partial(written, number, place))
+
+    return [page(number, place) for number, place in enumerate(places, 1)]
 
 
 def table_pages(site, code, con, entry, places):
     """The pages of the table of places, each as a function of its moment."""
     tally, rows = con["tally"], []
-    for number, place in enumerate(places, 1):
+    numbered = sorted(enumerate(places, 1), key=lambda one: in_order(one[1].name))
+    for number, place in numbered:
         best = sorted(place.votes.items(), key=lambda one: -one[1])[:2]
         first = best[0] if best and best[0][1] and len({votes for _, votes in best}) == len(
             best) else None
@@ -135,7 +156,7 @@ def table_pages(site, code, con, entry, places):
             site, site.templates.parts.place_link(code, number, place.name),
             site.templates.parts.first_with_share(first[0], share) if first else "–",
             site.number(place.of_lists + place.blank),
-            site.share(hundredths(place.closed, len(place.stations)))))
+            site.share(counted_share(place.closed, len(place.stations)))))
     heads = (site.said("place_name"), site.said("first"), numbers(site.said("valid_votes")),
              numbers(site.said("counted_head")))
     counted = counted_line(site, tally["closed"], tally["stations"])
@@ -147,7 +168,7 @@ def table_pages(site, code, con, entry, places):
             table=framed(site, site.said("table_places"), heads, rows, "searched stacked cons"),
             colours=site.colours_in(row["code"] for row in tally["lists"]), counted_line=counted)
 
-    labels = [label(place.name) for place in places]
+    labels = [label(place.name) for _, place in numbered]
     groups, links = searched(site, f"places-{code}", rows, labels,
                              written([], NOTHING, datetime.now().astimezone()))
     return [partial(written, group, links(groups, here)) for here, group in enumerate(groups)]
@@ -157,10 +178,11 @@ def table_pages(site, code, con, entry, places):
 
 
 def find_json(cons, setup, site, starts):
-    """The names that the first screen finds, as the pages show them. `starts` are the places, among
-    the stations of a constituency, of those that each of its pages begins with."""
+    """The names that the first screen finds, as the pages show them, by constituency in the order
+    of their names. `starts` are the places, among the stations of a constituency, of those that
+    each of its pages begins with."""
     found = []
-    for code, con in cons.items():
+    for code, con in by_name(cons):
         entry = setup.get(code)
         stations = [station["code"] for station in entry["stations"]] if entry else []
         found.append({

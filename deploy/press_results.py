@@ -103,11 +103,22 @@ def by_seats(con, seats):
     return dict(sorted(seats.items(), key=lambda pair: (-pair[1], -votes[pair[0]])))
 
 
+def without_provisional(con):
+    """A constituency where no seat may be shown before it is certified. What remains is the lot
+    that is needed once all is counted: it is of the closed votes, and the board draws it."""
+    shown = con.get("provisional")
+    rest = {key: value for key, value in con.items() if key != "provisional"}
+    if shown and shown["status"] == "lot" and con["tally"]["closed"] == con["tally"]["stations"]:
+        rest["lot_needed"] = {key: shown[key] for key in ("question", "group")}
+    return rest
+
+
 def lot_of(con):
     """The lists among which a lot would decide, and how many seats it would; None where none is
-    needed, or seats may not be shown before they are certified."""
+    needed."""
     shown = con.get("provisional", {"status": "certified"})
-    return (shown["group"], shown["question"]) if shown["status"] == "lot" else None
+    lot = shown if shown["status"] == "lot" else con.get("lot_needed")
+    return (lot["group"], lot["question"]) if lot else None
 
 
 def of_certificate(result):
@@ -144,6 +155,14 @@ def quota_of(result):
     return {"votes": sum(votes.values()), "seats": result["seats"],
             "lists": [{"list": code, "votes": votes[code], "whole": whole, "remainder": remainder,
                        "seats": seats} for code, whole, remainder, seats in result["quota"]]}
+
+
+def counted_share(closed, stations):
+    """How much is counted, in hundredths of a per cent, rounded half up; but all is only where all
+    is counted, and nothing only where nothing is."""
+    if closed in (0, stations):
+        return 10_000 if closed else 0
+    return min(max((closed * 20_000 + stations) // (2 * stations), 1), 9_999)
 
 
 # ---- the stations of a constituency

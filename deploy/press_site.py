@@ -34,7 +34,7 @@ ABOUT = {"title": str, "date": date, "authority": str, "licence": str, "language
          "provisional": bool, "languages": list,
          "address": str}
 # What is of the whole site: the table of a language does not have it.
-WHOLE = {"language", "languages", "provisional"}
+WHOLE = {"language", "languages", "provisional", "timezone"}
 # What to write in the place of a value of another kind.
 WANTED = {str: 'a text in quotes, such as "Montehondo"', date: "a day such as 2026-11-29",
           list: "tables [[board]], each with a name and a role, or languages such as [\"es\"]",
@@ -275,6 +275,8 @@ class Site:
         self.data = "../" if first else ""
         # Whether seats may be shown before they are certified.
         self.provisional = self.about.get("provisional", True)
+        # The zone of the times on the pages of every language; None is that of the server.
+        self.zone = ZoneInfo(self.about["timezone"]) if "timezone" in self.about else None
         self.words = words_of(self.language)
         self.colours = read_colours(folder / "colours.csv")
         stations = read_stations(folder / "stations.csv")
@@ -382,21 +384,20 @@ class Site:
         month = self.words["months"][day.month - 1]
         return self.say("day", day=day.day, month=month, year=day.year)
 
+    def here(self, moment):
+        """A moment in the zone of the site; in that of the server where the site has none, whatever
+        zone it was written in."""
+        return moment.astimezone(self.zone)
+
     def moment(self, moment):
-        """A moment in the zone of the site, to the minute; in that of the server where the site has
-        none."""
-        if "timezone" not in self.about:
-            zone = moment.strftime("%z")
-            zone = "UTC" if zone in ("", "+0000") else f"UTC{zone[:3]}:{zone[3:]}"
-            return f"{self.day(moment)}, {moment.strftime('%H:%M:%S')} {zone}"
-        here = moment.astimezone(ZoneInfo(self.about["timezone"]))
-        return f"{self.day(here)}, {here.strftime('%H:%M %Z')}"
+        """A moment in the zone of the site, to the minute: each page writes it so."""
+        return f"{self.day(self.here(moment))}, {self.hour(moment)}"
 
     def hour(self, moment):
-        """The hour of a moment, as `moment` has it."""
-        if "timezone" not in self.about:
-            return moment.strftime("%H:%M:%S")
-        return moment.astimezone(ZoneInfo(self.about["timezone"])).strftime("%H:%M %Z")
+        """The hour of a moment, as `moment` has it. A zone without a name has its difference."""
+        here = self.here(moment)
+        zone = here.strftime("%Z")
+        return f"{here.strftime('%H:%M')} {zone if zone[:1].isalpha() else f'UTC{zone}'}"
 
     def change_said(self, since_said, since, now):
         """When something changed last, and how long ago that was, if it was a second ago or more."""

@@ -5,7 +5,7 @@ from functools import partial
 from itertools import accumulate
 
 from press_con import colours
-from press_data import returns_csv, returns_in
+from press_data import OPEN, returns_csv, returns_in
 from press_head import counted_line
 from press_parts import NOTHING, by_votes, framed, list_name, searched
 from press_places import added_up, place_pages, table_pages
@@ -19,12 +19,16 @@ def station_table(site, con, entry, text, states=None):
     order = {listed["code"]: place for place, listed in enumerate(by_votes(con))}
     lists = sorted(range(4, len(columns)), key=lambda place: order[columns[place]])
     found = {row[0]: row for row in returns}
-    heads = [site.said("station"), *([site.said("state")] if states else []),
-             site.said("electors"), *(list_name(site, columns[place]) for place in lists),
-             site.said("blank"), site.said("spoiled")]
-    return heads, {
+    return heads_of(site, columns, lists, states), {
         station["code"]: station_row(site, station, found.get(station["code"]), (*lists, 2, 3),
                                      states) for station in entry["stations"]}
+
+
+def heads_of(site, columns, lists, states):
+    """The heads of a table of stations, with the lists at these places of the columns."""
+    return [site.said("station"), *([site.said("state")] if states else []),
+            site.said("electors"), *(list_name(site, columns[place]) for place in lists),
+            site.said("blank"), site.said("spoiled")]
 
 
 def station_row(site, station, row, places, states):
@@ -50,8 +54,9 @@ def stations_pages(site, code, con, entry, text, states=None):
         returns = framed(site, caption, heads, rows, "searched stations", wide=True)
         return site.templates.page(
             "stations.html", here=f"stations-{code}-1.html", code=code,
-            name=con["tally"]["name"], said=words, links=links, table=returns,
-            moment=moment, colours=colours(site, con), counted_line=counted)
+            name=con["tally"]["name"], said=words, links=links, table=returns, moment=moment,
+            file=f"stations-{code}-{OPEN if states else con['seats']['edition']}.csv",
+            colours=colours(site, con), counted_line=counted)
 
     empty = written([], NOTHING, datetime.now().astimezone())
     groups, links = searched(site, f"stations-{code}", list(rows.values()), list(rows), empty)
@@ -71,18 +76,30 @@ def counted_of(site, entry, returns):
 def stations_said(site, con, closed, stations, states):
     values = {"closed": site.number(closed), "many": stations}
     if states:
-        return site.said("stations_open", **values)
+        return site.said("stations_reopened" if con["past"] else "stations_open", **values)
     return site.said("stations_said", edition=con["seats"]["edition"], **values)
 
 
 def places_pages(site, code, con, entry, text, states=None):
-    """The pages of the places of a constituency: those of each, and those of their table, each as a
-    function of its moment; and the places themselves. Without a file of returns none is closed."""
+    """The pages of the places of a constituency: those of each, those of their table, each as a
+    function of its moment, and the places themselves. Without a file of returns none is closed."""
     text = text or returns_csv([row["code"] for row in con["tally"]["lists"]], [])
     columns, returns = returns_in(text)
     places = added_up(site, con, entry, columns, returns)
     if not places:
         return [], [], []
-    heads, rows = station_table(site, con, entry, text, states)
-    return (place_pages(site, code, con, entry, places, heads, rows, bool(returns)),
+    found = {row[0]: row for row in returns}
+
+    def seen(place):
+        codes = [station["code"] for station in place.stations]
+        return [found.get(code) for code in codes], states and [states[code] for code in codes]
+
+    def table_of(place):
+        """The lists are in the order of their votes in the place, as in the table above."""
+        lists = sorted(range(4, len(columns)), key=lambda at: -place.votes[columns[at]])
+        rows = [station_row(site, station, found.get(station["code"]), (*lists, 2, 3), states)
+                for station in place.stations]
+        return heads_of(site, columns, lists, states), rows
+
+    return (place_pages(site, code, con, entry, places, (seen, table_of), bool(returns)),
             table_pages(site, code, con, entry, places), places)

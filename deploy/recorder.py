@@ -18,7 +18,8 @@ press pages have shown (--shown), or has another in its place: it was cut, or wr
 
 The record has a line of JSON for each command, with `n`, its own number, and another for the answer, with `to`, the number of
 the command; each has in `before` the SHA-256 of the line before it. So no line can be changed, removed or put between others
-without changing the hash of the last, which is in FOLDER/head with its number. Each line goes to standard output too.
+without changing the hash of the last, which is in FOLDER/head with its number. Hashes are published; `salt`, which nobody can
+guess, keeps them from bearing out a guess of what a slip says. Each line goes to standard output too.
 
 With --two-of-board a lot, a certificate and a reopening need two names of the board: the first request is recorded and answered
 202, `waits_for_second_name`, and the same request from another name within an hour is sent to the office. It is another request
@@ -34,6 +35,9 @@ acts a second time.
 It answers who did what to a station (GET /history/CODE), to the roles that may see it: the names, the times and the acts; to
 a clerk and to the board with what was sent and answered, to a second without. Where the lines of each station are it knows
 from reading the record once, as it starts; with --setup, of the stations of the setup. Reports are for reader.py to answer.
+
+With --setup it also answers who typed how many returns of a constituency in the last hour (GET /typed/CODE): to the board of
+each name, to another name its own alone.
 
 It goes on until it is ended. The status is 1 where it cannot begin: another recorder has the record, or a file cannot be
 read. Python 3.11 or later.
@@ -53,12 +57,14 @@ import io
 import json
 import os
 import re
+import secrets
 import socket
+import stat
 import sys
 import threading
 import time
 from array import array
-from datetime import datetime
+from datetime import datetime, timedelta
 from pathlib import Path
 from typing import NamedTuple
 
@@ -84,9 +90,13 @@ FILES_OF_NAME, FILES, REST, LONGEST_REST, LONGEST_OF_NAME, STEP = 4, 16, 3, 10.0
 LINES, LONGEST = 200, 65_536
 # The roles that see what a slip says. Who enters it a second time is not to see the first entry.
 SEE_FIGURES = ("clerk", "board")
+# The acts by which somebody types a return, and for how many minutes they are counted.
+TYPING, HOUR = ("lodge", "confirm", "correct"), 60
 # The statuses that leave it open: the command may have been done.
 UNKNOWN = (None, 502, 503, 504)
 FIRST = "0" * 64
+# The most bytes of what the pages have shown: a row has some hundred, and ten seconds have one.
+MOST_SHOWN = 64 << 20
 
 
 class Answer(NamedTuple):
@@ -106,23 +116,30 @@ UNAVAILABLE = Answer(503, b'{"word": "unavailable"}')
 
 
 class Setup(NamedTuple):
-    """A setup as the proxy knows it: the hash of setup.json, and the codes of its stations."""
+    """A setup as the proxy knows it: the hash of setup.json, and the constituency of each station."""
 
     hash: str
-    stations: frozenset
+    stations: dict
 
 
 def read_setup(file):
     data = file.read_bytes()
-    codes = (station["code"] for con in json.loads(data) for station in con["stations"])
-    return Setup(hashlib.sha256(data).hexdigest(), frozenset(codes))
+    stations = {station["code"]: con["code"] for con in json.loads(data) for station in con["stations"]}
+    return Setup(hashlib.sha256(data).hexdigest(), stations)
 
 
 def read_shown(file):
-    """The hashes of lines that were shown, by their numbers. A row that is cut says nothing."""
+    """The hashes of lines that were shown, by their numbers. A row that is cut says nothing.
+
+    Who writes the pages may write no more than they: a pipe would be waited for, and a device has no end."""
     shown = {}
-    if file and file.exists():
-        for row in file.read_text(encoding="utf-8", errors="replace").splitlines()[1:]:
+    if file and os.path.lexists(file):
+        with open(os.open(file, os.O_RDONLY | os.O_NOFOLLOW | os.O_NONBLOCK), encoding="utf-8", errors="replace") as it:
+            found = os.fstat(it.fileno())
+            if not stat.S_ISREG(found.st_mode) or found.st_size > MOST_SHOWN:
+                raise ValueError(f"no file of at most {MOST_SHOWN} bytes")
+            rows = it.read(MOST_SHOWN).splitlines()[1:]
+        for row in rows:
             found = re.fullmatch(r"[^,]*,([0-9]{1,15}),([0-9a-f]{64})", row)
             if found and found[1] != "0":
                 shown.setdefault(int(found[1]), set()).add(found[2])
@@ -134,7 +151,7 @@ class Record:
 
     def __init__(self, file, room, setup=None, shown=None):
         self.file, self.room, self.lock = file, room, threading.Lock()
-        self.index = Index(setup.stations if setup else None)
+        self.index = Index(setup.stations if setup else None, Typed(setup.stations if setup else {}))
         self.waiting = second_name.Waiting()
         self.descriptor = os.open(file, os.O_WRONLY | os.O_APPEND | os.O_CREAT, 0o640)
         self.setup, begins, shown = setup, "", dict(shown or {})
@@ -193,8 +210,9 @@ class Record:
     def write(self, entry, moment=None):
         """Writes a line; the line, and its place in the file."""
         number, moment = self.number + 1, moment or datetime.now().astimezone()
-        line = json.dumps({"n": number, "time": moment.isoformat(timespec="milliseconds"), **entry, "before": self.last},
-                          ensure_ascii=False).encode()
+        # The hash of a line is published, and its figures are few: without a salt one can try all.
+        line = json.dumps({"n": number, "time": moment.isoformat(timespec="milliseconds"), **entry,
+                           "salt": secrets.token_hex(16), "before": self.last}, ensure_ascii=False).encode()
         whole = b"\n" * self.is_cut + line + b"\n"
         if self.fault:
             raise OSError(self.fault)
@@ -237,6 +255,12 @@ class Record:
                     commands[entry["n"]] = command_of(entry)
         return {"station": station, "whole": whole, "commands": list(commands.values())}
 
+    def typed(self, con):
+        """Who typed how many returns of a constituency since a moment an hour ago."""
+        now = datetime.now().astimezone()
+        since = now.replace(second=0, microsecond=0) - timedelta(minutes=HOUR - 1)
+        return {"con": con, "since": since.isoformat(timespec="seconds"), "names": self.index.typed_of(con, now)}
+
     def head(self):
         with self.lock:
             found = {"n": self.number, "hash": self.last, "time": datetime.now().astimezone().isoformat(timespec="seconds")}
@@ -251,16 +275,47 @@ def waits(moment, others):
     return Answer(second_name.WAITS, json.dumps({"word": "waits_for_second_name", "until": until, "others": said}).encode())
 
 
-class Index:
-    """Where the lines of the record are that are about each station."""
+class Typed:
+    """How many returns each name typed in each minute of the last hour, by constituency. A return
+    counts once it was accepted, and not where the same was recorded before."""
 
-    def __init__(self, known=None):
-        # The stations of the setup, where it is known: no memory is spent on the names that a file
-        # makes up.
+    def __init__(self, stations):
+        # The constituency of each station.
+        self.stations, self.minutes = stations, {}
+
+    def take(self, path, name, role, entry):
+        """A command of this path, name and role was answered by this line."""
+        _, _, code, act = path.split("/", 3)
+        if act not in TYPING or code not in self.stations or entry["status"] != 200 or not is_done(entry):
+            return
+        minute = int(datetime.fromisoformat(entry["time"]).timestamp()) // 60
+        if minute not in self.minutes:
+            self.minutes = {one: counts for one, counts in self.minutes.items() if one > minute - HOUR}
+            self.minutes[minute] = collections.Counter()
+        self.minutes[minute][self.stations[code], name, role, act] += 1
+
+    def of(self, con, now):
+        """The names that typed returns of a constituency in the last hour, that with the most first."""
+        minute, found = int(now.timestamp()) // 60, {}
+        for one, counts in self.minutes.items():
+            for (home, name, role, act), many in counts.items():
+                if home == con and minute - HOUR < one <= minute:
+                    row = found.setdefault((name, role), {"name": name, "role": role, **dict.fromkeys(TYPING, 0)})
+                    row[act] += many
+        return sorted(found.values(), key=lambda row: (-sum(row[act] for act in TYPING), row["name"]))
+
+
+class Index:
+    """Where the lines of the record are that are about each station, and who typed returns."""
+
+    def __init__(self, known=None, typed=None):
+        # The stations of the setup, each with its constituency, where it is known: no memory is
+        # spent on the names that a file makes up.
         self.known = known
         # Of what was done to a station and of what was not, so that no repetition pushes out an
         # act; and of commands without an answer by their numbers.
         self.places, self.waiting, self.lock = {}, {}, threading.Lock()
+        self.typed = typed or Typed({})
 
     def take(self, line, place):
         """A line of the record at its place, whatever is in it."""
@@ -269,25 +324,34 @@ class Index:
             if "to" in entry:
                 self.answered(entry, place)
                 return
-            stations = stations_of(entry)
+            stations = self.of_setup(stations_of(entry), entry["path"])
             with self.lock:
                 if "status" in entry:
                     self.add(stations, False, place)
                 else:
-                    self.waiting[entry["n"]] = place, stations, entry["path"]
+                    self.waiting[entry["n"]] = place, stations, (entry["path"], entry.get("name"), entry.get("role"))
         except (ValueError, KeyError, TypeError, AttributeError, RecursionError, csv.Error):
             # No recorder wrote it.
             return
 
+    def of_setup(self, stations, path):
+        """Those that the setup has; of a file, in its constituency. A row of another one's station is bad there: it
+        would push acts out of that station's history, and who sent it may act in the one constituency alone."""
+        if self.known is None:
+            return stations
+        _, kind, con, _ = path.split("/", 3)
+        return {code for code in stations if code in self.known and (kind == "station" or self.known[code] == con)}
+
     def answered(self, entry, place):
         with self.lock:
-            command, stations, path = self.waiting.pop(entry["to"])
+            command, stations, (path, name, role) = self.waiting.pop(entry["to"])
+            self.typed.take(path, name, role, entry)
             # A file of which nothing was lodged is about no station.
             if path.startswith("/station/") or entry["status"] in UNKNOWN or json.loads(entry["answer"])["lodged"]:
                 self.add(stations, is_done(entry), command, place)
 
     def add(self, stations, done, *places):
-        for station in stations if self.known is None else stations & self.known:
+        for station in stations:
             self.places.setdefault((station, done), array("Q")).extend(places)
 
     def of(self, station):
@@ -296,6 +360,10 @@ class Index:
             waiting = [place for place, stations, _ in self.waiting.values() if station in stations]
             sorts = [self.places.get((station, done), ()) for done in (True, False)] + [waiting]
             return sorted(place for sort in sorts for place in sort[-LINES:]), all(len(sort) <= LINES for sort in sorts)
+
+    def typed_of(self, con, now):
+        with self.lock:
+            return self.typed.of(con, now)
 
 
 def setup_of(line):
@@ -570,9 +638,20 @@ class Recorder:
                 command.pop("answer", None)
         return Answer(200, json.dumps(found, ensure_ascii=False).encode())
 
+    def typed(self, con, fields):
+        """Who typed how many returns in the last hour, for the board; of any other name what it typed itself."""
+        if fields["office-allowed"] != "1":
+            return FORBIDDEN
+        found = self.record.typed(con)
+        if fields["office-role"] != "board":
+            found["names"] = [row for row in found["names"] if row["name"] == fields["office-name"]]
+        return Answer(200, json.dumps(found).encode())
+
     def answered(self, method, path, fields, body):
         if method == "GET" and path.startswith("/history/"):
             return self.history(path.removeprefix("/history/"), fields)
+        if method == "GET" and path.startswith("/typed/"):
+            return self.typed(path.removeprefix("/typed/"), fields)
         if method != "POST":
             return NOT_ALLOWED
         name, role = fields["office-name"], fields["office-role"]
@@ -656,9 +735,12 @@ def main():
     command.add_argument("--two-of-board", action="store_true", help="a lot, a certificate and a reopening need two names")
     given = command.parse_args()
     try:
-        setup, shown = read_setup(given.setup) if given.setup else None, read_shown(given.shown)
+        file = given.setup
+        setup = read_setup(file) if file else None
+        file = given.shown
+        shown = read_shown(file)
     except (OSError, ValueError, KeyError, TypeError) as error:
-        sys.exit(f"failed: {given.setup or given.shown}: {error!r}")
+        sys.exit(f"failed: {file}: {error!r}")
     given.folder.mkdir(parents=True, exist_ok=True)
     # A second recorder would number the same lines: it ends here, with an error.
     locked = os.open(given.record, os.O_RDONLY | os.O_CREAT, 0o640)

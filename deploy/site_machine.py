@@ -10,7 +10,7 @@ import socket
 import ssl
 import subprocess
 import time
-from contextlib import closing
+from contextlib import closing, contextmanager
 from pathlib import Path
 
 
@@ -60,6 +60,26 @@ class Machine:
         if self.owned(place, mode, user, group) or is_new:
             self.say("folder", place)
 
+    def put_aside(self, place, names, into, mode, user):
+        """Moves the files of these names of a folder, which is perhaps another user's, into a new
+        folder there. A link that this user puts in its place is not followed: the new folder would
+        be another one, which root would give away."""
+        folder = self.at(place)
+        found = [file.name for name in names for file in sorted(folder.glob(name))]
+        if not found:
+            return
+        with opened(folder, os.O_DIRECTORY) as outer:
+            os.mkdir(into, 0o700, dir_fd=outer)
+            with opened(into, os.O_DIRECTORY | os.O_NOFOLLOW, outer) as inner:
+                if os.fstat(inner).st_uid != os.geteuid():
+                    raise Fault(f"{folder / into} is another user's")
+                for name in found:
+                    os.rename(name, name, src_dir_fd=outer, dst_dir_fd=inner)
+                if self.is_real:
+                    os.fchown(inner, pwd.getpwnam(user).pw_uid, grp.getgrnam(user).gr_gid)
+                os.fchmod(inner, mode)
+        self.say("folder", f"{place}/{into}")
+
     def put(self, place, data, mode=0o644, user="root", group=None, is_said=True):
         """Writes a file beside and renames it, if it is not so already."""
         file, data = self.at(place), data.encode() if isinstance(data, str) else data
@@ -103,6 +123,16 @@ class Machine:
     def is_active(self, unit):
         return self.has_services and not subprocess.run(
             ["systemctl", "is-active", "--quiet", unit]).returncode
+
+
+@contextmanager
+def opened(folder, flags, within=None):
+    """The descriptor of a folder."""
+    descriptor = os.open(folder, os.O_RDONLY | flags, dir_fd=within)
+    try:
+        yield descriptor
+    finally:
+        os.close(descriptor)
 
 
 def run(*words, env=None, cwd=None):

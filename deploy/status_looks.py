@@ -3,9 +3,11 @@
 import hashlib
 import http.client
 import json
+import os
 import shutil
 import socket
 import ssl
+import stat
 import subprocess
 import sys
 import time
@@ -18,6 +20,8 @@ HERE = Path(__file__).resolve().parent
 RECOUNTS = (HERE / "recount.py", HERE.parent / "examples/recount.py")
 # Seconds that an answer may take, and a day and a megabyte.
 PATIENCE, DAY, MEGABYTE = 10, 86_400, 1 << 20
+# Bytes of a file of the pages, which their user writes.
+LARGEST = 64 * MEGABYTE
 # The first line of a record has this as the hash of the line before it.
 FIRST = "0" * 64
 
@@ -97,10 +101,20 @@ def spoken(seconds):
     return f"{seconds:.0f} second{'' if round(seconds) == 1 else 's'}"
 
 
+def text_of(file):
+    """The text of a file that another user writes: no link, no pipe, which would be waited for, and
+    nothing that has no end."""
+    with open(os.open(file, os.O_RDONLY | os.O_NOFOLLOW | os.O_NONBLOCK), encoding="utf-8") as it:
+        found = os.fstat(it.fileno())
+        if not stat.S_ISREG(found.st_mode) or found.st_size > LARGEST:
+            raise ValueError(f"no file of at most {LARGEST // MEGABYTE} MB")
+        return it.read(LARGEST)
+
+
 def look_at_pages(folder, most):
     """The press pages, by the moment of their last round."""
     try:
-        said = json.loads((Path(folder) / "manifest.json").read_text(encoding="utf-8"))
+        said = json.loads(text_of(Path(folder) / "manifest.json"))
         age = time.time() - datetime.fromisoformat(said["time"]).timestamp()
     except (OSError, ValueError, KeyError, TypeError) as error:
         return Found("pages", False, f"manifest.json cannot be read: {error}")

@@ -10,8 +10,9 @@ refuse the program memory. With --store the seconds of each suite are stored in 
 by which the longest begin first.
 
 A suite that says `ALONE = True` measures time or needs much of the machine: it runs after the
-others, by itself. A suite that fails beside others runs once more by itself, since they can spoil
-what it measures, and the second result counts. Of a suite that fails all that it printed is shown.
+others, by itself. A suite that fails runs once more, by itself, since other work on the machine can
+spoil what it measures, and the second result counts. Of a suite that fails all that it printed is
+shown, both times.
 The last line is `N passed, M failed, K skipped`. The status is 0 where nothing failed and nothing
 was skipped of tests/program and tests/documents, which need no more than Python and a C compiler.
 Where TEST_MINUTES is set and over, another part that has not begun counts as skipped.
@@ -213,10 +214,10 @@ class Runner:
         with ThreadPoolExecutor(self.places) as pool:
             results = list(pool.map(self.run, [part for part in parts if not part.alone]))
         results = [self.again(result) for result in results]
-        return results + [self.run(part) for part in parts if part.alone]
+        return results + [self.again(self.run(part)) for part in parts if part.alone]
 
     def again(self, result):
-        """The result of a suite by itself, where it failed beside others."""
+        """The result of a suite, of a second run by itself where it failed in the first."""
         if not result.failed or self.ended or "unittest" not in result.part.words:
             return result
         print(f"test: {result.part.name}: once more, by itself", flush=True)

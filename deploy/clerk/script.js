@@ -87,7 +87,10 @@ const SLIPS = ["lodge", "correct", "confirm"];
 const WRONG = { differs: "slip", bad_body: "slip", too_many_votes: "total", bad_note: "note" };
 
 // What is known, and what is shown: a command is made of what is shown, and of nothing else.
+const MINUTE = 60_000;
 let setup = [], setupHash = "", known = { stations: {}, former: {} }, person = { name: "", role: "" }, shown = { con: null, view: null, station: null, found: null }, lot = null, busy = false, active = null;
+// The moment from which on the page asks for names and the former result.
+let siteAgain = 0;
 // The revision of returns that this page has not seen, as far as an answer named it; the stations
 // that were listed, and whether somebody asked for the list of this constituency.
 const revisions = {};
@@ -259,7 +262,7 @@ async function command(target, body, done, receipt, isLook = () => false) {
   if (answer.ok && receipt.station) dropDraft(receipt.station);
   showOpen();
   const trouble = await look();
-  say(`${waits ? waitsFor(value) : answer.ok ? done(value) : sentence(answer)}${trouble}`, waits || (answer.ok && isLook(value)) ? "look" : answer.ok ? "done" : "refused");
+  say(`${waits ? waitsFor(value) : answer.ok ? done(value) : sentence(answer)}${trouble}`, waits || value.word === "lot_missing" || (answer.ok && isLook(value)) ? "look" : answer.ok ? "done" : "refused");
   if (answer.ok && !waits) showReceipt(done(value), receipt);
   setBusy(false);
   return answer;
@@ -288,9 +291,15 @@ function setBusy(now) {
 // Goes to where somebody types on: the slip of a return that is to be entered, or else the next
 // station.
 function goOn(accepted) {
-  if (!shown.station) return;
+  if (!shown.station) {
+    // The form of what the board did is gone: its receipt is what there is to read.
+    const here = document.activeElement;
+    if (accepted && (here === document.body || !here.getClientRects().length)) element("receipt").querySelector("summary").focus();
+    return;
+  }
   const form = blind() ? !accepted && "confirm" : { none: "lodge", queried: "correct" }[shown.found ? shown.found.status : ""];
   const next = form && !element(form).hidden ? element(form).elements.slip : element("station");
+  if (next.id) proposeStation(proposedStation());
   next.focus();
   if (next.id) next.select();
 }
@@ -303,7 +312,7 @@ async function look() {
   const con = shown.con, station = shown.station;
   shown.view = shown.found = null;
   const [result, seen] = await Promise.all([
-    ask("GET", `/now/con/${con}/result`), station && !blind() ? ask("GET", `/now/station/${encodeURIComponent(station)}`) : null]);
+    ask("GET", `/now/con/${con}/result`), station && !blind() ? ask("GET", `/now/station/${encodeURIComponent(station)}`) : null, learnSite()]);
   const view = shown.view = result.ok ? viewOf(result.value) : null;
   // Who does not see a return learns its revision from the list, where some were corrected.
   const isOld = view && (isListed || (station && blind() && view.queried + view.corrected)), open = isOld ? await listStations() : null;
@@ -314,6 +323,7 @@ async function look() {
   // Its votes are in the order of the lists that are shown only where it is a station of this
   // constituency.
   if (constituency().stations.some((one) => one.code === station)) shown.found = there;
+  if (shown.found && shown.found.status !== "none") returned.add(station);
   showProgress(view);
   if (open) showOpen();
   learn();
@@ -409,7 +419,7 @@ function showReturn() {
   element("compare").hidden = blind() || double() || !(entered || status === "closed");
   element("compare").textContent = again ? T.show_recorded : T.compare_button;
   element("lodge-title").textContent = again ? T.enter_again : T.lodge_title;
-  element("lodge-help").textContent = again ? T.compare_help : "";
+  proposeSlip();
   element("lodge").querySelector("button").textContent = again ? T.compare_send : T.lodge_button;
   element("confirm-rev").textContent = !found ? "" : found.rev > 1 ? T.compared_later : T.compared_first;
 }
@@ -479,7 +489,7 @@ function showReceipt(done, { title, station, open, rows }) {
   element("receipt").open = Boolean(open);
   element("receipt").querySelector("summary").textContent = T.receipt({ title });
   element("receipt").querySelector("div").replaceChildren(rowsOf([
-    ...(station ? [[T.station, station]] : []), [T.constituency, `${constituency().name} (${shown.con})`], [T.done, done], ...rows(),
+    ...(station ? [[T.station, station]] : []), [T.constituency, `${constituency().name} (${shown.con})`], ...(done === T.is_done ? [] : [[T.done, done]]), ...rows(),
     [T.by_label, `${person.name}, ${ROLES[person.role] || person.role}`], [T.at_label, moment(new Date())]]));
 }
 
@@ -633,14 +643,24 @@ function isStation(slip) {
   return plain !== plainCode(shown.station || "") && setup.some((one) => one.stations.some(({ code }) => plainCode(code) === plain));
 }
 
-// Whether a slip may be sent: its code is no station's, its figures have the total that was typed,
-// and somebody looked at what is unusual.
+// Whether the code of a slip is taken: it is no station's, and where the page proposed the station
+// it follows on the slip before, or was typed twice.
+function fits(form) {
+  const field = form.elements.slip, proposed = form.id === "lodge" ? proposedSlip() : "";
+  if (proposed) field.value = slipMeant(field.value);
+  const slip = field.value, { station } = shown;
+  const jumps = proposed && shown.isProposed && slip !== proposed && shown.jumped !== slip && pile.jumps < 2;
+  if (!isStation(slip) && !jumps) return true;
+  shown.jumped = slip;
+  say(isStation(slip) ? T.slip_is_station({ slip, station }) : T.slip_jumps({ slip, proposed, station }), "refused");
+  field.select();
+  return false;
+}
+
+// Whether a slip may be sent: its code is taken, its figures have the total that was typed, and
+// somebody looked at what is unusual.
 function checked(form) {
-  if (isStation(form.elements.slip.value)) {
-    say(T.slip_is_station({ slip: form.elements.slip.value, station: shown.station }), "refused");
-    form.elements.slip.select();
-    return false;
-  }
+  if (!fits(form)) return false;
   const { votes, blank, spoiled } = figures(form), sum = total([...votes, blank, spoiled]), typed = fields(form, "total")[0];
   const wrong = Number(typed.value) !== sum;
   typed.setAttribute("aria-invalid", wrong);
@@ -658,6 +678,60 @@ function checked(form) {
     T.unusual({ figures: T.figures({ number: open.length }) }), "refused");
   (wrong ? fields(form, "votes")[0] : open[0]).select();
   return false;
+}
+
+// ---- the next paper of a pile, where its slip is entered twice
+
+// The last two stations whose slips this page entered, the later one first, and what it knows to
+// have a return; of the last slip's code the part before its number, and the number; whether slips
+// are numbered one after the other, which way, and how many of the last were not.
+let pile = { con: null };
+const returned = new Set();
+
+function putOnPile(station, slip) {
+  if (pile.con !== shown.con) pile = { con: shown.con, stations: [], head: null, digits: "", isNumbered: false, step: 1, jumps: 0 };
+  const [, head, digits] = /^(.*?)([0-9]{1,9})$/.exec(slip) || [null, null, ""], step = Number(digits) - Number(pile.digits);
+  const follows = head !== null && head === pile.head && Math.abs(step) === 1;
+  Object.assign(pile, { stations: [station, ...pile.stations].slice(0, 2), head, digits, isNumbered: follows || (pile.isNumbered && head === pile.head),
+    step: follows ? step : pile.step, jumps: follows ? 0 : pile.jumps + 1, isPadded: /^0./.test(digits) || (pile.isPadded && head === pile.head) });
+}
+
+// Whoever enters the same paper a second time is proposed nothing, and types both codes from it.
+const hasPile = () => person.role === "clerk" && double() && pile.con === shown.con && !shown.again;
+
+// The station after the last one in the list, or before it where the pile goes that way, that has
+// no return yet, as far as this page knows.
+function proposedStation() {
+  if (!hasPile()) return "";
+  const codes = constituency().stations.map(({ code }) => code), [last, before] = pile.stations.map((code) => codes.indexOf(code));
+  const way = before > last ? codes.slice(0, last).reverse() : codes.slice(last + 1);
+  return way.find((code) => !returned.has(code)) || "";
+}
+
+const numbered = (number) => pile.head + String(number).padStart(pile.isPadded ? pile.digits.length : 1, "0");
+const proposedSlip = () => hasPile() && pile.isNumbered ? numbered(Math.max(0, Number(pile.digits) + pile.step)) : "";
+
+// The slip whose number ends with what was typed: of all such the nearest to the proposed one.
+function slipMeant(typed) {
+  if (!/^[0-9]+$/.test(typed) || typed.length > pile.digits.length || (!pile.head && typed.length === pile.digits.length)) return typed;
+  const unit = 10 ** typed.length, wanted = Number(pile.digits) + pile.step, near = Math.floor(wanted / unit) * unit + Number(typed);
+  const ends = [near, near + unit, near - unit].filter((number) => number >= 0);
+  return numbered(ends.sort((one, other) => Math.abs(one - wanted) - Math.abs(other - wanted))[0]);
+}
+
+// The next station is proposed in the empty field, where Enter takes it, and the next slip beside
+// its own, of which nothing is taken.
+function proposeStation(code) {
+  const { name } = known.stations[code] || {}, station = name ? `${code}, ${name}` : code;
+  if (code) element("station").value = "";
+  element("station").placeholder = code;
+  element("proposed").textContent = code ? T.station_proposed({ station }) : "";
+}
+
+function proposeSlip() {
+  const slip = proposedSlip();
+  element("lodge").elements.slip.placeholder = slip;
+  element("lodge-help").textContent = shown.again ? T.compare_help : slip ? T.slip_proposed({ slip }) : "";
 }
 
 // Whether something was typed, or an order of a lot was chosen, that was not sent.
@@ -719,9 +793,14 @@ const toStation = (name, body, done, title, rows) => command(`/station/${shown.f
   { title, rows, station: shown.station, leaves: LEAVES[name], open: name === "close" });
 const toCon = (name, body, done, title, rows) => command(`/con/${shown.con}/${name}`, JSON.stringify(body), done, { title, rows, open: true });
 
-onSubmit("lodge", (form) => checked(form) && toStation("lodge", figures(form), (value) =>
-  value.ok === "same" ? T.same_recorded : T.lodged,
-  T.receipt_lodge, () => [[T.slip, shown.found.slip]]));
+onSubmit("lodge", async (form) => {
+  if (!checked(form)) return null;
+  const { station } = shown, typed = figures(form), isFirst = !shown.again;
+  const answer = await toStation("lodge", typed, (value) => value.ok === "same" ? T.same_recorded : T.lodged,
+    T.receipt_lodge, () => [[T.slip, shown.found.slip]]);
+  if (answer.ok && isFirst) putOnPile(station, typed.slip);
+  return answer;
+});
 onSubmit("confirm", (form) => {
   const typed = figures(form);
   return checked(form) && toStation("confirm", { rev: shown.found.rev, ...typed }, () => T.same_closed,
@@ -729,9 +808,12 @@ onSubmit("confirm", (form) => {
 });
 onSubmit("close", () => confirm(T.close_question({ station: shown.station })) &&
   toStation("close", { rev: shown.found.rev }, isDone, T.receipt_close, () => shown.found ? slipRows(shown.found) : []));
-onSubmit("query", (form) => {
+onSubmit("query", async (form) => {
   const note = form.elements.note.value;
-  return toStation("query", { rev: shown.found.rev, note }, isDone, T.receipt_query, () => [[T.note, note]]);
+  const answer = await toStation("query", { rev: shown.found.rev, note }, isDone, T.receipt_query, () => [[T.note, note]]);
+  // What was typed to be compared goes with the paper that is put aside.
+  if (answer.ok) for (const slip of SLIPS) element(slip).reset();
+  return answer;
 });
 onSubmit("correct", (form) => checked(form) && toStation("correct", { rev: shown.found.rev, ...figures(form) }, isDone,
   T.receipt_correct, () => [[T.slip, form.elements.slip.value]]));
@@ -813,10 +895,17 @@ async function tryFile(form) {
   setBusy(false);
 }
 
+// The first line that was not accepted, with the reason of the trial, which says more, where it is
+// of that line.
+function firstRefused([row, refusal]) {
+  const line = lineOf(row), tried = refusedLines.find((one) => one.line === line), reason = tried ? tried.reason : REASONS[refusal] || T.other_reason({ number: refusal });
+  return T.imported_first({ line, reason });
+}
+
 function importFile(form) {
   const file = form.elements.file.files[0], notAccepted = ({ differs, refused, bad }) => differs + refused + bad;
   const done = (value) => T.imported({ lodged: value.lodged, same: value.same, differs: value.differs, refused: value.refused, bad: value.bad }) +
-    (value.first ? T.imported_first({ line: lineOf(value.first[0]), reason: REASONS[value.first[1]] || T.other_reason({ number: value.first[1] }) }) : "");
+    (value.first ? firstRefused(value.first) : "");
   const rows = () => {
     // The list of the trial stays: these rows are to be found in the file yet.
     element("not-accepted").replaceChildren(...(refusedLines.length ? [made("h3", T.not_accepted({ name: file.name })), refusedRows()] : []));
@@ -842,10 +931,18 @@ function read(text) {
   }
 }
 
-// What a command said of a return, as far as it can be read.
+const isCode = (one) => typeof one === "string" && /^[A-Za-z0-9_-]{1,16}$/.test(one);
+const isNumber = (one) => Number.isSafeInteger(one) && one >= 0;
+
+// What a command said of a return. Also of one that was refused, or waits and was not looked at
+// yet, codes and numbers alone are shown: else its sender could write any sentence into this line.
 function saidOf({ slip, votes, blank, spoiled, note, order }) {
-  const lists = Array.isArray(votes) ? votes.map((many, place) => `${(constituency().lists[place] || { code: "?" }).code} ${many}`) : [];
-  const parts = [...(slip ? [T.said_slip({ slip })] : []), ...lists, ...(blank === undefined ? [] : [T.said_blank({ number: blank }), T.said_spoiled({ number: spoiled })]), ...(Array.isArray(order) ? order : []), ...(note ? [T.said_note({ note: isolated(String(note)) })] : [])];
+  const codeOf = (place) => (constituency().lists[place] || { code: "?" }).code;
+  const lists = Array.isArray(votes) ? votes.slice(0, 60).map((many, place) => `${codeOf(place)} ${isNumber(many) ? many : "?"}`) : [];
+  const others = isNumber(blank) && isNumber(spoiled) ? [T.said_blank({ number: blank }), T.said_spoiled({ number: spoiled })] : [];
+  const drawn = Array.isArray(order) ? order.slice(0, 60).filter(isCode) : [];
+  const parts = [...(isCode(slip) ? [T.said_slip({ slip })] : []), ...lists, ...others, ...drawn,
+    ...(note ? [T.said_note({ note: isolated(String(note).slice(0, 200)) })] : [])];
   return parts.length ? `: ${parts.join(", ")}` : "";
 }
 
@@ -891,7 +988,10 @@ async function listStations() {
   const con = shown.con, answer = await ask("GET", `/now/con/${con}/stations`);
   if (answer.ok && con === shown.con) {
     listed = readStations(answer.text);
-    for (const one of listed) revisions[one.code] = one.rev || revisions[one.code];
+    for (const one of listed) {
+      revisions[one.code] = one.rev || revisions[one.code];
+      if (one.rev) returned.add(one.code);
+    }
   }
   return answer;
 }
@@ -900,6 +1000,7 @@ async function findOpen() {
   setBusy(true);
   const answer = await listStations();
   isListed = isListed || answer.ok;
+  if (element("station").placeholder) proposeStation(proposedStation());
   showOpen();
   const open = listed.filter((one) => one.status !== "closed").length;
   say(answer.ok ? T.open_listed({ number: open }) : sentence(answer), answer.ok ? "" : "refused");
@@ -927,9 +1028,9 @@ function showOpen() {
 
 // The histories of this many stations are asked for; and how many returns were closed when, since
 // this page is open.
-const MOST_WAITING = 60, MINUTE = 60_000;
+const MOST_WAITING = 60;
 let closings = [];
-const hourOf = (time) => new Intl.DateTimeFormat(LANGUAGE, { hour: "2-digit", minute: "2-digit" }).format(new Date(time));
+const hourOf = (time) => new Intl.DateTimeFormat(LANGUAGE, { hour: "2-digit", minute: "2-digit", hourCycle: "h23" }).format(new Date(time));
 
 function pace() {
   const [first, last] = [closings[0], closings.at(-1)], minutes = first ? (last.time - first.time) / MINUTE : 0;
@@ -945,22 +1046,37 @@ function lastOf(commands) {
   return { last, isOther };
 }
 
+// Who typed how many returns in the last hour: the board sees each name, another name its own.
+function typedTable({ since, names }) {
+  const acts = ["lodge", "confirm", "correct"], heads = [T.typed_name, T.typed_lodge, T.typed_confirm, T.typed_correct];
+  const head = (text, scope) => Object.assign(made("th", text), { scope }), number = (many) => Object.assign(made("td", shownAs(many)), { className: "number" });
+  const rows = names.map((one) => made("tr", null, head(`${one.name}, ${ROLES[one.role] || one.role}`, "row"), ...acts.map((act) => number(one[act]))));
+  const table = made("table", null, made("caption", T.typed_since({ time: hourOf(since) })),
+    made("thead", null, made("tr", null, ...heads.map((text) => head(text, "col")))), made("tbody", null, ...rows));
+  const box = Object.assign(made("div", null, table), { className: "scroll" });
+  return [rows.length ? box : made("p", T.typed_nothing({ time: hourOf(since) })), ...(person.role === "board" ? [] : [made("p", T.typed_others)])];
+}
+
 async function showWaiting() {
   setBusy(true);
-  const answer = await listStations(), found = [];
+  const answer = await listStations(), found = [], typed = await ask("GET", `/now/con/${shown.con}/typed`);
   const waiting = listed.filter(({ status }) => status !== "none" && status !== "closed");
   for (const one of answer.ok ? waiting.slice(0, MOST_WAITING) : []) {
     const history = await ask("GET", `/now/station/${one.code}/history`);
     found.push({ ...one, ...lastOf((history.value && history.value.commands) || []) });
   }
-  found.sort((one, other) => other.isOther - one.isOther || (one.last && other.last ? one.last.n - other.last.n : 0));
+  // What differs and what is queried waits for somebody to decide, the rest for its turn.
+  const isUrgent = ({ isOther, status }) => 2 * isOther + (status === "queried");
+  found.sort((one, other) => isUrgent(other) - isUrgent(one) || (one.last && other.last ? one.last.n - other.last.n : 0));
   const rows = found.map(({ code, status, last, isOther }) => {
-    const since = last ? T.waits_since({ name: last.name, time: hourOf(last.time) }) : "";
+    const { note } = last ? read(last.body) : {}, reason = note ? `: ${T.said_note({ note: isolated(String(note)) })}` : "";
+    const since = last ? T.waits_since({ name: last.name, time: hourOf(last.time) }) + reason : "";
     return made("li", null, Object.assign(made("a", code), { href: `#${code}` }), `: ${isOther ? T.differs_now : ""}${stateOf(status)}${since}`);
   });
   if (answer.ok) {
     const more = waiting.length - found.length;
-    element("waiting").replaceChildren(made("h3", T.list_waiting), ...pace(), made("ol", null, ...rows), ...(more ? [made("p", T.more_wait({ number: more }))] : []));
+    element("waiting").replaceChildren(made("h3", T.waiting_at({ time: hourOf(Date.now()) })), ...pace(), made("ol", null, ...rows), ...(more ? [made("p", T.more_wait({ number: more }))] : []),
+      ...(typed.ok ? typedTable(typed.value) : []));
     element("waiting").scrollIntoView({ block: "nearest" });
   }
   say(answer.ok ? T.waiting_shown({ number: waiting.length }) : sentence(answer), answer.ok ? "" : "refused");
@@ -969,25 +1085,36 @@ async function showWaiting() {
 
 // ---- the beginning
 
-async function choose(con, station) {
+async function choose(con, station, isProposed = false) {
   if (con !== shown.con) {
     [listed, isListed] = [[], false];
     element("not-accepted").replaceChildren();
     element("waiting").replaceChildren();
   }
   showOpen();
-  shown = { con, view: null, station: station || null, found: null, again: false };
+  shown = { con, view: null, station: station || null, found: null, again: false, isProposed };
   element("con").value = con;
+  proposeStation("");
   element("station").value = station || "";
   showConstituency();
   await refresh();
   goOn();
 }
 
-async function begin() {
-  const [own, file, beside] = await Promise.all([ask("HEAD", "/clerk.html"), ask("GET", "/setup.json"), ask("GET", "/site.json")]);
-  if (beside.ok && beside.value) known = { stations: beside.value.stations || {}, former: beside.value.former || {} };
+// Asks for the names of stations and the former result: the press pages may have none yet when
+// this page is opened.
+async function learnSite() {
+  if (Date.now() < siteAgain) return;
+  siteAgain = Date.now() + MINUTE;
+  const { ok, value } = await ask("GET", "/site.json");
+  if (!ok || !value) return;
+  siteAgain = Infinity;
+  known = { stations: value.stations || {}, former: value.former || {} };
   for (const one of Object.values(known.stations)) for (const part of ["name", "place"]) one[part] = isolated(one[part] || "");
+}
+
+async function begin() {
+  const [own, file] = await Promise.all([ask("HEAD", "/clerk.html"), ask("GET", "/setup.json"), learnSite()]);
   person = { name: own.headers.get("X-Office-Name") || "", role: own.headers.get("X-Office-Role") || "" };
   const bound = own.headers.get("X-Office-Bound-To");
   element("person").textContent = person.name ? `${person.name}, ${ROLES[person.role] || person.role}` : "";
@@ -1022,8 +1149,8 @@ async function begin() {
 
 // Goes to another constituency or station, where what was typed is not to be kept; else the choice
 // is as it was.
-function goTo(con, station) {
-  if (leave()) choose(con, station);
+function goTo(con, station, isProposed) {
+  if (leave()) choose(con, station, isProposed);
   else [element("con").value, element("station").value] = [shown.con, shown.station || ""];
 }
 
@@ -1043,7 +1170,10 @@ element("station").addEventListener("change", pick);
 element("station").addEventListener("keydown", (event) => {
   if (event.key !== "Enter" || element("station").readOnly) return;
   event.preventDefault();
-  pick();
+  const { value, placeholder } = element("station");
+  if (value || !placeholder) pick();
+  // A key that is held down takes nothing.
+  else if (!busy && !event.repeat) goTo(shown.con, placeholder, true);
 });
 element("again").addEventListener("click", refresh);
 element("retry").addEventListener("click", refresh);
@@ -1083,8 +1213,8 @@ function onKey(event) {
   const step = { Enter: 1, ArrowDown: 1, ArrowUp: -1 }[key];
   if (at < 0 || !step || (key === "Enter" && at === all.length - 1)) return;
   event.preventDefault();
-  if (key === "Enter" && target.name === "slip" && isStation(target.value)) checked(form);
-  else if (key !== "Enter" || target.reportValidity()) {
+  if (key === "Enter" && target.name === "slip" && target.value && !fits(form)) return;
+  if (key !== "Enter" || target.reportValidity()) {
     const next = all[at + step] || target;
     next.focus();
     next.select();
@@ -1106,7 +1236,7 @@ for (const form of SLIPS.map(element)) {
 addEventListener("invalid", ({ target }) => {
   target.setCustomValidity("");
   const { valueMissing, patternMismatch } = target.validity;
-  target.setCustomValidity(valueMissing ? T.fill_in : patternMismatch ? T.other_form({ form: target.title }) : "");
+  target.setCustomValidity(valueMissing ? (target.name === "slip" && target.placeholder ? T.slip_end : T.fill_in) : patternMismatch ? T.other_form({ form: target.title }) : "");
 }, true);
 for (const event of ["click", "input"]) {
   addEventListener(event, ({ target }) => {

@@ -17,19 +17,21 @@ addresses of its own (127.0.0.0/8).
 - The machine: test_backup, test_room_for_copies, test_copies_elsewhere, test_services,
   test_ports_and_units, test_status.
 - An office on one computer: test_desk, test_desk_roles.
-- The package and the sites of a computer: test_package, test_office_site, for which root gets a
-  machine of its own in memory.
+- The package and the sites of a computer: test_package, test_office_site, test_folders_of_others,
+  for which root gets a machine of its own in memory.
 - Setups and the words of tools: test_setup_from_tables, test_setup_table_faults,
-  test_large_setups, test_setups_as_saved, test_words_of_tools, test_files_of_tools.
-- The papers that a board signs: test_papers, test_papers_of_an_evening.
+  test_large_setups, test_setups_as_saved, test_words_of_tools, test_files_of_tools,
+  test_functions_of_tools.
+- The papers that a board signs: test_papers, test_papers_of_the_record,
+  test_papers_of_an_evening.
 - The press pages: test_press_pages, test_country_page, test_first_election, test_site_files,
   test_weights, test_country, test_templates, test_names, test_published_of_one_moment,
-  test_another_column, test_first_screen, test_places, test_languages. In a browser:
-  test_shown_pages, test_renewed_pages, test_pictures.
+  test_another_column, test_first_screen, test_pages_of_an_evening, test_places, test_languages,
+  test_functions_of_the_pages. In a browser: test_shown_pages, test_renewed_pages, test_pictures.
 - The published data: test_data, test_station_files, test_published, test_feed, test_site_openapi,
   test_export.
 - The clerks' page: test_clerks_page, test_clerk_page, test_slips, test_typed_slips,
-  test_second_entry.
+  test_keys_of_entries, test_second_entry, test_functions_of_the_page.
 - The audit: test_audit_rule, test_audit_commands, test_audit_at_its_limits.
 
 These variables of the environment change a run:

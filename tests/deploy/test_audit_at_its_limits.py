@@ -140,3 +140,17 @@ class AtTheLimit(Case):
         ran = assessed(text)
         self.assertEqual(ran.err, "")
         self.assertIn("risk %", ran.out)
+
+
+class Expected(Case):
+    def test_how_many_stations_and_papers_draws_reach(self):
+        """Of two stations with one bound each is reached by a draw with a chance of a half, and by
+        two draws with three quarters; where there is one it is reached."""
+        two = SimpleNamespace(sums=[3, 6], bounds={"s1": 3, "s2": 3},
+                              recorded={"s1": [10, 0, 0], "s2": [20, 5, 5]})
+        one = SimpleNamespace(sums=[3], bounds={"s1": 3}, recorded={"s1": [10, 0, 0]})
+        for it, draws, stations, papers in ((two, 1, 1, 20), (two, 2, 1.5, 30), (one, 1, 1, 10)):
+            with self.subTest(stations=len(it.sums), draws=draws):
+                found = tool.Audit.reached(it, draws)
+                self.assertAlmostEqual(found[0], stations, places=6)
+                self.assertAlmostEqual(found[1], papers, places=6)

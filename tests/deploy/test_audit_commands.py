@@ -76,11 +76,14 @@ s1,p1,0,0,60,20 => s0,p1,0,0,60,20 => returns.csv, line 2: the setup has no stat
 s2,p2,0,0,50,30 => s2,p2,0,0,50,51 => returns.csv, line 3: 101 papers of station \
 s2, which has 100 electors
 s2,p2,0,0,50,30 => s2,p2,0,0,,30 => returns.csv, line 3: '' of station s2 is not a number
+s2,p2,0,0,50,30 => s2,p2,0,0,0000000050,30 => returns.csv, line 3: '0000000050' of station s2 is \
+not a number
 spoiled,A,B => spoiled,B,A => returns.csv: the header is not station,slip,blank,spoiled,A,B
 """
 # The seconds of the processor that a plan of the whole country may take. On a slow machine: how
-# many times as long as Python takes to read the files and to add them up.
-PLAN_SECONDS, AS_READING = 5, 15
+# many times as long as Python takes to read the files and to add them up, which is seven or so. (A
+# constituency has 1,154 stations: what looks at all of them for each of them takes far more.)
+PLAN_SECONDS, AS_READING = 5, 40
 READING = """
 import csv, sys
 for file in sys.argv[1:]:

@@ -129,8 +129,9 @@ class Backup(SiteCase):
                 stop.set()
                 thread.join(timeout=PATIENCE)
             print("the longest lodge during each backup:", *(f"{took:.2f} s" for took in longest))
-            # (of five, since a disk that has much else to do may let one wait)
-            self.assertLess(statistics.median(longest), 1)
+            # (of five, since a disk that has much else to do may let one wait; where the office
+            # has to wait for the database itself, a lodge is answered 503)
+            self.assertLess(statistics.median(longest), 3)
 
     def test_a_log_that_is_begun_again_during_a_backup(self):
         """The office takes its log into the database between the copy of the one and of the other:

@@ -9,7 +9,7 @@ from pathlib import Path
 
 from tests.support.case import ROOT, needs
 from tests.support.clerks import (
-    choose_con, choose_station, clerks_browser, compare, confirmed, enter, said,
+    choose_con, choose_station, clerks_browser, compare, confirmed, enter, receipt, said,
 )
 from tests.support.office import with_stations
 from tests.support.pages import page_of, press
@@ -67,7 +67,7 @@ class ClerksPage(SiteCase):
         it.click("#import button")
         said(it,
              "Lodged 13, the same 1, differing 2, refused 2, unreadable 2. The first that was not "
-             "accepted is line 12 of the file: "
+             "accepted is line 12 of the file: station 01-002-A: "
              "another return of its station is recorded.")
         # It is no plain success, and the lines that are to be looked at stay on the page.
         self.assertEqual(it.run("return [document.getElementById('said').className, "
@@ -151,6 +151,8 @@ class ClerksPage(SiteCase):
         self.assertTrue(it.visible("#draw"))
         confirmed(it, "#certify button", "Certify Twin Town?",
                   "A lot is needed among A, B, for one seat.")
+        # It is to be looked at, and is no fault.
+        self.assertEqual(it.run("return document.getElementById('said').className"), "look")
         draw(it, "B", "B")
         said(it, "The lot has to name each of these lists once and no other: A, B.")
         # The choice is still there, and the first place has the focus.
@@ -159,6 +161,7 @@ class ClerksPage(SiteCase):
                                 "all.indexOf(document.activeElement)]"), ["B", "B", 0])
         draw(it, "B", "A")
         said(it, "Done.")
+        self.assertEqual([*receipt(it)], ["Constituency", "Order", "By", "At"])
         self.assertFalse(it.visible("#draw"))
         confirmed(it, "#certify button", "Certify Twin Town?", "Done.")
         it.run("document.querySelector('#vacate select').selectedIndex = 0")
@@ -227,7 +230,7 @@ class ClerksPage(SiteCase):
         """It is short, has a sentence for each refusal, nothing of another site, and its policy
         names its script."""
         text = (DEPLOY / "www/clerk.html").read_text(encoding="utf-8")
-        self.assertLess(len(text.encode()), 70_000)
+        self.assertLess(len(text.encode()), 80_000)
         formats = (ROOT / "docs/FORMATS.md").read_text(encoding="utf-8")
         begin = formats.index("The answer to a refused command has the number")
         answers = formats[begin:formats.index("### What GET shows")]

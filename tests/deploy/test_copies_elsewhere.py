@@ -116,6 +116,9 @@ class Copies(Case):
             (f"add ../kept/{COPY} 6", b"forged"), (f"add {COPY}\n 6", b"forged"),
             (f"add /{COPY} 6", b"forged"), ("add .part-1 6", b"forged"),
             ("add office-20261126T221400Z.db.new 6", b"forged"), ("add keep-copies 6", b"forged"),
+            # Digits of other scripts, which any list by name has after the others.
+            (f"add {LATER} 6".replace("2", "\uff12"), b"forged"),
+            (f"add {LATER} \uff16", b"forged"),
             (f"add  {LATER} 6", b"forged"), (f"add {LATER} 6 7", b"forged"),
             (f"add {LATER} 6;rm {COPY}", b"forged"), (f"add {LATER} 9999999999999999", b""),
             (f"rm {COPY}", b""), (f"remove {COPY}", b""), (f"mv {COPY} {LATER}", b""),

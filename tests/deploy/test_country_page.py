@@ -43,27 +43,26 @@ class CountryPage(SiteCase):
             page, text = page_of("index.html"), shown_text(read("index.html"))
             for sentence in (
                 "Certified: 5 of 10 seats, in 2 of 4 constituencies. Not certified: 5.",
-                "Certificate withdrawn: Sur. No certified seat of theirs is counted here; their "
-                "seats are provisional again.",
+                "Certificate withdrawn: Sur. The 2 seats there are counted here as provisional.",
                 # In Sur A 10 (5), B 20 (10); in Oeste D 90 (45, 30), A 7, B 3.
-                "Provisional, with 83.33% of the polling stations counted: 5 seats, as if the "
-                "votes counted so far were all the votes. They are not the result, and may still "
-                "change. Constituencies without a certificate: 2.",
+                "Provisional, with 83.33% of the polling stations counted: 5 seats. They are not "
+                "the result. The count goes on in Óeste &lt;3&gt;: 3 seats there, as if the "
+                "votes counted so far were all the votes; they may still change. The result in "
+                "Sur is open again: 2 seats there, which may still change.",
                 "The line marks the majority: 6 of 10 seats.",
                 "5 of 6 polling stations are counted, 83.33 per cent",
                 # Norte 203 of 1,000, Este 120 of 400, Sur 30 of 300, and of Oeste 100 of 400.
                 "Turnout of what is counted: 21.57 per cent, 453 of 2,100 electors.",
-                "Valid votes 450, blank ones among them 5; spoiled 3."):
+                "Valid votes 450, including 5 blank; spoiled 3."):
                 with self.subTest(sentence=sentence):
                     self.assertIn(sentence, text)
             self.assertEqual(page.tables["Seats and votes of each list"], [
-                ["List", "seats, certified and provisional", "certified seats", "provisional seats",
-                 "votes", "share"],
-                ["B Beta", "5 provisional", "3", "2 provisional", "193", "42.89%"],
-                ["D Delta", "3 provisional", "0", "3 provisional", "90", "20.00%"],
-                ["A Alpha", "2", "2", "–", "147", "32.67%"],
-                ["C Gamma", "0", "0", "–", "15", "3.33%"],
-                ["Total", "10 provisional", "5", "5 provisional", "445", ""]])
+                ["List", "certified seats", "provisional seats", "together", "votes", "share"],
+                ["B Beta", "3", "2 provisional", "5", "193", "42.89%"],
+                ["D Delta", "–", "3 provisional", "3", "90", "20.00%"],
+                ["A Alpha", "2", "0 provisional", "2", "147", "32.67%"],
+                ["C Gamma", "0", "–", "0", "15", "3.33%"],
+                ["Total", "5", "5 provisional", "10", "445", ""]])
             self.assertIn('aria-label="Seats as a half circle of dots: B 3 and 2 provisional, '
                           'D 3 provisional, A 2.', read("index.html"))
             # Those of D and two of B are hollow, and their numbers are after a plus.
@@ -87,7 +86,7 @@ class CountryPage(SiteCase):
                 ["Sur certificate withdrawn, 100.00% counted", "B", "provisional: B 2"]])
             self.assertEqual([row[0] for row
                               in page_of("count.html").tables["Progress of the constituencies"][
-                                  1:]], ["Norte", "Este", "Sur", "Óeste <3>"])
+                                  1:]], ["Este", "Norte", "Óeste <3>", "Sur"])
             # Without the setup the office says how many seats there are, but nobody knows the
             # electors.
             press(port, folder="without")
@@ -146,19 +145,21 @@ class CountryPage(SiteCase):
                           "far were all, a lot between A and B would decide 1 seat.", text)
             self.assertEqual(page_of("con-norte.html").tables[
                 "Provisional seats of each list, with 50.00% of the polling stations counted"], [
-                    ["List", "provisional seats"], ["A Alpha", "1 provisional or by lot"],
-                    ["B Beta", "1 provisional or by lot"], ["C Gamma", "0 provisional"],
-                    ["Lot pending", "1 provisional"], ["Total", "3 provisional"]])
+                    ["List", "provisional seats"],
+                    ["A Alpha", "1 provisional and perhaps 1 more by lot"],
+                    ["B Beta", "1 provisional and perhaps 1 more by lot"],
+                    ["C Gamma", "0 provisional"], ["Seats waiting for a lot", "1"],
+                    ["Total", "3"]])
             self.assertEqual(drawn("con-norte.html"), [
                 ("list-A", 1, True), ("list-B", 1, True), ("open-seats", 1, True)])
-            self.assertIn("Seats that a lot decides: 1.", shown_text(read("index.html")))
+            self.assertIn("Seats waiting for a lot1", shown_text(read("index.html")))
             self.assertEqual(read("con-norte.csv").splitlines()[1], "A,Alpha,1,50.00,yes,,1")
             self.assertEqual(json.loads(read("con-norte.json"))["provisional"], {
                 "status": "lot", "question": 1, "group": ["A", "B"],
                 "seats": {"A": 1, "B": 1, "C": 0}})
             # In Spanish, and where the law allows none.
             text = pages("es", site='language = "es"\n')
-            self.assertIn("con el 50,00 % de las mesas escrutado (1 de 2)", text)
+            self.assertIn("escrutado el 50,00 % de las mesas (1 de 2)", text)
             text = pages("none", site="provisional = false\n")
             self.assertIn("A certificate needs every polling station counted. 3 seats. No seat is "
                           "given.", text)
@@ -254,7 +255,7 @@ class CountryPage(SiteCase):
                     with self.subTest(text=text):
                         header = text[text.index("<header>"):text.index("</header>")]
                         self.assertRegex(header,
-                                         r'<p class="moment">(As the office had it|Changed last) '
+                                         r'<p class="moment">(The office’s figures|Changed last) '
                                          r'on <time datetime="\d{4}-')
                 for target, old in (("/con/norte/returns", ["con-norte.html",
                                                             "stations-norte-1.html"]),
@@ -282,8 +283,8 @@ class CountryPage(SiteCase):
         with four() as (_, port):
             press(port, "--setup", "setup.toml", *site_folder(before=FOUR_BEFORE))
         lists = page_of("index.html").tables["Seats and votes of each list"]
-        self.assertEqual([[row[0], row[2]] for row in lists], [
-            ["List", "certified seats change"], ["B Beta", "3 +1"], ["D Delta", "0 ±0"],
+        self.assertEqual([[row[0], row[1]] for row in lists], [
+            ["List", "certified seats change"], ["B Beta", "3 +1"], ["D Delta", "–"],
             ["A Alpha", "2 −1"], ["C Gamma", "0 ±0"], ["Total", "5"]])
         self.assertEqual(page_of("con-norte.html").tables["Votes of each list"], [
             ["List", "votes", "share change", "takes part"],
@@ -307,5 +308,5 @@ class CountryPage(SiteCase):
         self.assertEqual(page_of("con-norte.html", "lists").tables["Votes of each list"][0],
                          without)
         self.assertEqual(page_of("index.html", "north").tables["Seats and votes of each list"][0],
-                         ["List", "seats, certified and provisional", "certified seats",
-                          "provisional seats", "votes", "share"])
+                         ["List", "certified seats", "provisional seats", "together",
+                          "votes", "share"])

@@ -28,6 +28,7 @@ TARGETS = [
     *(f"/con/c1/{name}" for name in REPORTS),
     "/now/progress", "/now/country", "/now/results", "/now/station/s1", "/now/con/c1",
     *(f"/now/con/c1/{name}" for name in REPORTS), "/now/station/s1/history",
+    "/now/con/c1/typed",
     *(f"/station/s1/{act}" for act in OF_STATION), *(f"/con/c1/{act}" for act in OF_CON),
     "/clerk.html", "/logout", "/setup.json", "/", "/index.html", "/con-c1.json", "/feed.atom",
     "/embed.html", "/embed-c1.html", "/es/embed-c1.html", "/es/index.html",
@@ -38,7 +39,8 @@ TARGETS = [
     f"/con/{TOO_LONG}/tally", "/now", "/now/", "/now/station/s1/lodge", "/now/con/c1/import/x",
     "/now/con/c1/import", "/now/con/c1/certify", "/now/con/C/SEATS", "/now/clerk.html",
     "/clerk.htm", "/clerk.html/", "/.index.html.new", "/x/.y", "/station/s1/history",
-    "/history/s1", "/stations/c1", "/station/é", "/con/c1/certify/semicolon",
+    "/history/s1", "/typed/c1", "/con/c1/typed", "/now/con/c1/typed/x", "/stations/c1",
+    "/station/é", "/con/c1/certify/semicolon",
     f"/station/{LONGEST}/close", f"/con/{LONGEST}/returns", f"/now/station/{TOO_LONG}/history",
 ]
 # By what a location passes on to, the kind of its requests.
@@ -46,7 +48,8 @@ KINDS = {
     "http://office$office": "table", "http://office$office$table": "now",
     "http://office$office/station/$station": "now_slips",
     "http://office$office/$table/$con": "now_all", "http://recorder$office": "command",
-    "http://recorder$office/history/$station": "history", "http://office1/progress": None,
+    "http://recorder$office/history/$station": "history",
+    "http://recorder$office/typed/$con": "typed", "http://office1/progress": None,
 }
 # And by the names of those that the proxy answers itself. A load balancer has no business here.
 OTHER_KINDS = {
@@ -181,7 +184,7 @@ class RoutesAndRoles(unittest.TestCase):
         allowed = Map(TEXT, "role_may")
         found = [desk_roles.request_of(target) for target in TARGETS]
         acts = [it for it in found if it and it.act]
-        self.assertEqual(len(acts), 15)
+        self.assertEqual(len(acts), 16)
         names = ("s1", "s2", "clerk-1")
         for it, role, name in itertools.product(acts, desk_roles.ROLES, names):
             with self.subTest(path=it.path, role=role, name=name):

@@ -52,6 +52,23 @@ class Entries(SiteCase):
         self.assertEqual(done.stderr, b"")
         return done.returncode, done.stdout.decode().splitlines()
 
+    def test_second_entries_that_differ_often(self):
+        """Who has no paper may try all figures: ten tries of a name at a station are named, and
+        nine are not, nor those of other stations or names, nor first entries."""
+        differs = '{"refused":7,"rev":1,"word":"differs"}'
+
+        def tried(name, path, times, answer=differs):
+            command = a_command("{}", path) | {"time": TIME, "name": name}
+            return [command, {"time": TIME, "status": 409, "answer": answer}] * times
+
+        rows = [*tried("sara", "/station/s1/confirm", 10), *tried("sara", "/station/s2/confirm", 9),
+                *tried("sonia", "/station/s2/confirm", 9), *tried("clara", "/station/s3/lodge", 20),
+                *tried("sara", "/station/s4/confirm", 20, '{"now":2,"refused":11,"word":"stale"}')]
+        rows = [row | ({} if "path" in row else {"to": n}) for n, row in enumerate(rows)]
+        self.assertEqual(self.entries(chained(*rows)), (
+            1, ["s1: the second entries of sara differed 10 times from the first",
+                "closed 0, of these by a second entry 0, to look at 1"]))
+
     def test_the_two_entries_of_a_record(self):
         """Of a station that was entered, corrected or imported by the name that confirmed it; the
         certificates over such; and none where two names entered it, or one entry is enough."""

@@ -16,14 +16,26 @@ from tests.support.scripts import loaded
 
 # How long a file takes the desk of a test; another command takes it no time.
 SECONDS = 0.2
+# The share of what a clerk lodges without files that is lodged among them at least. It is 0.8 here
+# and 0.75 by what is left to others; where nothing is left to them, it is less than 0.05.
+SHARE = 0.2
 # It measures time.
 ALONE = True
 
 
-def slow_for_files(head, _):
-    target = head.split(b" ")[1]
-    time.sleep(SECONDS if b"/import" in target or b"/trial" in target else 0)
-    return answer_of("{}")
+class SlowForFiles:
+    """In place of the office something that each file holds for a while, and that counts them."""
+
+    def __init__(self):
+        self.begun = self.ended = 0
+
+    def answered(self, head, _):
+        target = head.split(b" ")[1]
+        if b"/import" in target or b"/trial" in target:
+            self.begun += 1
+            time.sleep(SECONDS)
+            self.ended += 1
+        return answer_of("{}")
 
 
 def lodges(seconds, lodge):
@@ -176,7 +188,8 @@ class Turns(Safeguards):
         alone = lodges(4, lodge)
         with files_of("bruno", 4, try_file):
             among = lodges(12, lodge) / 3
-        self.assertGreater(among, 0.6 * alone, (among, alone))
+        print(f"lodges in four seconds: {alone} alone, {among:.0f} among long files")
+        self.assertGreater(among, SHARE * alone, (among, alone))
 
     def test_how_many_may_wait(self):
         """Four of a name, and sixteen of all; the places are free again afterwards, also where one
@@ -232,21 +245,25 @@ class Commands(Safeguards):
 
     def test_lodges_among_files(self):
         """While four files are always waiting, each lodge waits for one at most, and most lodges
-        for none."""
-        took = []
+        for none: counted at the desk, since a time is longer where the machine is busy."""
+        office, waited = SlowForFiles(), []
 
         def lodge():
-            began = time.monotonic()
-            self.assertEqual(command(f"/station/s{len(took)}/lodge"), 200)
-            took.append(time.monotonic() - began)
+            ended = office.ended
+            self.assertEqual(command(f"/station/s{len(waited)}/lodge"), 200)
+            waited.append(office.begun - ended)
 
-        with desk_with(slow_for_files) as port, recorder_alone(port):
+        with desk_with(office.answered) as port, recorder_alone(port):
             alone = lodges(4, lodge)
-            usual, longest = statistics.median(took), max(took)
-            took.clear()
+            self.assertEqual(set(waited), {0})
+            waited.clear()
             with files_of("bruno", 4, lambda name: command("/con/c1/trial", b"x", name)):
                 among = lodges(12, lodge) / 3
-        took.sort()
-        self.assertLess(statistics.median(took), usual + SECONDS / 2)
-        self.assertLess(took[-3], longest + 2 * SECONDS)
-        self.assertGreater(among, 0.6 * alone, (among, alone))
+        waited.sort()
+        print(f"lodges in four seconds: {alone} alone, {among:.0f} among files; files that a lodge "
+              f"waited for: {statistics.mean(waited):.2f}, and {waited[-3:]} at most")
+        self.assertGreater(office.ended, 5)
+        self.assertEqual(statistics.median(waited), 0, waited)
+        # (one may begin before a lodge comes to the desk, and one more before its answer is read)
+        self.assertLessEqual(waited[-3], 2, waited)
+        self.assertGreater(among, SHARE * alone, (among, alone))

@@ -69,6 +69,22 @@ class MissingFiles(Case):
                 self.assertIn(said, errors)
                 self.assertNotIn("Traceback", errors)
 
+    def test_a_folder_below_one_that_is_missing(self):
+        """A tool that writes into a folder makes it, with those above; the pages may be there."""
+        Path("site").mkdir()
+        Path("site/colours.csv").write_text("list,colour\nA,red\n", encoding="utf-8")
+        for name, before, folder, after, status in (
+                ("split", (SETUP, 1), "split/parts", (), 0),
+                ("backup", (COPY,), "backup/copies", (), 0),
+                ("papers", ("count", COPY), "papers/out", (), 0),
+                # (it stops there, before it asks the office)
+                ("press.py", ("http://127.0.0.1:1",), "press/pages", ("--site", "site"), 1),
+                ("press.py", ("http://127.0.0.1:1",), "press/pages", ("--site", "site"), 1)):
+            with self.subTest(tool=name):
+                found, _, errors = tool(name, *before, folder, *after)
+                self.assertEqual((found, "Traceback" in errors), (status, False), errors)
+                self.assertTrue(Path(folder).is_dir())
+
 
 class Logs(Case):
     """A copy of a database with files of SQLite beside it."""

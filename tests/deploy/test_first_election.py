@@ -16,7 +16,7 @@ def without_time(text):
     """A page or a file without the moment it is of, and without its style and its script."""
     text = re.sub(r"(?<=sha256-)[\w+/=]+", "",
                   re.sub(r"<(style|script)>.*?</\1>", r"<\1></\1>", text, flags=re.S))
-    text = re.sub(r"<time [^>]*>[^<]*</time>(, \d+ \w+ before)?", "<time></time>", text)
+    text = re.sub(r"<time [^>]*>[^<]*</time>(, \d+ \w+ earlier)?", "<time></time>", text)
     return re.sub(r'"time": "[^"]*"', '"time": ""', re.sub(r"<updated>[^<]*<", "<updated><", text))
 
 

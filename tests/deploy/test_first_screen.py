@@ -61,17 +61,23 @@ class FirstScreen(SiteCase):
             press(port, "--setup", "setup.toml", folder="all")
         self.in_order(header("index.html", "all"), "All 6 polling stations are counted.",
                       "Sur was certified", "Reopened: votes and seats may still change.")
-        self.assertEqual(re.findall("(?i)all votes are counted|until the board",
-                                    shown_text(read("index.html", "all"))), [])
+        # Not of Sur, whose certificate is withdrawn.
+        self.assertEqual(
+            re.findall("(?i)[^.]*(?:all votes are counted|until the board)[^.]*[.]",
+                       shown_text(read("index.html", "all"))),
+            [" All votes are counted in Óeste &lt;3&gt;: 3 seats there wait for the board’s "
+             "certificate alone."])
+        self.assertIn("The result in Sur is open again: 2 seats there, which may still change.",
+                      shown_text(read("index.html", "all")))
         self.in_order(header("index.html"), "83.33% of the polling stations are counted, 5 of 6.",
                       "Sur was certified and is reopened: its 2 seats are provisional again. "
                       "Reason: a recount.",
-                      "Seats, 5 of 10 certified: B 5 D 3 A 2",
+                      "Certified and provisional seats together: B 5 (3 certified) D 3 (0) A 2 (2)",
                       "Of 10 seats: 5 certified and 5 provisional.",
                       "\u2068Beta\u2069 leads with 42.89% of the votes counted")
         self.in_order(header("con-sur.html"), "The only polling station is counted.",
                       "Sur was certified and is reopened: its 2 seats are provisional again.",
-                      "Seats so far, provisional: B 2", "Reopened: votes and seats may still "
+                      "Provisional seats: B 2", "Reopened: votes and seats may still "
                       "change.", "has the most votes")
         for name, sentence in (
                 ("pages/con-sur", "Certificate withdrawn. Reopened: votes and seats may still "
@@ -90,12 +96,14 @@ class FirstScreen(SiteCase):
                       "Certified seats: A 2 B 1")
         self.assertNotIn("rovisional", header("con-norte.html"))
         self.in_order(header("index.html", "es"), "Escrutado el 83,33 % de las mesas",
-                      "Sur estaba proclamada y se ha reabierto: sus 2 escaños vuelven a ser "
-                      "provisionales. Motivo: a recount.",
-                      "Escaños, 5 de 10 proclamados: B 5 D 3 A 2",
+                      "Sur tenía el resultado proclamado y se ha reabierto el escrutinio: sus 2 "
+                      "escaños vuelven a ser provisionales. Motivo: a recount.",
+                      "Escaños proclamados y provisionales, sumados: B 5 (3 proclamados) D 3 (0) "
+                      "A 2 (2)",
                       "De 10 escaños: 5 proclamados y 5 provisionales.")
-        # Those of A are certified, and those of Sur all provisional.
-        for name, so_far, lists in (("index", 0, ["B", "D"]), ("con-sur", 1, ["B"]),
+        # Those of A are certified, and those of Sur all provisional. A line that has provisional
+        # seats is marked as one of these alone is.
+        for name, so_far, lists in (("index", 1, ["B", "D"]), ("con-sur", 1, ["B"]),
                                     ("con-norte", 0, [])):
             with self.subTest(name=name):
                 text = read(f"{name}.html")
@@ -121,30 +129,35 @@ class FirstScreen(SiteCase):
                       "Seats so far, provisional: A 1 So far 1 seat would wait for a lot: B or C")
         self.in_order(header("con-c1.html"), "All 2 polling stations are counted.",
                       "A lot must be drawn between B and C for 1 seat.",
-                      "Seats so far, provisional: A 1 1 seat waits for a lot: B or C",
+                      "Provisional seats: A 1 1 seat waits for a lot: B or C",
                       "All votes are counted; 1 seat is provisional until the board certifies.",
                       "\u2068Alpha\u2069 has the most votes, 41.67%, 16.67 points and "
-                      "2 votes ahead of \u2068Beta\u2069 and \u2068Iris\u2069. These have as "
-                      "many votes as one another.")
+                      "2 votes ahead of \u2068Beta\u2069 and \u2068Iris\u2069, who are tied.")
         self.assertIn("No certificate yet. A lot must be drawn between B and C for 1 seat; the "
                       "board can certify after it.", shown_text(read("con-c1.html")))
         [caption] = [one for one in page_of("con-c1.html").tables if one.startswith("Provisional")]
         self.assertEqual([row[1] for row in page_of("con-c1.html").tables[caption][1:]], [
-            "1 provisional", "0 provisional or by lot", "0 provisional or by lot",
-            "0 provisional", "1 provisional", "2 provisional"])
+            "1 provisional", "0 provisional and perhaps 1 more by lot",
+            "0 provisional and perhaps 1 more by lot", "0 provisional", "1", "2"])
         self.assertIn(">lot pending 1</text>", read("con-c1.html"))
         self.assertIn('<p class="outlook lot">1 seat waits for a lot: B or C</p>',
                       read("con-c1.html"))
         self.in_order(header("index.html"),
                       "Soria: a lot must be drawn between B and C for 1 seat.",
-                      "Seats so far, provisional: A 1 1 seat waits for a lot Of",
+                      "Provisional seats: A 1 1 seat waits for a lot 2 of 2",
+                      "2 of 2 seats are a majority: nobody has it yet.",
                       "Of 2 seats: 1 provisional and 1 waiting for a lot.")
         self.assertEqual(
             page_of("index.html").tables["Constituencies in the order of their names"][1],
             ["Soria no certificate yet, 100.00% counted", "A", "provisional: A 1 lot pending 1"])
         self.in_order(header("con-c1.html", "es"), "Hay que sortear 1 escaño entre B y C.",
-                      "Escaños hasta ahora, provisionales: A 1 1 escaño pendiente de sorteo: B o C",
-                      "más que \u2068Beta\u2069 e \u2068Iris\u2069.")
+                      "Escaños provisionales: A 1 1 escaño pendiente de sorteo: B o C",
+                      "más que \u2068Beta\u2069 e \u2068Iris\u2069, empatadas a votos.")
+        for name in ("con-c1", "embed-c1"):
+            text = shown_text(read(f"{name}.html"))
+            self.assertEqual(re.findall("so far", text), [])
+            self.assertIn("all votes are counted, and the 1 seat is not the result until the board "
+                          "certifies.", text)
 
     def test_once_all_is_counted(self):
         """The count is over, and so say the words: nobody leads, and what is missing is the
@@ -154,12 +167,21 @@ class FirstScreen(SiteCase):
             count_level(office, ["s1", "s2"])
             done(office, "/con/c1/draw", {"edition": 1, "order": ["C", "B"]})
             press(port, "--setup", "setup.toml")
+            done(office, "/con/c1/certify", {"edition": 2})
+            press(port, "--setup", "setup.toml", folder="certified")
+            press(port, "--setup", "setup.toml", *site_folder(site=SPANISH), folder="es")
+        for folder, said in (
+                ("certified", "B and C tied for the last seat; the lot gave it to C. A lot was "
+                              "drawn: first C, then B."),
+                ("es", "B y C empataban por el último escaño; el sorteo se lo dio a C.")):
+            self.assertIn(said, shown_text(read("con-c1.html", folder)))
+            self.assertIn(said.split(". ")[0], shown_text(read("embed-c1.html", folder)))
         for name in ("index.html", "con-c1.html"):
             with self.subTest(name=name):
                 text = shown_text(read(name))
                 self.assertEqual(re.findall("leads|so far were|may still change", text), [])
                 self.in_order(header(name), "All 2 polling stations are counted.",
-                              "Seats so far, provisional: A 1 C 1",
+                              "Provisional seats: A 1 C 1",
                               "All votes are counted; 2 seats are provisional until the board "
                               "certifies.", "has the most votes")
 
@@ -195,8 +217,8 @@ class FirstScreen(SiteCase):
                          ["5", "A 0+1", "lot pending 1", "no count yet 3"])
         text = shown_text(read("index.html"))
         for sentence in ("Of 5 seats: 1 provisional, 1 waiting for a lot and 3 with no count yet.",
-                         "Not certified: 5.", "Seats that a lot decides: 1.",
-                         "Seats with no count yet: 3.", "Constituencies without a certificate: 2."):
+                         "Not certified: 5.", "The count goes on in Soria: 2 seats there",
+                         "Nothing is counted yet in Ávila: 3 seats there."):
             with self.subTest(sentence=sentence):
                 self.assertIn(sentence, text)
         self.assertEqual(re.findall(r"(?i)\bopen\b", text), [])

@@ -8,6 +8,7 @@ from tests.support.clerks import (
     SLIP, TWICE, choose_station, clerks_browser, office_with_a_second, said,
 )
 from tests.support.record import a_command, chained
+from tests.support.safeguards import office_and_site
 from tests.support.scripts import module
 from tests.support.shown import shows_well
 from tests.support.site import SiteCase
@@ -111,6 +112,83 @@ class History(SiteCase):
             # Reading is not recorded.
             self.assertEqual(len(front.record()), 10)
 
+    @needs("nginx", "openssl")
+    def test_who_typed_how_many_returns(self):
+        """In the last hour, of a constituency: the board sees each name, a clerk and a second their
+        own alone, a station and strangers nothing. After a start of the recorder it is the same.
+        """
+        with office_and_site(TWICE) as (desk, front):
+            wrong, noted = SLIP | {"votes": [120, 17]}, {"rev": 1, "note": "71 for B"}
+            port_slip = {"slip": "q1", "votes": [30, 10, 5], "blank": 0, "spoiled": 1}
+            for name, target, body in (
+                    ("clara", "/station/s1/lodge", wrong), ("clara", "/station/s2/lodge", SLIP),
+                    ("bruno", "/station/s3/lodge", SLIP), ("bruno", "/station/t1/lodge", port_slip),
+                    # The same again, one that differs, and one that may not be typed.
+                    ("bruno", "/station/s2/lodge", SLIP), ("sara", "/station/s1/confirm",
+                                                           {"rev": 1, **SLIP}),
+                    ("berta", "/station/s4/lodge", SLIP),
+                    ("sara", "/station/s2/confirm", {"rev": 1, **SLIP}),
+                    ("sara", "/station/s1/query", noted),
+                    ("bruno", "/station/s1/correct", {"rev": 2, **SLIP})):
+                front.ask("POST", target, body, name)
+            front.record(10)
+
+            def typed(name, con="c1"):
+                found = json.loads(front.ask("GET", f"/now/con/{con}/typed", name=name).body)
+                self.assertEqual((found["con"], len(found["since"])), (con, 25))
+                return [tuple(row.values()) for row in found["names"]]
+
+            all_names = [("bruno", "clerk", 1, 0, 1), ("clara", "clerk", 2, 0, 0),
+                         ("sara", "second", 0, 1, 0)]
+            for again in (False, True):
+                with self.subTest(again=again):
+                    if again:
+                        front.end_recorder()
+                        front.start_recorder()
+                    self.assertEqual([typed(name) for name in ("berta", "clara", "bruno", "sara")],
+                                     [all_names, *([one] for one in (all_names[1], all_names[0],
+                                                                     all_names[2]))])
+                    self.assertEqual([typed("berta", "c2"), typed("clara", "c2")],
+                                     [[("bruno", "clerk", 1, 0, 0)], []])
+            ask = lambda method, target, name, **more: front.ask(method, target, name=name,
+                                                                 **more).status
+            target = "/now/con/c1/typed"
+            self.assertEqual([
+                ask("GET", target, None), ask("GET", target, "berta", password="other"),
+                ask("GET", target, "s1"), ask("POST", target, "berta"),
+                ask("GET", target + "?x", "berta"), ask("GET", "/con/c1/typed", "berta"),
+                ask("GET", "/typed/c1", "berta")], [401, 401, 403, 405, 404, 404, 404])
+            # A client names neither its name nor its role.
+            found = front.ask("GET", target, name="sara", headers={
+                "Office-Role": "board", "Office-Name": "clara", "Office-Allowed": "1"})
+            self.assertEqual(len(json.loads(found.body)["names"]), 1)
+
+    def test_what_was_typed_counts_for_an_hour(self):
+        """By the clock of the record: what is older, of a moment that is yet to come, of a station
+        that the setup has not, or that nobody knows to be done, does not count."""
+        homes = {"s1": "c1", "t1": "c2"}
+        path = lambda code, act="lodge": f"/station/{code}/{act}"
+        rows = ((path("s1"), "10:00:59", 200), (path("s1"), "10:02:00", 200),
+                (path("s1", "confirm"), "10:30:00", 200), (path("s1", "query"), "10:30:00", 200),
+                (path("t1"), "10:30:00", 200), (path("s9"), "10:30:00", 200),
+                (path("s1"), "10:31:00", None), (path("s1"), "10:31:00", 409),
+                ("/con/c1/import", "10:31:00", 200), (path("s1", "correct"), "11:00:59", 200),
+                (path("s1"), "11:01:00", 200))
+        typed = recorder.Typed(homes)
+        for target, time, status in rows:
+            typed.take(target, "clara", "clerk", {"time": f"2026-11-29T{time}.000+01:00",
+                                                  "status": status, "answer": "{}"})
+        now = recorder.datetime.fromisoformat("2026-11-29T10:00:30+00:00")
+        self.assertEqual([typed.of(con, now) for con in ("c1", "c2", "c3")], [
+            [{"name": "clara", "role": "clerk", "lodge": 1, "confirm": 1, "correct": 1}],
+            [{"name": "clara", "role": "clerk", "lodge": 1, "confirm": 0, "correct": 0}], []])
+        # However long it goes on, it keeps the minutes of an hour.
+        for minute in range(600):
+            at = now + recorder.timedelta(minutes=minute)
+            typed.take(path("s1"), "clara", "clerk", {"time": at.isoformat(), "status": 200,
+                                                      "answer": "{}"})
+        self.assertEqual((len(typed.minutes), typed.of("c1", at)[0]["lodge"]), (60, 60))
+
     def test_a_history_reads_the_lines_of_its_station(self):
         """And no others, however many there are: what they are turned into afterwards changes
         nothing. It has the last lines alone; long lines, commands without an answer and lines of no
@@ -178,7 +256,11 @@ class History(SiteCase):
                 ("sara", "/station/s1/query", {"rev": 1, "note": "<b>71</b> for B"}),
                 ("berta", "/station/s1/close", {"rev": 2})):
                 front.ask("POST", target, body, name)
-            times = [line["time"][:19].replace("T", " ") for line in front.record(4)]
+            # What no office accepts: its sender would have it say that it was done.
+            front.ask("POST", "/station/s3/lodge", {
+                "slip": "p1. Done. \u202e", "votes": ["1. Done.", 2], "blank": "0. Done.",
+                "spoiled": 1, "order": ["A. Done.", "B"]}, "clara")
+            times = [line["time"][:19].replace("T", " ") for line in front.record(5)[:4]]
             shown_there = ("return [...document.querySelectorAll('#history li')].map((e) => "
                            "e.textContent)")
             seen = {"clara": ["clara (clerk) entered it: slip p1, A 120, B 17, blank 2, spoiled 1. "
@@ -210,5 +292,12 @@ class History(SiteCase):
                         it.click("#who")
                         said(it, "The history of station s2 is shown.")
                         self.assertEqual(it.text("#history"), "Nothing was done to station s2.")
+                        choose_station(it, "s3")
+                        it.click("#who")
+                        said(it, "The history of station s3 is shown.")
+                        [line] = it.run(shown_there)
+                        typed = ": A ?, B 2, B" if name == "clara" else ""
+                        self.assertIn(f"clara (clerk) entered it{typed}. It was refused", line)
+                        self.assertNotIn("Done", line)
             with clerks_browser(front, "s1") as it:
                 self.assertFalse(it.visible("#who"))

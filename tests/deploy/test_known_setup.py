@@ -9,7 +9,7 @@ from pathlib import Path
 from tests.support.case import needs
 from tests.support.desks import answering_desk, recording_desk
 from tests.support.office import PROFILE, constituency, party_list, station, with_stations
-from tests.support.record import LODGED, chained
+from tests.support.record import LODGED, a_command, chained
 from tests.support.safeguards import SLIP, Safeguards, hash_of_file, run, site
 from tests.support.scripts import loaded
 from tests.support.site import DEPLOY, SiteCase, plain, serving
@@ -65,7 +65,8 @@ class Proxy(Safeguards):
             with open(front.folder / "log/commands.log", encoding="utf-8") as lines:
                 first = json.loads(next(lines))
             self.assertEqual(
-                first | {"time": ""}, {"n": 1, "time": "", "setup": known, "before": "0" * 64}
+                first | {"time": "", "salt": ""},
+                {"n": 1, "time": "", "setup": known, "salt": "", "before": "0" * 64}
             )
 
     def test_the_page_sends_the_hash_of_what_it_has(self):
@@ -84,7 +85,8 @@ class Record(Safeguards):
         one, other = (
             recorder.read_setup(Path(folder, "setup.json")) for folder in ("one", "other")
         )
-        self.assertEqual((one.hash, one.stations), (hash_of_file("one/setup.json"), {"s1", "s2"}))
+        self.assertEqual((one.hash, one.stations),
+                         (hash_of_file("one/setup.json"), {"s1": "c1", "s2": "c1"}))
         self.assertNotEqual(one.hash, other.hash)
         # Nothing is written before there is a command.
         self.assertEqual(
@@ -113,12 +115,30 @@ class Record(Safeguards):
         lines = chained(command, {"to": 1, "status": 200, "answer": '{"lodged":1}'}).splitlines(
             keepends=True
         )
-        for known, wanted in ((frozenset({"s1", "s2"}), 1), (None, 5002)):
+        for known, wanted in (({"s1": "c1", "s2": "c1"}, 1), ({"s1": "c2"}, 0), (None, 5002)):
             with self.subTest(known=known):
                 index = recorder.Index(known)
                 for line in lines:
                     index.take(line, 0)
                 self.assertEqual(len(index.places), wanted)
+
+
+    def test_a_file_is_in_no_history_of_another_constituency(self):
+        """Whoever may act in the one alone cannot push the acts of a station of another out of its
+        history, by rows that are bad there."""
+        recorder = loaded("recorder.py")
+        entries = [a_command("{}", "/station/s1/lodge"),
+                   {"to": 1, "status": 200, "answer": '{"ok":"lodged","rev":1}'}]
+        for n in range(150):
+            body = f"station,slip,blank,spoiled,A\nt{n},p,0,0,1\ns1,p,0,0,1\n"
+            entries += [a_command(body, "/con/c2/import"),
+                        {"to": 2 * n + 3, "status": 200, "answer": '{"lodged":1,"bad":1}'}]
+        Path("commands.log").write_bytes(chained(*entries))
+        stations = {"s1": "c1"} | {f"t{n}": "c2" for n in range(150)}
+        record = recorder.Record(Path("commands.log"), 0, recorder.Setup("", stations))
+        found = {code: (it["whole"], [one["act"] for one in it["commands"]])
+                 for code in ("s1", "t7") for it in [record.history(code)]}
+        self.assertEqual(found, {"s1": (True, ["lodge"]), "t7": (True, ["import"])})
 
 
 class Replay(SiteCase):

@@ -90,9 +90,9 @@ class OtherSites(SiteCase):
             press(port, "--setup", "setup.toml")
         page = page_of("embed.html")
         self.assertEqual(page.tables["Seats and votes of each list"][:3], [
-            ["List", "certified seats", "provisional seats", "votes", "share"],
-            ["B Beta", "3", "2 provisional", "193", "42.89%"],
-            ["D Delta", "0", "3 provisional", "90", "20.00%"]])
+            ["List", "certified seats", "provisional seats", "together", "votes", "share"],
+            ["B Beta", "3", "2 provisional", "5", "193", "42.89%"],
+            ["D Delta", "–", "3 provisional", "3", "90", "20.00%"]])
         text = shown_text(read("embed-oeste.html"))
         self.assertIn("They are not the result, and may still change.", text)
         self.assertIn("50.00% of the polling stations are counted, 1 of 2.", text)
@@ -118,7 +118,8 @@ class OtherSites(SiteCase):
             self.assertEqual([read(name) for name in names], before)
 
     def test_who_may_show_it_in_a_frame(self):
-        """Any site may show these pages, where no script runs, and no other page."""
+        """Any site may show these pages, where no script runs, and no other page. From none a form
+        is sent: it would be a command of the clerk who looks at it, from a page of this site."""
         with recording_desk() as (port, _), proxy(port) as front:
             for name in ("embed.html", "embed-c1.html", "index.html", "embedded.html"):
                 (front.folder / "pages" / name).write_text("a page", encoding="utf-8")
@@ -130,6 +131,8 @@ class OtherSites(SiteCase):
                 with self.subTest(name=name):
                     head = front.ask("GET", f"/{name}").head
                     policy = head["Content-Security-Policy"]
+                    self.assertLessEqual({"form-action 'none'", "base-uri 'none'"},
+                                         set(policy.split("; ")))
                     self.assertEqual((head["X-Frame-Options"], "frame-ancestors *" in policy,
                                       "script-src" in policy, head["Cache-Control"],
                                       head["X-Content-Type-Options"], head["Referrer-Policy"]),

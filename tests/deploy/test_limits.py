@@ -198,10 +198,14 @@ class Limits(SiteCase):
 
             def at_once():
                 _, all_of_them = self.opened(front, held, 240, f"127.0.{next(nets)}")
+                began = time.monotonic()
                 for one in all_of_them:
                     one.sendall(asked)
+                until(lambda: taken(front, all_of_them))
+                # (20 a second more, while they come)
+                most = 202 + 20 * (time.monotonic() - began)
                 statuses = [one.recv(65536)[9:12] for one in all_of_them]
-                self.assertTrue(200 <= statuses.count(b"401") < 215, statuses)
+                self.assertTrue(200 <= statuses.count(b"401") <= most, (most, statuses))
                 self.assertEqual(set(statuses), {b"401", b"429"}, statuses)
 
             def under_way():
@@ -408,8 +412,9 @@ class Limits(SiteCase):
                 began = time.monotonic()
                 self.assertEqual(front.ask("GET", target, name=name).status, 504, target)
                 took = time.monotonic() - began
+                # (without the limit of deploy/nginx.conf it would be a minute)
                 self.assertLess(4, took)
-                self.assertLess(took, 8)
+                self.assertLess(took, 40)
 
             for target, name in (("/con/c1", None), ("/now/con/c1", "clara")):
                 with self.subTest(target=target, name=name):

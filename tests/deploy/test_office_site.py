@@ -111,6 +111,9 @@ class InAFolder(Case):
             ([ONE, "setup.toml", "--name", "clerk:ana", "--name", "board:Ana"], 1,
              "Ana is there twice"),
             ([ONE, "setup.toml", "--passwords-of", OTHER], 1, f"there is no other site {OTHER}"),
+            *(([ONE, "setup.toml", "--name", f"clerk:{name}"], 1,
+               f"{name} means something else in the files of the proxy: choose another name")
+              for name in ("default", "include", "logout")),
             (["--begin-again", ONE], 1, f"there is no site {ONE}"),
         )
         for folder in ("etc/office", "var/lib/office"):

@@ -117,7 +117,9 @@ class Offices(SiteCase):
                                   == f"{first}an office does not answer\n{third}")
                             began = time.monotonic()
                             self.assertEqual(front.ask("GET", target, name=name).status, 200)
-                            self.assertLess(time.monotonic() - began, 9)
+                            # (five seconds for one that does not answer; other answers are waited
+                            # for as long as five minutes)
+                            self.assertLess(time.monotonic() - began, 40)
                     desks[1].process.send_signal(signal.SIGCONT) if desks[1].process else None
             for desk in desks + fresh:
                 desk.end()

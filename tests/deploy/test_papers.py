@@ -8,7 +8,6 @@ import hashlib
 import os
 import re
 import shutil
-import subprocess
 import sys
 import tomllib
 from pathlib import Path
@@ -17,10 +16,9 @@ from tests.support.case import ROOT, needs
 from tests.support.pages import REOPENED, TWIN
 from tests.support.papers import (
     BOARD, COPY, DRAWN, ELECTED, HASH, LISTS, NOT_DRAWN, RETURNS, TWICE, OfPapers, Paper, copy_of,
-    done, large, margin, paper, papers, printed, recorded, rows_in, setup_with, taken_out,
+    large, margin, paper, papers, printed, recorded, rows_in, setup_with, taken_out,
 )
 from tests.support.rounds import OfPages, copy_of_deploy
-from tests.support.running import PATIENCE
 from tests.support.site import DEPLOY, EXAMPLES
 
 # By hand in examples/README.md. Of the electors, 5,387, the voters are the valid and the spoiled
@@ -180,7 +178,8 @@ class Acts(OfPapers):
         for kind in ("count", "proclamation"):
             found = paper("out", f"act-{kind}-*")
             self.assert_has(
-                found, ["Agents who may vote at a station that is not their own", "7"],
+                found, ["Agents who may vote where they are accredited, at a station on whose roll "
+                        "they are not", "7"],
                 ["Turnout", "64.84 %"], ["1", "ROBLE", "Lista del Roble", "1,235", "36.03 %",
                                          "yes" if kind == "count" else "4"])
             self.assertIn("Shares are of the votes for lists, ", found.text)
@@ -221,7 +220,57 @@ class Acts(OfPapers):
                       "Reason: died", found.text)
         self.assert_has(found, ["8", "Lista del Haya", "1", "Inés Campo"],
                         ["9", "Lista del Haya", "–", "(vacant)"])
+        self.assertIn("nobody knows whether these vacancies came before this proclamation or after "
+                      "it.", found.text)
         self.assertNotIn("No return was queried", count.text)
+
+    def test_a_vacancy_after_the_proclamation(self):
+        """Who was proclaimed stays in the act, and who has the seat now is apart. The act is
+        beside the one that was signed, which stays as it was."""
+        copy_of()
+        signed = papers("proclamation", COPY, "out")[0].strip()
+        text = Path(signed).read_bytes()
+        copy_of("INSERT INTO gone VALUES ('montehondo', 3, 1, 'resigned')")
+        out, _ = papers("acts", COPY, "out")
+        later = f"{signed.removesuffix('.html')}_1-gone.html"
+        self.assertEqual(out.split()[1:], [later])
+        self.assertEqual(Path(signed).read_bytes(), text)
+        found = paper("out", Path(later).name)
+        self.assertEqual([row for row in found.rows if row in ELECTED], ELECTED)
+        self.assertIn("Vacancies after this proclamation HAYA, place 1: Inés Campo. Reason: "
+                      "resigned These seats now go to: HAYA, place 3: Karina Solís", found.text)
+        self.assertNotIn("could no longer", found.text)
+
+    def test_room_for_what_an_office_does_not_know(self):
+        """The hours of the meeting, who is present and who does not sign, electors by later
+        certificates, and further incidents and dissenting votes: in both languages."""
+        copy_of()
+        Path("site").mkdir()
+        Path("site/site.toml").write_text(BOARD, encoding="utf-8")
+        both = {"en": ("Mark who is present.", "Absent, replaced by whom, and why:",
+                       "Dissenting votes, corrections and other statements",
+                       "Who does not sign, and why:", "The time for complaints is over, or"),
+                "es": ("Márquese quién asiste.", "Ausencias y sustituciones, con su causa:",
+                       "Votos particulares, rectificaciones y otras manifestaciones",
+                       "Quien no firma, y por qué:", "transcurrido el plazo de reclamaciones")}
+        of_count = {"en": ("The meeting ended at ______ on", "Further incidents of the meeting",
+                           "Electors by later certificates of the roll"),
+                    "es": ("Fin de la sesión: a las ______ horas", "Otras incidencias de la sesión",
+                           "Electores por certificaciones censales presentadas")}
+        for language, texts in both.items():
+            papers("acts", COPY, "out", "--site", "site", "--language", language)
+            count, found = (paper("out", f"act-{kind}-*-{language}.html")
+                            for kind in ("count", "proclamation"))
+            for said in texts:
+                with self.subTest(said=said):
+                    self.assertEqual((said in count.text, said in found.text),
+                                     (said != texts[-1], True))
+            for said in of_count[language]:
+                with self.subTest(said=said):
+                    self.assertEqual((said in count.text, said in found.text), (True, False))
+            self.assert_has(count, [of_count[language][2], ""])
+        [text] = [file.read_text() for file in Path("out").glob("act-count-*-es.html")]
+        self.assertEqual(text.count('<li><span class="box"></span>'), 4)
 
     def test_names_that_turn_the_direction_of_a_text(self):
         """Names and notes are text, each in an element of its own."""
@@ -398,70 +447,6 @@ class Doubles(OfPapers):
                 self.assertNotIn("01-001-A", paper(f"out{status}", "doubles-*").text)
 
 
-class OfTheRecord(OfPapers):
-    AGAIN = (done("berta", "/con/montehondo/reopen", {"edition": 2, "note": "recount"}),
-             done("clara", "/station/04-002-A/query", {"rev": 2, "note": "ROBLE?"}))
-    CORRECTED = {"rev": 3, "slip": "r214", "votes": [40, 40, 20, 0, 0], "blank": 0, "spoiled": 0}
-
-    def test_incidents_with_their_moment(self):
-        """Each query and reopening of the record; of the copy what the record lacks."""
-        copy_of("INSERT INTO past SELECT con, 2, list, n FROM seats",
-                "UPDATE cons SET edition = 4, note = 'recount'",
-                "UPDATE returns SET rev = 5, note = 'ROBLE?' WHERE station = '04-002-A'")
-        recorded(also=[*self.AGAIN, done("clara", "/station/04-002-A/correct", self.CORRECTED),
-                       done("bruno", "/station/04-002-A/close", {"rev": 4}),
-                       done("berta", "/con/montehondo/certify", {"edition": 3})])
-        papers("count", COPY, "out", "--record", "commands.log")
-        found = paper("out", "act-count-montehondo-4-*")
-        self.assert_has(
-            found, ["1", "Result reopened, and its proclamation withdrawn", "recount",
-                    "berta, 26 November 2026, 22:14 (+00:00)"],
-            ["2", "Return of station 04-002-A queried", "ROBLE?",
-             "clara, 26 November 2026, 22:14 (+00:00)"])
-        self.assertNotIn("not all in the record", found.text)
-        self.assertNotIn("the last query", found.text)
-
-    def test_a_record_that_lacks_something(self):
-        """A return that it does not have is named, and nobody is said to have entered it."""
-        copy_of()
-        whole = Path(recorded()).read_bytes().splitlines(keepends=True)
-        Path("commands.log").write_bytes(b"".join(whole[:4 * 13]))
-        papers("acts", COPY, "out", "--record", "commands.log")
-        self.assertIn("Stations whose acts are not all in the record of commands: 04-001-B, "
-                      "04-002-A.", paper("out", "act-count-*").text)
-        papers("doubles", COPY, "out", "--record", "commands.log", "--station", "04-001-B")
-        self.assertIn("First entry not in the record of commands Closed by not in the record of "
-                      "commands", paper("out", "doubles-*").text)
-
-    def test_records_that_are_refused(self):
-        copy_of()
-        recorded(also=self.AGAIN[:1])
-        self.refuses("refused: constituency montehondo: the record has later acts on montehondo",
-                     "acts", "--record", "commands.log")
-        recorded(also=self.AGAIN)
-        self.refuses("the record has later acts on 04-002-A than the copy", "doubles", "--record",
-                     "commands.log")
-        text = Path(recorded()).read_bytes()
-        Path("commands.log").write_bytes(text.replace(b"bruno", b"paolo", 1))
-        self.refuses("refused: commands.log is not whole (line 4: ", "acts", "--record",
-                     "commands.log")
-        recorded()
-        copy_of("UPDATE returns SET slip = 'r999' WHERE station = '03-001-B'")
-        self.refuses("the record says something else of 03-001-B than the copy", "acts",
-                     "--record", "commands.log")
-        copy_of()
-        recorded(setup="0" * 64)
-        self.refuses("refused: commands.log is the record of another setup", "acts", "--record",
-                     "commands.log")
-        # The record of this setup, as the recorder begins one.
-        Path("setup.toml").write_text(EXAMPLES, encoding="utf-8")
-        subprocess.run([DEPLOY / "setup-json", "setup.toml", ".", "codes.conf"], check=True,
-                       timeout=PATIENCE)
-        recorded(setup=hashlib.sha256(Path("setup.json").read_bytes()).hexdigest())
-        papers("acts", COPY, "out", "--record", "commands.log")
-        self.assertIn("up to line 63", paper("out", "act-count-*").text)
-
-
 class Languages(OfPapers):
     def test_each_language_has_each_text(self):
         found = [tomllib.loads((DEPLOY / f"papers_{language}.toml").read_text(encoding="utf-8"))
@@ -484,6 +469,7 @@ class Languages(OfPapers):
                     ("de {con}", "de {con} {", "of_con: its places are not {con}"),
                     ("de {con}", "de {con.code}", "of_con: its places are not {con}"),
                     ('"enero", ', "", "months: not 12 texts"),
+                    ('"enero", ', "1, ", "months: not 12 texts"),
                     ('\nhare = "', '\nhaar = "', "methods.haar: there is no such key"),
                     ('lot = "Sorteo"\n', 'lot = "\n', "papers_nl.toml: ")):
                 file.write_text(text.replace(old, new, 1), encoding="utf-8")
@@ -508,6 +494,28 @@ class Languages(OfPapers):
             self.assertEqual(page.count("</style>"), 1)
             self.assertEqual(Paper(page).tags & {"i", "u", "b"}, set())
 
+    def test_the_texts_of_a_site_in_another_language(self):
+        """The site's own title and authority in the language that is asked for."""
+        copy_of()
+        Path("site").mkdir()
+        Path("site/site.toml").write_text(
+            'language = "es"\ntitle = "Elecciones"\nauthority = "Junta"\nplace = "Montehondo"\n'
+            '[es]\nauthority = "Junta de Zona"\n'
+            '[en]\ntitle = "The election"\nauthority = "The board of the zone"\n'
+            '[nl]\ntitle = 3\n', encoding="utf-8")
+        for language, head in (("es", "Junta de Zona Elecciones"),
+                               ("en", "The board of the zone The election")):
+            papers("proclamation", COPY, "out", "--site", "site", "--language", language)
+            found = paper("out", f"act-proclamation-*-{language}.html").text
+            self.assertTrue(found.startswith(head), found[:80])
+            self.assertIn("In Montehondo, on" if language == "en" else "En Montehondo, a", found)
+        self.refuses_texts("title is 3", "nl")
+
+    def refuses_texts(self, said, language):
+        """A fault in the site's own texts of a language that only papers have."""
+        error = papers("acts", COPY, "no", "--site", "site", "--language", language, status=2)[1]
+        self.assertIn(said, error)
+
     def test_a_template_of_a_board(self):
         copy_of()
         Path("site/templates").mkdir(parents=True)
@@ -531,7 +539,8 @@ class Linked(OfPages):
         right = [f"act-count-c1-3-{digest}-en.pdf", f"act-proclamation-c1-3-{digest}-es.pdf"]
         for name in (*right, f"act-count-c1-2-{digest}-en.pdf", f"act-count-c1-13-{digest}-en.pdf",
                      "act-count-c1-3-000000000000-en.pdf", f"act-other-c1-3-{digest}-en.pdf",
-                     f"act-count-c-1-3-{digest}-en.pdf", f"act-count-c1-3-{digest}-en.html"):
+                     f"act-count-c-1-3-{digest}-en.pdf", f"act-count-c1-3-{digest}-en.html",
+                     f"act-proclamation-c1-3-{digest}-es_1-gone.pdf"):
             Path("pages", name).write_bytes(b"%PDF-")
         self.publish(TWIN)
         page = self.pages()["con-c1.html"]
@@ -547,16 +556,18 @@ class Linked(OfPages):
 class Printed(OfPapers):
     @needs("chromium", "pdfinfo", "pdftotext", "pdftoppm")
     def test_the_acts_as_sheets(self):
-        """Three of each: the result, complaints with signatures, and the stations or the rest."""
+        """The count has the result, incidents with complaints, signatures, and the stations; the
+        proclamation the result, the elected with complaints, and appeals with signatures."""
         copy_of()
-        for language, of_page in (("en", "Page {} of 3"), ("es", "Página {} de 3")):
+        for language, of_page in (("en", "Page {} of {}"), ("es", "Página {} de {}")):
             out, _ = papers("acts", COPY, "out", "--language", language, "--pdf")
             for name in out.split():
                 sheets = printed(name)
-                self.assertEqual((len(sheets), Path(name).suffix), (3, ".pdf"))
+                wanted = 4 if "act-count" in name else 3
+                self.assertEqual((len(sheets), Path(name).suffix), (wanted, ".pdf"))
                 for number, sheet in enumerate(sheets, 1):
                     with self.subTest(name=name, number=number):
-                        self.assertIn(of_page.format(number), sheet.text)
+                        self.assertIn(of_page.format(number, wanted), sheet.text)
                         self.assertIn(HASH, sheet.text)
                         self.assertTrue(sheet.has_white_edges())
 
@@ -576,6 +587,12 @@ class Printed(OfPapers):
         found = [row for sheet in sheets for row in rows_in(sheet, r"s\d\d")]
         self.assertEqual(sorted(found), sorted(
             (f"s{n:02}", f"end{n:02}") for n in range(1, 41) for _ in range(5)))
+        # No head of a table is alone at the end of a sheet.
+        for number, sheet in enumerate(sheets, 1):
+            heads, rows = ([bottom for word, bottom in sheet.words if re.fullmatch(wanted, word)]
+                           for wanted in (r"Mesa|\(otras", r"s\d\d"))
+            with self.subTest(number=number):
+                self.assertTrue(not heads or max(heads) < max(rows, default=0))
         lists = [row for sheet in sheets
                  for row in rows_in(sheet, r"LIST-OF-MANY-\d\d", r"no\d\d") if row[1]]
         self.assertEqual(lists, [(f"LIST-OF-MANY-{n:02}", f"no{n:02}") for n in range(1, 61)])

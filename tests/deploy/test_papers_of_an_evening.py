@@ -88,15 +88,21 @@ class OfTheProgram(OfPapers):
                         for kind in ("count", "proclamation"))
         self.assertEqual([row[1:3] for row in count.rows if len(row) == 4 and row[0].isdigit()], [
             ["Return of station 04-001-B queried", "ENCINA: 17 or 71?"],
+            ["Return of station 04-001-B corrected", "ENCINA: 17 became 71"],
+            ["Lot recorded", "1. ROBLE, 2. ENCINA"],
             ["Return of station 01-001-A queried", "the lot was entered wrongly"],
+            ["Return of station 01-001-A corrected", "the same figures"],
+            ["Lot recorded", "1. ENCINA, 2. ROBLE"],
             ["Result reopened, and its proclamation withdrawn", "recount of 04-002-A"],
-            ["Return of station 04-002-A queried", "one ROBLE vote more"]])
+            ["Return of station 04-002-A queried", "one ROBLE vote more"],
+            ["Return of station 04-002-A corrected", "ROBLE: 18 became 19"]])
         self.assertIn("Withdrawn proclamation, edition 4: ROBLE 3, ENCINA 4, HAYA 2", found.text)
         self.assertNotIn("not all in the record", count.text)
         # 1,161 of 3,383 are 34.31.. per cent.
         self.assert_has(found, ["1", "ROBLE", "Lista del Roble", "1,161", "34.31 %", "4"],
-                        ["8", "Lista del Haya", "2", "Julián Prado"],
-                        ["9", "Lista del Haya", "3", "Karina Solís"])
+                        ["8", "Lista del Haya", "1", "Inés Campo"],
+                        ["9", "Lista del Haya", "2", "Julián Prado"])
+        self.assertIn("These seats now go to: HAYA, place 3: Karina Solís", found.text)
         papers("doubles", str(last), "doubles", "--record", "commands.log")
         found = paper("doubles", "doubles-*").text
         for station, words in (("04-001-B", "First entry bruno, .* Closed by bruno, "),

@@ -181,6 +181,8 @@ class Pictures(Case):
                 keys(it, ENTER)
                 self.assertEqual(it.accept(), "Certify Twin Town?")
                 it.wait(READY, "Done.")
+                # Its form is gone, and its receipt is what is to be read.
+                it.wait("return document.activeElement.textContent === 'Receipt: a certificate'")
         self.assertEqual((json.loads(office.ask("GET", "/station/s1")[1])["votes"],
                           json.loads(office.ask("GET", "/con/c1")[1])["seats"]),
                          ([100, 99], [2, 1]))

@@ -12,8 +12,12 @@ from tests.support.desks import answering_desk, done, modelled
 from tests.support.office import PROFILE, profile, with_stations
 from tests.support.pages import TWIN, page_of, press, read, shown_text, site_folder
 from tests.support.published import package_faults
+from tests.support.scripts import module
 from tests.support.shown import shows_well
 from tests.support.site import SiteCase
+
+press_rounds, press_site = module("press"), module("press_site")
+press_templates = module("press_templates")
 
 PLACES = ('station,name,place\nn1,"School <old>, hall",Ribera\nn2,Hall,Monte Alto\n'
           'e1,Town hall,Alcañiz\ns1,School,Ribera\no1,,Getafe\no2,,Getafe\n')
@@ -30,7 +34,7 @@ class Places(SiteCase):
         self.assertEqual(
             found["Towns, and the list with the most votes in each"], [
              ["Town", "first list", "valid votes", "counted"],
-             ["Ribera", "A 50.00%", "120", "100.00%"], ["Monte Alto", "–", "80", "100.00%"]])
+             ["Monte Alto", "–", "80", "100.00%"], ["Ribera", "A 50.00%", "120", "100.00%"]])
         self.assertEqual(read("places-norte.csv"),
                          "place,stations,closed,electors,blank,spoiled,A,B,C\n"
                          "Ribera,1,1,500,5,1,60,50,5\nMonte Alto,1,1,500,0,2,40,40,0\n")
@@ -41,7 +45,7 @@ class Places(SiteCase):
         self.assertEqual(page.tables["Returns station by station"][1:], [
             ["n1 School <old>, hall", "500", "60", "50", "5", "5", "1"]])
         for sentence in ("\u2068Alpha\u2069 has the most votes here, 50.00%.", "Turnout: 24.20%.",
-                         "Valid votes 120, blank ones among them 5; spoiled 1."):
+                         "Valid votes 120, including 5 blank; spoiled 1."):
             with self.subTest(sentence=sentence):
                 self.assertIn(sentence, text)
         self.assertIn("\u2068Alpha\u2069 and \u2068Beta\u2069 have as many votes here, 50.00% "
@@ -75,16 +79,157 @@ class Places(SiteCase):
             press(port, *site_folder(stations=PLACES))
             self.assertEqual([name for name in os.listdir("pages") if name.startswith("place")], [])
 
+    def test_a_page_of_a_place_is_made_where_it_changes(self):
+        """A return changes the pages of its own place, in each language: no other one is made, also
+        where two lists change their order in the constituency. After a round without an answer all
+        are made again, without the line that says how old they are."""
+        setup, many = with_stations(12), 12
+        Path("setup.toml").write_text(setup, encoding="utf-8")
+        names = "".join(f"s{n},Hall {n},Town {n}\n" for n in range(1, many + 1))
+        site_folder(stations=f"station,name,place\n{names}", site='languages = ["es"]\n')
+        made, folder, seen = [], Path("pages"), press_rounds.Seen()
+        site = press_site.Site(Path("site"))
+        entries = {one["code"]: one for one in press_rounds.read_setup(Path("setup.toml"))}
+        folder.mkdir()
+        (folder / "es").mkdir()
+
+        class Made(press_templates.Templates):
+            def page(self, name, /, **values):
+                made.append(name)
+                return super().page(name, **values)
+
+        def files():
+            return {file: file.stat().st_ino for file in folder.rglob("place-*.html")}
+
+        def round_of(office):
+            """How many pages of places were made, and how many files of them written."""
+            made.clear()
+            before = files()
+            _, failures = press_rounds.write_all([office], folder, site, entries, seen)
+            now = files()
+            written = sum(before.get(file) != number for file, number in now.items())
+            return made.count("place.html") > 0, written, failures
+
+        site.templates.__class__ = site.others[0].templates.__class__ = Made
+        with modelled(setup) as (desk, port):
+            office = press_rounds.Office(f"http://127.0.0.1:{port}")
+            self.assertEqual(round_of(office), (True, 2 * many, []))
+            self.assertEqual(round_of(office), (False, 0, []))
+            for n, votes in enumerate(([10, 5], [10, 20], [30, 10], [5, 40]), 1):
+                done(desk, f"/station/s{n}/lodge",
+                     {"slip": "p1", "votes": votes, "blank": 0, "spoiled": 0})
+                # With the first return stations get a state, with the first closed one a link.
+                self.assertEqual(round_of(office)[1], 2 if n > 1 else 2 * many)
+                done(desk, f"/station/s{n}/close", {"rev": 1})
+                self.assertEqual(round_of(office)[1], 2 if n > 1 else 2 * many)
+                if n > 1:
+                    # Each is made with the moment of before, and then with its own.
+                    self.assertEqual(made.count("place.html"), 4)
+            nobody = press_rounds.Office("http://127.0.0.1:1")
+            self.assertEqual(round_of(nobody)[1], 2 * many)
+            self.assertIn("The office gave no answer", read("place-c1-7.html"))
+            self.assertEqual(round_of(office)[1:], (2 * many, []))
+            self.assertNotIn("The office gave no answer", read("place-c1-7.html"))
+
+    def test_a_constituency_that_is_none_of_the_election(self):
+        """Its pages say that they are withdrawn, in each language, and show no result; its files
+        for programs are gone. Where an office gives no answer, or the setup has it, all stays."""
+        setup = setup_of_four()
+        Path("setup.toml").write_text(setup, encoding="utf-8")
+        words = ("--setup", "setup.toml", *site_folder(stations=PLACES, site=(
+            'languages = ["es"]\n')))
+        with four() as (_, port):
+            press(port, *words)
+        own = [name for name in os.listdir("pages") if re.search("norte|oeste", name)]
+        self.assertLessEqual(
+            {"con-norte.html", "embed-norte.html", "con-norte.json", "con-norte.csv",
+             "places-norte.csv", "place-norte-1.html", "places-norte-1.html",
+             "stations-norte-1.html", "stations-norte-2.csv", "stations-oeste-open.csv"}, set(own))
+        before = {name: read(name) for name in own if not name.endswith(".gz")}
+        with answering_desk(TWIN) as (port, _):
+            # The setup has these constituencies still: the office is another one.
+            press(port, *words)
+            self.assertEqual({name: read(name) for name in before}, before)
+            Path("setup.toml").write_text(with_stations(1), encoding="utf-8")
+            # A page of the board's own, whose name is like that of a constituency.
+            for name in ("con-tact.html", "con-tact.csv"):
+                Path("pages", name).write_text("ours", encoding="utf-8")
+            with answering_desk({"/results": 503}) as (other, _):
+                press(other, *words, status=1)
+            self.assertIn("Alpha", shown_text(read("con-norte.html")))
+            press(port, *words)
+        left = {name for name in own if Path("pages", name).exists()}
+        self.assertEqual({name.removesuffix(".gz") for name in left},
+                         {name for name in before if name.endswith(".html")})
+        said = {"pages": "The constituency of this page is not part of the election that is "
+                         "published here. What the page said before is withdrawn.",
+                "pages/es": "La circunscripción de esta página no forma parte de la elección que "
+                            "aquí se publica. Lo que la página decía antes queda retirado."}
+        for folder, words_there in said.items():
+            for name in sorted(name for name in left if name.endswith(".html")):
+                with self.subTest(folder=folder, name=name):
+                    text = read(name, folder)
+                    self.assertIn(words_there, shown_text(text))
+                    self.assertEqual([said for said in ('href="index.html"', "Alpha", "Norte",
+                                                        "Ribera", "<td") if said in text],
+                                     ['href="index.html"'])
+                    for file in (Path(folder, name), Path(folder, f"{name}.gz")):
+                        self.assertTrue(file.exists())
+        self.assertEqual([read(name) for name in ("con-tact.html", "con-tact.csv")], ["ours"] * 2)
+        files = json.loads(read("manifest.json"))["files"]
+        self.assertEqual([name for name in files if "norte" in name and ".html" not in name], [])
+        self.assertIn("Alpha", read("con-c1.html"))
+        # Once it is there again, its pages are what they were.
+        Path("setup.toml").write_text(setup, encoding="utf-8")
+        with four() as (_, port):
+            press(port, *words)
+        self.assertIn("Alpha", shown_text(read("con-norte.html")))
+        self.assertTrue(Path("pages/con-norte.csv").exists())
+
+    def test_pages_of_the_board_beside_these(self):
+        """Where the office gives no answer the pages say how old they are, whatever else is in the
+        folder."""
+        with answering_desk(TWIN) as (port, _):
+            press(port)
+        own = {"notice.html": b"<p>closed on Monday</p>", "old.html": "Alcañiz".encode("latin-1")}
+        for name, data in own.items():
+            Path("pages", name).write_bytes(data)
+        with answering_desk({"/results": 503}) as (port, _):
+            press(port, status=1)
+        self.assertIn("The office gave no answer", read("con-c1.html"))
+        self.assertIn("The office gave no answer", read("index.html"))
+        self.assertEqual({name: Path("pages", name).read_bytes() for name in own}, own)
+
+    def test_lists_with_as_many_votes_in_a_place(self):
+        """They are in the order of the setup, whichever has more in the constituency; the columns
+        of its stations have the order of its own votes."""
+        setup = with_stations(2)
+        Path("setup.toml").write_text(setup, encoding="utf-8")
+        with modelled(setup) as (desk, port):
+            for code, votes in (("s1", [7, 7]), ("s2", [10, 20])):
+                done(desk, f"/station/{code}/lodge",
+                     {"slip": "p1", "votes": votes, "blank": 0, "spoiled": 0})
+                done(desk, f"/station/{code}/close", {"rev": 1})
+            press(port, "--setup", "setup.toml",
+                  *site_folder(stations="station,name,place\ns1,,Ribera\ns2,,Getafe\n"))
+        for name, lists in (("place-c1-1.html", ["A", "B"]), ("place-c1-2.html", ["B", "A"])):
+            with self.subTest(name=name):
+                tables = page_of(name).tables
+                rows = tables["Votes of each list here"][1:]
+                self.assertEqual([row[0][:1] for row in rows], lists)
+                heads = tables["Returns station by station"][0]
+                self.assertEqual([head for head in heads if head in ("A", "B")], lists)
+
     def test_the_names_that_the_first_page_finds(self):
         with four() as (_, port):
             press(port, "--setup", "setup.toml", *site_folder(stations=PLACES))
             found = json.loads(read("find.json"))["constituencies"]
-            self.assertEqual(found[0], {
+            self.assertEqual(found[1], {
                 "con": "norte", "name": "Norte", "places": ["Ribera", "Monte Alto"],
                 "stations": ["n1", "n2"], "names": ["School <old>, hall", "Hall"], "starts": [0]})
-            self.assertEqual([con["name"] for con in found], ["Norte", "Este", "Sur", "Óeste <3>"])
+            self.assertEqual([con["name"] for con in found], ["Este", "Norte", "Óeste <3>", "Sur"])
             press(port, folder="without")
-        self.assertEqual(json.loads(read("find.json", "without"))["constituencies"][0], {
+        self.assertEqual(json.loads(read("find.json", "without"))["constituencies"][1], {
             "con": "norte", "name": "Norte", "places": [], "stations": [], "names": [],
             "starts": []})
 
@@ -104,7 +249,7 @@ class Lists(SiteCase):
         self.assertEqual(page.tables["Holders of seats"], [
             ["name", "place", "Constituency"], ["B1", "1", "Este"], ["B2", "2", "Este"],
             ["B1", "1", "Norte"]])
-        for sentence in ("193 votes, 42.89% of the valid votes, blank ones among them.",
+        for sentence in ("193 votes, 42.89% of the valid votes, including blank votes.",
                          "Certified: 3 seats of 5 that are certified, of 10 in all.",
                          "Provisional, with 83.33% of the polling stations counted: 2 more seats, "
                          "5 together. They are not the result, and may still change."):

@@ -247,8 +247,9 @@ class PressPages(SiteCase):
                     self.assertRegex(old,
                                      r'<!--age--><p class="old" role="status"><b>The office gave '
                                      r'no answer that could be used at '
-                                     r"[\d:]{8}\.</b> This page stays as it is until there is one; "
-                                     r"it was changed last \d+ (second|minute)s? before\.</p>",
+                                     r"\d\d:\d\d \w+\.</b> This page stays as it is until "
+                                     r"there is one; it last changed \d+ "
+                                     r"(second|minute)s? earlier\.</p>",
                                      old[:9000])
                     self.assertEqual('class="old"' in read("index.html"), target == "/results")
                     self.assertEqual(

@@ -1,10 +1,15 @@
 """Records: rows with as many votes as there may be, commands sent again, and long histories."""
 
 import contextlib
+import io
 import json
 import socket
+import sqlite3
+import sys
 import threading
 import tomllib
+from types import SimpleNamespace
+from unittest import mock
 
 from tests.support.case import Case
 from tests.support.office import SETUP, station
@@ -12,7 +17,7 @@ from tests.support.record import LODGED, a_command, chained
 from tests.support.scripts import loaded, module
 
 entries = loaded("entries")
-recorder = module("recorder")
+recorder, replay = module("recorder"), loaded("replay")
 
 
 class RowsOfAFile(Case):
@@ -99,3 +104,64 @@ class LongHistory(Case):
         self.assertEqual(self.history(99), (198, True))
         self.assertEqual(self.history(100), (200, True))
         self.assertEqual(self.history(101), (200, False))
+
+
+class Revisions(Case):
+    """A copy of the office beside its record: what each act leaves is what the copy has."""
+
+    # The acts of a station in turn, each with the number of the status that it leaves: received,
+    # queried, corrected or closed.
+    ACTS = (("lodge", 1), ("query", 2), ("correct", 3), ("close", 4), ("query", 2), ("confirm", 4))
+
+    def looked_at(self, acts, status):
+        """The names of a record with these acts and a copy that has the last with a status."""
+        lines = []
+        for number, act in enumerate(acts, 1):
+            body = LODGED if act in ("lodge", "correct") else {"rev": number - 1}
+            lines += [a_command(json.dumps(body), f"/station/s1/{act}"),
+                      {"to": 2 * number - 1, "status": 200, "answer": "{}"}]
+        with contextlib.closing(sqlite3.connect(":memory:")) as it:
+            it.executescript("""
+                CREATE TABLE counts (station, item, n); CREATE TABLE cons (con, edition, certified);
+                CREATE TABLE returns (station, rev, status, slip);
+                CREATE TABLE gone (con, list, place);
+                INSERT INTO counts VALUES ('s1', 1, 1), ('s1', 2, 2), ('s1', 0, 0), ('s1', 61, 0);
+            """)
+            it.execute("INSERT INTO returns VALUES ('s1', ?, ?, 'p1')", (len(acts), status))
+            it.commit()
+            with mock.patch.object(entries.sqlite3, "connect", lambda *_, **__: it):
+                office = entries.Office("copy.db")
+        reading, said = entries.Reading(tomllib.loads(SETUP)), io.StringIO()
+        given = SimpleNamespace(buffer=io.BytesIO(chained(*lines)))
+        with mock.patch.object(sys, "stdin", given), contextlib.redirect_stdout(said):
+            self.assertEqual(entries.read(reading, {}), [])
+            reading.compare(office)
+        return said.getvalue().splitlines()
+
+    def test_each_status_is_that_of_the_last_act(self):
+        for number in range(1, len(self.ACTS) + 1):
+            acts, statuses = zip(*self.ACTS[:number])
+            for status in (1, 2, 3, 4):
+                with self.subTest(acts=acts, status=status):
+                    self.assertEqual(len(self.looked_at(acts, status)), status != statuses[-1])
+
+
+class Offices(Case):
+    def test_the_office_that_has_a_constituency(self):
+        """Of several offices one has it, with its lists in the order of the setup."""
+        con = {"code": "c1", "lists": [{"code": "A"}, {"code": "B"}]}
+        none = 404, '{"word":"no_constituency"}'
+        right, other, short = ((200, f"station,slip,blank,spoiled,{lists}\ns1,p1,0,0,1,2\n")
+                               for lists in ("A,B", "B,A", "A"))
+        for answers, is_taken in (
+                ([right], True), ([none, right], True), ([right, none], True), ([other], False),
+                ([short], False), ([none], False), ([right, right], False), ([(200, "")], False),
+                ([(None, "")], False)):
+            with self.subTest(answers=answers):
+                left = list(answers)
+                desks = {number: "desk" for number, _ in enumerate(answers)}
+                with mock.patch.object(replay, "send", lambda *_: left.pop(0)):
+                    if is_taken:
+                        replay.Setup.compare(con, desks)
+                    else:
+                        self.assertRaises(replay.OtherSetup, replay.Setup.compare, con, desks)

@@ -11,12 +11,14 @@ import stat
 import subprocess
 import threading
 import time
+from datetime import datetime
 from pathlib import Path
+from unittest import mock
 
 from tests.support.case import needs
 from tests.support.desks import answer_of, desk_with, recording_desk, whole_message
 from tests.support.proxy import proxy
-from tests.support.record import replayed
+from tests.support.record import a_command, replayed
 from tests.support.recorder import FAILING, command, recorder_alone
 from tests.support.running import PATIENCE, until
 from tests.support.scripts import loaded
@@ -74,6 +76,26 @@ class Recorder(SiteCase):
         self.assertEqual((most[0], [paths[line["to"]] for line in lines if "to" in line]),
                          (1, done))
         self.assertTrue(all("path" in line for line in lines[:5]), lines[:5])
+
+    def test_no_hash_bears_out_a_guess(self):
+        """Whoever knows all of a line but its figures cannot try them on the hash that is shown:
+        the same line is another one each time, and no history says what else is in it."""
+        moment, entry = datetime.now().astimezone(), a_command("{}", "/station/s1/lodge")
+        lines = []
+        for name in ("one.log", "other.log"):
+            record = loaded("recorder.py").Record(Path(name), 0)
+            with open(os.devnull, "wb") as nowhere, mock.patch("sys.stdout", nowhere):
+                for more in (entry, {"to": 1, "status": 200, "answer": ""}):
+                    line, place = record.write(more, moment)
+                    record.index.take(line, place)
+                    lines.append(json.loads(line))
+            [shown] = record.history("s1")["commands"]
+            self.assertEqual((shown["answer"], "salt" in shown), ("", False))
+        for line, other in zip(lines[:2], lines[2:]):
+            self.assertEqual({key for key in line if line[key] != other[key]} - {"before"},
+                             {"salt"})
+        salts = {line["salt"] for line in lines}
+        self.assertEqual([len(salts), {len(bytes.fromhex(salt)) for salt in salts}], [4, {16}])
 
     def test_what_a_station_may_give(self):
         """Twenty commands at once, and one more each fifteen seconds; every station has its own,
@@ -287,6 +309,18 @@ class Recorder(SiteCase):
             with recorder_alone(port):
                 self.assertEqual(command("/station/s5/close"), 200)
         self.assertEqual(json.loads(file.read_bytes().splitlines()[-1])["n"], 18)
+
+    def test_what_was_shown_is_no_file(self):
+        """The user of the pages writes it: the recorder says so and ends, and waits for no pipe."""
+        file = Path("record.csv")
+        for made in (lambda: os.mkfifo(file), lambda: file.symlink_to("/dev/zero"),
+                     lambda: (file.touch(), os.truncate(file, 1 << 40))):
+            file.unlink(missing_ok=True)
+            made()
+            with recorder_alone(1, "--shown", file) as process:
+                self.assertEqual(process.wait(timeout=PATIENCE), 1)
+            self.assertIn("failed: record.csv: ", Path("said").read_text())
+            self.assertFalse(Path("recorder/head").exists())
 
     def test_answers_that_are_no_http(self):
         """As of another program that has the port of the office: each command is without an answer,

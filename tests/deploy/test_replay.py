@@ -96,8 +96,8 @@ class Replay(SiteCase):
             elect(ask)
             record = front.record(29)
             desk.end()
-        keys = {"n", "time", "name", "role", "address", "office", "method", "path", "before",
-                "status"}
+        keys = {"n", "time", "name", "role", "address", "office", "method", "path", "salt",
+                "before", "status"}
         self.assertTrue(all(set(line) == keys
                             | ({"bytes"} if line["status"] == 403 else {"body", "answer"}) for line
                             in record))

@@ -51,6 +51,7 @@ Twin Town => Twin\0Town => 2 => zero byte
 c2,2,PC => c2,1,PC => 5 => place 1 comes twice among the lists
 c2,2,PC => c2,second,PC => 5 => order is second
 c2,2,PC => c2,,PC => 5 => order is empty
+c2,2,PC => c2,1000001,PC => 5 => order is 1000001, and not a number from 0 to 1000000
 PB,Party B => PB, => 3 => name is empty
 Party B => LONG => 3 => name has 81 bytes
 Party B => WIDE => 3 => name has 82 bytes
@@ -107,6 +108,7 @@ substitutes => subs =>  => no key is called rules.subs
 [1, 2] => 2 =>  => rules.substitutes has a value
  => [codes]\nPB = "P B" =>  => P B is no code
  => [stations]\nelectors = 7 =>  => stations.electors has a value
+ => [stations]\nelectors = ["voters", 7] =>  => stations.electors has a value
  => [stations]\nvoters = "x" =>  => no key is called stations.voters
  => [stations]\nfile = "../x" =>  => stations.file has a value
  => [[profile]]\ncode = "x" =>  => [[profile]] 1: method is missing

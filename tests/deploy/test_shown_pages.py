@@ -16,6 +16,16 @@ from tests.support.shown import PICTURES, SHOWN_WRONG, shows_well
 from tests.support.site import EXAMPLES, STATIONS, SiteCase
 
 DRAWN_WRONG = in_page("drawn_wrong.js")
+# Paragraphs whose letters are smaller than those of the captions.
+SMALLER = """const size = (e) => parseFloat(getComputedStyle(e).fontSize);
+const caption = document.querySelector("caption");
+return caption ? [...document.querySelectorAll("main p")].filter((e) => size(e) < size(caption)
+  && e.getClientRects().length).map((e) => e.textContent) : [];"""
+# Whether each of these parts has a colour of its own on the page.
+SEEN = """const paper = getComputedStyle(document.body).backgroundColor;
+return [[".length"], [".progress i"], [".code", "::before"]].map(([part, ...at]) => {
+  const own = getComputedStyle(document.querySelector(part), ...at).backgroundColor;
+  return own !== paper && own !== "rgba(0, 0, 0, 0)"; });"""
 
 
 @contextlib.contextmanager
@@ -53,6 +63,7 @@ class ShownPages(SiteCase):
                                 "document.querySelectorAll('.search').length && "
                                 "document.querySelector('.search').getClientRects().length]"),
                          ["rgb(255, 255, 255)", 0], name)
+        self.assertEqual(it.run(SMALLER), [], name)
         if PICTURES:
             it.picture(PICTURES / f"{name}-print.png", True)
         it.command("Emulation.setEmulatedMedia", media="", features=[])
@@ -105,6 +116,19 @@ class ShownPages(SiteCase):
             self.assertEqual(it.run("const [a, b] = document.querySelectorAll('.length'); return "
                                     "[a, b].map((e) => e.getBoundingClientRect().width > 100)"),
                              [True] * 2)
+
+    @needs("chromium")
+    def test_colours_that_a_reader_forces(self):
+        """Bars, how much is counted and the colours of the lists are seen, light and dark."""
+        with answering_desk(TWIN) as (port, _):
+            press(port)
+        with browser.browser(Path.cwd()) as it:
+            it.open((Path.cwd() / "pages/con-c1.html").as_uri())
+            for colours in ("light", "dark"):
+                it.command("Emulation.setEmulatedMedia", media="", features=[
+                    {"name": "forced-colors", "value": "active"},
+                    {"name": "prefers-color-scheme", "value": colours}])
+                self.assertEqual((colours, it.run(SEEN)), (colours, [True] * 3))
 
     @needs("chromium")
     def test_the_search_of_the_press_pages(self):

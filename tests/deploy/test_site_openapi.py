@@ -61,7 +61,7 @@ class SiteOpenapi(SiteCase):
         found = {(method, target) for method, target, *_ in self.operations()}
         routes = {(method.upper(), path.format(c="c1", s="s1"))
                   for path, methods in PROGRAM["paths"].items() for method in methods}
-        own = {("GET", "/now/station/s1/history"), ("GET", "/logout")}
+        own = {("GET", "/now/station/s1/history"), ("GET", "/now/con/c1/typed"), ("GET", "/logout")}
         self.assertEqual({(method, target) for method, target in found if "." not in target
                           and target != "/"} - own,
                          routes | {(method, f"/now{target}") for method, target in routes

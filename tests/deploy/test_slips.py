@@ -461,7 +461,7 @@ class Slips(SiteCase):
                 choose_station(it, "s1")
                 self.acts(it, "#close button", "Close the return of s1?",
                           "Done.", town | {
-                              "Station": "s1", "Done": "Done.", "Slip": "p1",
+                              "Station": "s1", "Done": None, "Slip": "p1",
                               "A Alpha": "120", "B Beta": "71", "Total": "194",
                               "By": "clara, clerk"})
                 # On paper there is the receipt and nothing else.

@@ -28,6 +28,7 @@ import unittest
 from datetime import datetime, timedelta
 from pathlib import Path
 
+from tests.support.running import is_listened_to
 from tests.support.scripts import module
 
 ROOT = Path(__file__).resolve().parent.parent.parent
@@ -263,7 +264,7 @@ seconds = 1800
                 ended.callback(program.wait)
                 ended.callback(program.kill)
                 end = time.monotonic() + 60
-                while not (folder / "1.sock").exists():
+                while not is_listened_to(folder / "1.sock"):
                     self.assertLess(time.monotonic(), end)
                     time.sleep(0.05)
                 text = (self.folder / "status.toml").read_text(encoding="utf-8")
@@ -298,6 +299,19 @@ seconds = 1800
         self.assert_wrong("pages", "manifest.json cannot be read")
         (self.folder / "pages/manifest.json").unlink()
         self.assert_wrong("pages", "manifest.json cannot be read")
+
+    def test_pages_that_are_no_files(self):
+        """The user of the pages writes them, and root reads them: a pipe is not waited for, a link
+        not followed, and what has no end not read."""
+        file = self.folder / "pages/manifest.json"
+        kept = file.with_name("kept.json")
+        file.rename(kept)
+        for made in (lambda: os.mkfifo(file), lambda: file.symlink_to("/dev/zero"),
+                     lambda: file.symlink_to(kept),
+                     lambda: (file.touch(), os.truncate(file, 1 << 40))):
+            file.unlink(missing_ok=True)
+            made()
+            self.assert_wrong("pages", "manifest.json cannot be read")
 
     def test_copies_that_are_old_do_not_agree_or_are_not_there(self):
         old = time.time() - 3 * 3600

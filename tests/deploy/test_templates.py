@@ -124,7 +124,7 @@ class Escaping(OfPages):
             file = folder / "press_en.toml"
             text = file.read_text(encoding="utf-8")
             for old, new in (('seats = "Seats"', 'seats = "<b>Seats</b>"'),
-                             ('as_of = "As', 'as_of = "<script>As'),
+                             ('as_of = "The', 'as_of = "<script>The'),
                              ('bars_said = "Votes', "bars_said = '\"><i>Votes"),
                              ('licence = "Licence', "licence = '& Licence")):
                 self.assertIn(old, text)
@@ -139,7 +139,7 @@ class Escaping(OfPages):
         pages = self.pages()
         for name, said in (("con-c1.html", "<h2>&lt;b&gt;Seats&lt;/b&gt;</h2>"),
                            ("con-c1.html", "&lt;b&gt;seats&lt;/b&gt;</th>"),
-                           ("index.html", "&lt;script&gt;As the office had it on <time "),
+                           ("index.html", "&lt;script&gt;The office’s figures on <time "),
                            ("con-c1.html", 'aria-label="&#34;&gt;&lt;i&gt;Votes as bars'),
                            ("count.html", "&amp; Licence of the data: &lt;i&gt;.")):
             with self.subTest(said=said):

@@ -4,47 +4,22 @@ an office.
 The figures that the page takes for unusual are tried on invented stations.
 """
 
-import contextlib
 import json
-import os
 import shutil
-import tomllib
 from pathlib import Path
 
 from tests.support import browser, pictures
-from tests.support.case import ROOT, Case, needs
+from tests.support.case import Case, needs
 from tests.support.clerks import said
-from tests.support.desks import done, modelled
-from tests.support.model import Office
-from tests.support.office import PROFILE, constituency, party_list, station
-from tests.support.pages import press
+from tests.support.desks import done
 from tests.support.rounds import DEPLOY
 from tests.support.scripts import in_page
 from tests.support.shown import PICTURES
+from tests.support.typed_slips import (
+    CODES, DOWN, ENTER, ESCAPE, FIELD, LISTS, LODGED, PAGES, TAB, TEXTS, TYPED, UP, VALUES,
+    TypedCase, keys, place, setup_of,
+)
 
-TEXTS = {language: tomllib.loads((DEPLOY / f"clerk/texts_{language}.toml").read_text("utf-8"))
-         for language in ("en", "es")}
-PAGES = {"en": "clerk.html", "es": "clerk_es.html"}
-ENTER, ESCAPE, DOWN, UP = "\ue007", "\ue00c", "\ue015", "\ue013"
-CODES = ["46-001-05-A", "46-001-05-B", "46-001-15-A", "46-002-01-A"]
-LISTS = [(f"L{n}", f"List {n}", f"Name {n}") for n in range(1, 9)]
-
-
-def setup_of(entry="double"):
-    """A constituency of eight lists and four stations, and one of another town."""
-    lists = "".join(party_list(*one) for one in LISTS)
-    return (PROFILE + constituency("c1", "Xàtiva", 5, "d0") + f'entry = "{entry}"\n' + lists
-            + "".join(station(code, 651) for code in CODES) + constituency("c2", "Port", 1, "d0")
-            + lists + station("s9", 300))
-
-
-FIGURES = [120, 85, 60, 41, 30, 12, 7, 3]
-LODGED = {"slip": "r101", "votes": FIGURES, "blank": 4, "spoiled": 2}
-TYPED = [*map(str, FIGURES), "4", "2", str(sum(FIGURES) + 6)]
-# The values of a form's fields.
-VALUES = ("return [...document.querySelectorAll('#' + arguments[0] + ' input')]"
-          ".filter((e) => e.type !== 'checkbox').map((e) => e.value)")
-FIELD = "const e = document.activeElement; return e.name || e.id"
 # Of a form the upper edge of its first field and the lower one of its button; of what is said the
 # upper one, and of the station's name and place the lower one.
 EDGES = """const form = document.getElementById(arguments[0]);
@@ -53,53 +28,18 @@ return [box(form.querySelector('input')).top, box(form.querySelector('fieldset >
         box(document.getElementById('said')).top, box(document.getElementById('place')).bottom,
         document.documentElement.scrollWidth];"""
 ALARMS = in_page("alarms.js")
+# The rows of who typed how many returns, and the heads of their columns.
+TABLE = ("return [...document.querySelectorAll('#waiting tbody tr')].map((row) => "
+         "[...row.children].map((e) => e.textContent))")
+HEADS = "return [...document.querySelectorAll('#waiting thead th')].map((e) => e.textContent)"
 
 
-def keys(it, *pressed):
-    """Presses keys, one after the other, as a keyboard does."""
-    actions = [{"type": kind, "value": key} for key in "".join(pressed)
-               for kind in ("keyDown", "keyUp")]
-    it.of_session("POST", "/actions",
-                  {"actions": [{"type": "key", "id": "keys", "actions": actions}]})
+def shown_as(number, texts):
+    """A number as the language of the page writes it."""
+    return f"{number:,}".replace(",", {"en": ",", "es": "."}[texts["language"]])
 
 
-def place(text, **values):
-    """A text of the page with its places filled in."""
-    return text.format(**values)
-
-
-class TypedSlips(Case):
-    may_leave_files = True
-
-    def setUp(self):
-        super().setUp()
-        self.addCleanup(setattr, pictures, "ROOT", ROOT)
-        os.makedirs("deploy/www")
-        pictures.ROOT = Path.cwd()
-
-    def published(self, setup, **files):
-        """The files of a site before the page, by the names of those in its folder."""
-        shutil.rmtree("pages", ignore_errors=True)
-        Path("site").mkdir(exist_ok=True)
-        for name, text in files.items():
-            Path("site", f"{name}.csv").write_text(text, encoding="utf-8")
-        Path("setup.toml").write_text(setup, encoding="utf-8")
-        with modelled(setup) as (_, port):
-            press(port, "--setup", "setup.toml", "--site", "site")
-        return Office(tomllib.loads(setup))
-
-    @contextlib.contextmanager
-    def page(self, it, language, office, name="clara", role="clerk"):
-        """The page in a language, once it says that it is up to date; its texts."""
-        shutil.copy(DEPLOY / "www" / PAGES[language], "deploy/www/clerk.html")
-        texts = TEXTS[language]
-        with pictures.clerks_site(office, name, role) as address:
-            it.open(address)
-            said(it, texts["now"])
-            yield texts
-            # (what was typed and not sent asks nobody whether to go)
-            it.run("document.querySelectorAll('form').forEach((form) => form.reset())")
-
+class TypedSlips(TypedCase):
     @needs("chromium")
     def test_codes_as_they_are_typed(self):
         """In any capitals, without hyphens, or an end that only one station of the constituency
@@ -351,8 +291,8 @@ class TypedSlips(Case):
 
     @needs("chromium")
     def test_what_waits(self):
-        """Whoever sees to it that all is closed is shown what waits, since when and by whom, and
-        that a second entry differs; whoever makes these is not offered it."""
+        """Whoever sees to it that all is closed is shown what waits, since when and by whom, that a
+        second entry differs, and who typed how much; whoever makes these is not offered it."""
         with browser.browser(Path.cwd()) as it:
             for language in PAGES:
                 office = self.published(setup_of())
@@ -364,11 +304,146 @@ class TypedSlips(Case):
                     self.assertTrue(row.startswith(
                         f"{CODES[1]}: {texts['differs_now']}{texts['status_received']}"), row)
                     self.assertIn("clara", row)
+                    # A clerk sees its own name alone.
+                    own = [f"clara, {texts['role_clerk']}", shown_as(1031, texts), "0", "2"]
+                    self.assertEqual(it.run(TABLE), [own])
+                    self.assertIn(texts["typed_others"], it.text("#waiting"))
                     it.click("#waiting a")
                     said(it, texts["now"])
                     self.assertEqual(it.run("return shown.station"), CODES[1])
+                with self.subTest(language=language), self.page(it, language, office, "berta",
+                                                                "board"):
+                    it.click("#list-waiting")
+                    said(it, place(texts["waiting_shown"], number=1))
+                    second = [f"sara, {texts['role_second']}", "0", "29", "0"]
+                    self.assertEqual(it.run(TABLE), [own, second])
+                    self.assertEqual(it.run(HEADS), [texts[f"typed_{part}"] for part in (
+                        "name", "lodge", "confirm", "correct")])
+                    self.assertNotIn(texts["typed_others"], it.text("#waiting"))
                 with self.page(it, language, office, "sara", "second"):
                     self.assertFalse(it.visible("#list-waiting"))
+
+    @needs("chromium")
+    def test_what_waits_in_its_order(self):
+        """Returns that differ come first, then those that are queried, with the reason, and then
+        the rest; the list says of which hour it is, in 24 hours."""
+        def command(n, act, status, answer, **body):
+            return {"n": n, "time": f"2026-11-29T21:{n:02}:00.000+01:00", "name": "clara",
+                    "role": "clerk", "act": act, "status": status, "body": json.dumps(body),
+                    "answer": json.dumps(answer)}
+
+        lodged = {code: command(n, "lodge", 200, {"ok": "lodged", "rev": 1})
+                  for n, code in enumerate(CODES, 1)}
+        more = {CODES[3]: [command(9, "query", 200, {"ok": "moved", "rev": 2}, note="71 or 17?")],
+                CODES[2]: [command(7, "confirm", 409, {"refused": 7, "word": "differs"})]}
+        histories = {code: {"whole": True, "commands": [one, *more.get(code, [])]}
+                     for code, one in lodged.items()}
+        with browser.browser(Path.cwd()) as it:
+            for language in PAGES:
+                office = self.published(setup_of())
+                for code in CODES:
+                    done(office, f"/station/{code}/lodge", LODGED)
+                done(office, f"/station/{CODES[3]}/query", {"rev": 1, "note": "71 or 17?"})
+                with (self.subTest(language=language),
+                      self.page(it, language, office, "berta", "board", histories) as texts):
+                    it.click("#list-waiting")
+                    said(it, place(texts["waiting_shown"], number=4))
+                    rows = it.run("return [...document.querySelectorAll('#waiting li')].map((e) => "
+                                  "e.textContent)")
+                    self.assertEqual([row.split(":")[0] for row in rows],
+                                     [CODES[2], CODES[3], CODES[0], CODES[1]])
+                    self.assertTrue(rows[1].endswith(
+                        f": {place(texts['said_note'], note='71 or 17?')}"), rows[1])
+                    head = texts["waiting_at"].replace("{time}", "([01][0-9]|2[0-3]):[0-5][0-9]")
+                    self.assertRegex(it.text("#waiting h3"), f"^{head}$")
+                    self.assertEqual(it.run("return hourOf('2026-11-29T21:02:00')"), "21:02")
+
+    @needs("chromium")
+    def test_a_slip_that_is_queried(self):
+        """The figures of a second entry go with the paper that is put aside: nobody asks whether
+        they may go, and they are typed again once the return was corrected."""
+        with browser.browser(Path.cwd()) as it:
+            for language in PAGES:
+                office = self.published(setup_of())
+                for code in CODES:
+                    done(office, f"/station/{code}/lodge", LODGED)
+                with (self.subTest(language=language),
+                      self.page(it, language, office, "sara", "second") as texts):
+                    keys(it, "5a", ENTER)
+                    said(it, texts["now"])
+                    keys(it, "r101", ENTER, *[f"{typed}{ENTER}" for typed in
+                                              ["85", "120", *TYPED[2:]]])
+                    said(it, texts["differs_blind"])
+                    keys(it, ENTER)
+                    it.type("#query input[name=note]", "120 and 85")
+                    keys(it, ENTER)
+                    said(it, texts["is_done"])
+                    self.assertEqual((it.run(VALUES, "confirm"), it.run(FIELD)),
+                                     ([""] * 12, "station"))
+                    keys(it, "5b", ENTER)
+                    said(it, texts["now"])
+                    self.assertEqual(it.run("return shown.station"), CODES[1])
+
+    @needs("chromium")
+    def test_a_tick_by_keys(self):
+        """Tab, the space bar and Enter send what the paper says though it is unusual."""
+        figures = [*TYPED[:8], "60", "2", str(420)]
+        with browser.browser(Path.cwd()) as it:
+            for language in PAGES:
+                with (self.subTest(language=language),
+                      self.page(it, language, self.published(setup_of())) as texts):
+                    keys(it, "5a", ENTER)
+                    said(it, texts["now"])
+                    keys(it, "r101", ENTER, *[f"{typed}{ENTER}" for typed in figures])
+                    one = texts["figures"]["one"]
+                    said(it, place(texts["unusual"], figures=one))
+                    self.assertEqual(it.run(FIELD), "blank")
+                    keys(it, TAB, " ", ENTER)
+                    said(it, texts["lodged"])
+
+    @needs("chromium")
+    def test_names_that_come_later(self):
+        """A page that was opened before the press pages were there asks for the names of stations
+        again, once in a minute."""
+        names = f"station,name,place\n{CODES[0]},Escuela Ausiàs March,Carrer Major 3\n"
+        asked = ("return performance.getEntriesByType('resource').filter((one) => "
+                 "one.name.endsWith('/site.json')).length")
+        with browser.browser(Path.cwd()) as it:
+            for language in PAGES:
+                office = self.published(setup_of(), stations=names)
+                Path("pages/site.json").rename("site.json")
+                with (self.subTest(language=language),
+                      self.page(it, language, office) as texts):
+                    place_of = f"{CODES[0]}\n{place(texts['electors'], electors=651)}"
+                    for again in (False, True):
+                        if again:
+                            Path("site.json").rename("pages/site.json")
+                            it.run("siteAgain = 0")
+                        it.run("document.getElementById('station').focus(); "
+                               "document.getElementById('station').select()")
+                        keys(it, "5a", ENTER)
+                        said(it, texts["now"])
+                        self.assertEqual((it.text("#place") == place_of, it.run(asked)),
+                                         (not again, 1 + again))
+                    self.assertIn("Escuela Ausiàs March\nCarrer Major 3", it.text("#place"))
+
+    @needs("chromium")
+    def test_the_first_line_that_was_not_accepted(self):
+        """It has the reason that the trial found, of which the office's answer has the number."""
+        rows = f"station,slip,blank,spoiled,{','.join(code for code, _, _ in LISTS)}\n"
+        file = Path("returns.csv").resolve()
+        file.write_text(f"{rows}{CODES[0]},p1,0,x,{'1,' * 7}1\n{CODES[1]},p2,0,0,{'9,' * 7}9\n")
+        with browser.browser(Path.cwd()) as it:
+            for language in PAGES:
+                with (self.subTest(language=language),
+                      self.page(it, language, self.published(setup_of())) as texts):
+                    it.of_session("POST", f"/element/{it.find('#import input[type=file]')}/value",
+                                  {"text": str(file)})
+                    it.click("#import button")
+                    said(it, texts["trial_said"])
+                    it.click("#import button")
+                    reason = place(texts["row_bad_number"], column="spoiled")
+                    said(it, place(texts["imported_first"], line=2, reason=reason).strip())
 
 
 class Unusual(Case):

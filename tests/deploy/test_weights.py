@@ -72,6 +72,9 @@ class Weights(SiteCase):
         for here, name in enumerate(names):
             with self.subTest(here=here, name=name):
                 tables, text = page_of(name).all_tables, read(name)
+                # A table that goes on elsewhere does not end with a sum.
+                for table in re.findall(r'<table class="[^"]*totalled.*?</table>', text, re.S):
+                    self.assertIn('<tr><th scope="row">Total</th>', table.splitlines()[-3])
                 for caption, (heads, *cells) in tables:
                     shown = found.setdefault(caption, [heads])
                     self.assertEqual((heads, [row for row in cells if row in shown]),

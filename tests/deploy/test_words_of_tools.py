@@ -13,7 +13,7 @@ from tests.support.safeguards import Safeguards, hash_of_file, run
 from tests.support.scripts import loaded, module
 from tests.support.site import DEPLOY
 
-odd_names = module("odd_names")
+odd_names, press_data = module("odd_names"), module("press_data")
 
 
 class DeskLanguage(Safeguards):
@@ -129,6 +129,26 @@ class Names(Safeguards):
                 Path("codes.conf").write_text("as it was", encoding="utf-8")
                 said = run("setup-json", "setup.toml", ".", "codes.conf", status=int(refused))[1]
                 self.assertEqual(f"station {code} is called as one of the staff" in said, refused)
+                self.assertEqual(Path("codes.conf").read_text() == "as it was", refused)
+
+    def test_a_list_called_as_a_column(self):
+        """Its votes would be in a second column of that name, in the returns or in the places."""
+        columns = {name for fields in (press_data.STATION, press_data.PLACE) for name in fields}
+        self.assertEqual(columns, {"station", "slip", "blank", "spoiled", "place", "stations",
+                                   "closed", "electors"})
+        shown = "station, slip, blank, spoiled, place, stations, closed, electors"
+        codes = [*columns, "closed".upper(), "Electors", "votes", "closed-", "A"]
+        for code in codes:
+            with self.subTest(code=code):
+                refused = code.lower() in columns
+                lists = party_list("Z", "Zeta", "Zoe") + party_list(code, "Alpha", "Ana")
+                text = PROFILE + constituency("c1", "Twin Town", 3, "d0") + lists + station("s1")
+                Path("setup.toml").write_text(text, encoding="utf-8")
+                Path("codes.conf").write_text("as it was", encoding="utf-8")
+                said = run("setup-json", "setup.toml", ".", "codes.conf", status=int(refused))[1]
+                wanted = (f"failed: setup.toml: list {code} of c1 is called as a column of the "
+                          f"published CSV files, which are {shown}: give it another code\n")
+                self.assertEqual(said, wanted if refused else "")
                 self.assertEqual(Path("codes.conf").read_text() == "as it was", refused)
 
     def test_what_the_proxy_gets_to_know(self):

@@ -106,6 +106,19 @@ class FirstLook(LauncherCase):
         copy.tries("printf 'run=ended status=0 \\nrun=none proved=no\\n' >&2; exit 1")
         self.assertEqual(copy.run("--unproved", "check")[0], 3)
 
+    def test_the_last_lines_of_a_first_look_that_fails_are_shown(self):
+        """Twenty of them."""
+        self.copy.tries("seq 1 30 >&2; exit 1")
+        errors = self.copy.run("--unproved", "check")[2]
+        self.assertEqual(errors.splitlines()[-20:], [f"  {n}" for n in range(11, 31)])
+        self.assertNotIn("  10\n", errors)
+
+    def test_a_first_look_that_takes_a_moment_says_none_of_it(self):
+        """It is said from some seconds of silence on."""
+        self.copy.tries("sleep 1.5; echo 'run=ended status=0 runners=2 proved=no' >&2; exit 0")
+        status, _, errors = self.copy.run("--unproved", "check")
+        self.assertEqual((status, errors), (0, UNPROVED.format("check", "")))
+
     def test_a_first_look_waits_for_no_build(self):
         copy = self.copy
         copy.plan('until [ -e "$here/go" ]; do sleep 0.1; done\n' + PROVED)

@@ -35,13 +35,12 @@ def forecast(copy, record, ended, queue, now=0, workers=1):
 
 
 def times_as_long(copy):
-    """Returns how many times as long as is recorded a build of `TIMED` read, which a busy machine
-    adds to.
+    """Returns how many times as long as is recorded a build of `TIMED` took to read and to prove
+    its first crate, which a busy machine adds to.
     """
-    return (
-        int(re.search(r"^reading (\d+) new$", (copy.out / "office.ends").read_text(), re.M)[1])
-        / RECORDED["reading"]
-    )
+    ends = (copy.out / "office.ends").read_text()
+    took = int(re.search(r"^tally_frac (\d+) new$", ends, re.M)[1])
+    return took / (RECORDED["reading"] + RECORDED["tally_frac"])
 
 
 class TimeLeft(LauncherCase):
@@ -138,7 +137,7 @@ class TimeLeft(LauncherCase):
         copy.plan(TIMED.format(6))
         lines = copy.run("show")[2].splitlines()
         assert (
-            times_as_long(copy) >= 2
+            times_as_long(copy) >= 1.5
             and 0.7 <= minutes_in(lines[2]) / minutes_in(lines[1]) / times_as_long(copy) <= 1.3
         ), lines
 
@@ -202,6 +201,13 @@ class TimeLeft(LauncherCase):
         copy.plan(PROVED)
         lines = copy.run("show")[2].splitlines()
         assert lines[1] == f"office: {CRATES - 1} {taken}" and minutes_in(lines[2]) == 30, lines
+
+    def test_one_crate_that_is_taken_over_is_said_too(self):
+        copy = self.copy
+        copy.keep("tally_frac")
+        copy.plan("exit 1")
+        self.assertIn(f"office: 1 of {CRATES} crates were proved before and are taken over",
+                      copy.run("show")[2].splitlines())
 
     def test_a_build_notes_when_its_parts_ended(self):
         copy = self.copy

@@ -35,8 +35,8 @@ OFTEN, SELDOM, TURNS = 40, 4, 10
 # Electors and agents of each station: 20,000 have the 5,000,000,000 that a constituency may have.
 ELECTORS, AGENTS = 249_000, 1_000
 # How many times as much of the processor a station, or a request, may take. Other work on the
-# machine doubles what some of them take.
-MOST = 4
+# machine doubles what some of them take, and the square of the stations is twenty times as much.
+MOST = 8
 
 
 def setup_of(count):

@@ -157,9 +157,11 @@ def kept_waiting(past):
         f" {ended:.1f} s, stayed {stayed:.1f} s"
     )
     assert head.startswith(b"HTTP/1.1 200 OK\r\n") and body == past, (head, len(body), len(past))
-    assert 9.5 <= silent <= 14, silent
-    assert 29 <= slow <= 35, slow
-    assert 9.5 <= never.result() <= 35, never.result()
+    # (a read may wait for ten seconds, and a message or an answer for thirty: twenty more are the
+    # machine's; without these limits it would be thirty, or without end)
+    assert 9.5 <= silent <= 25, silent
+    assert 29 <= slow <= 50, slow
+    assert 9.5 <= never.result() <= 50, never.result()
     assert ended <= 1.5, ended
     assert stayed <= 8, stayed
 

@@ -188,11 +188,15 @@ HISTORY = {"whole": True, "commands": [
      "body": '{"rev":1,"slip":"r101","votes":[120,58,40,22,5],"blank":4,"spoiled":2}',
      "answer": '{"refused":7,"word":"differs"}'}]}
 
+TYPED = {"con": "c1", "since": "2026-11-29T21:02:00+01:00", "names": [
+    {"name": "clara", "role": "clerk", "lodge": 1031, "confirm": 0, "correct": 2},
+    {"name": "sara", "role": "second", "lodge": 0, "confirm": 29, "correct": 0}]}
+
 
 @contextlib.contextmanager
-def clerks_site(office, name, role):
+def clerks_site(office, name, role, histories=None):
     """The clerks' page of somebody, before the model of an office in place of proxy and program;
-    its address."""
+    its address. The histories are those of their stations, or else all the same."""
     class Site(http.server.BaseHTTPRequestHandler):
         def log_message(self, *_):
             pass
@@ -213,7 +217,13 @@ def clerks_site(office, name, role):
             elif target == "/logout":
                 self.wfile.write(b"HTTP/1.0 204 X\r\n\r\n")
             else:
-                self.wfile.write(answer_of(HISTORY if target.endswith("/history")
+                # (the recorder answers a clerk of itself alone)
+                own = TYPED | {"names": [one for one in TYPED["names"]
+                                         if role == "board" or one["name"] == name]}
+                station = target.removeprefix("/station/").removesuffix("/history")
+                history = (histories or {}).get(station, HISTORY)
+                self.wfile.write(answer_of(history if target.endswith("/history")
+                                           else own if target.endswith("/typed")
                                            else office.ask(self.command, target, body)))
 
         do_GET = do_HEAD = do_POST = answered

@@ -93,7 +93,7 @@ class Proxy:
     def password(self, *words):
         """Runs the script that gives passwords."""
         return subprocess.run(
-            [DEPLOY / "password", *words], capture_output=True, text=True, timeout=PATIENCE,
+            [DEPLOY / "password", *words], capture_output=True, text=True, timeout=3 * PATIENCE,
             env={**os.environ, "PASSWORDS": str(self.folder / "office"), "SETUP": "names.toml"})
 
     def name(self, file, name):

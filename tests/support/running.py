@@ -43,6 +43,16 @@ def free_port():
                 return port
 
 
+def is_listened_to(path):
+    """Whether a program takes connections at a socket of this path, which is there a moment before
+    it does.
+    """
+    with contextlib.suppress(OSError), socket.socket(socket.AF_UNIX) as it:
+        it.connect(str(path))
+        return True
+    return False
+
+
 def until(true, seconds=PATIENCE):
     """Waits until it is true."""
     end = time.monotonic() + seconds

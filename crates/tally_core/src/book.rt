@@ -13,8 +13,9 @@ use rows::{take_out, take_source};
 use shown::show_returns;
 use std::alloc::{AllocError, Global};
 use std::marker::Model;
-use tally_keeper::{ImportCount, ImportFault, Keeper, Ledger, NamedRow, RowSource};
+use tally_keeper::{Keeper, Ledger};
 use tally_returns::{Ask, Refusal, Reply, StationRow};
+use tally_returns_rows::{ImportCount, ImportFault, NamedRow, RowSource};
 use tally_setup::{Code, Setup};
 
 /// Keeps the office's state in memory. It is gone when the program ends.

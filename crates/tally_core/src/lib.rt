@@ -6,11 +6,12 @@
 mod book;
 
 pub use book::Book;
-pub use tally_keeper::{
-    FirstRow, ImportCount, ImportFault, Keeper, NamedRow, ROW_LIMIT, Row, RowSource, moved, run,
-};
+pub use tally_keeper::{Keeper, moved, run};
 pub use tally_machine::{decide_con, holders};
 pub use tally_returns::{
     Ask, Change, ConView, Counts, Gone, ListSet, LodgeReply, Past, ProgressRow, Refusal, Reply,
     Return, StationRow, Status, decide_at, decide_lodge, decide_return,
+};
+pub use tally_returns_rows::{
+    FirstRow, ImportCount, ImportFault, NamedRow, ROW_LIMIT, Row, RowSource,
 };

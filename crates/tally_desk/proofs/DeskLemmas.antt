@@ -22,12 +22,12 @@ use Rattle.tally_returns.specs.declared.ask.Ask.{Ask}
 use Rattle.tally_returns.specs.declared.refusal.Refusal.TheVariants.{NoConstituency, NoStation}
 use Rattle.tally_machine_law.specs.Outcome.{IsLawfulView, rule_in}
 use Rattle.tally_keeper.specs.Keeper.{Tries}
-use Rattle.tally_keeper.specs.NamedRows.{NamesRows}
+use Rattle.tally_returns_rows.specs.NamedRows.{NamesRows}
 use Rattle.tally_keeper.specs.Shown.{ShowsReturns}
-use Rattle.tally_keeper.specs.Source.{Delivery}
-use Rattle.tally_keeper.specs.declared.import.ImportCount.{ImportCount}
-use Rattle.tally_keeper.specs.declared.import.NamedRow.{NamedRow}
-use Rattle.tally_keeper.specs.declared.source.ImportFault.{ImportFault}
+use Rattle.tally_returns_rows.specs.Source.{Delivery}
+use Rattle.tally_returns_rows.specs.declared.import.ImportCount.{ImportCount}
+use Rattle.tally_returns_rows.specs.declared.import.NamedRow.{NamedRow}
+use Rattle.tally_returns_rows.specs.declared.source.ImportFault.{ImportFault}
 use Rattle.tally_import_records.specs.declared.separator.Sep.{Sep}
 use Rattle.tally_import.specs.ReturnRows.{text_coming}
 use Rattle.tally_returns.specs.declared.station_row.StationRow.{StationRow}

@@ -19,15 +19,15 @@ use Rattle.tally_returns.specs.declared.reply.Reply.{Reply}
 use Rattle.tally_returns.specs.declared.reply.Reply.TheVariants as reply
 use Rattle.tally_returns.specs.declared.station_row.StationRow.{StationRow}
 use Rattle.tally_keeper.specs.Keeper as keeper
-use Rattle.tally_keeper.specs.NamedRows.{NamesRows}
+use Rattle.tally_returns_rows.specs.NamedRows.{NamesRows}
 use Rattle.tally_keeper.specs.Shown.{ShowsReturns}
-use Rattle.tally_keeper.specs.Source.{Delivery}
-use Rattle.tally_keeper.specs.declared.import.ImportCount.{ImportCount}
-use Rattle.tally_keeper.specs.declared.import.NamedRow.{NamedRow}
-use Rattle.tally_keeper.specs.declared.source.ImportFault.{ImportFault}
-use Rattle.tally_keeper.specs.declared.source.ImportFault.TheVariants as cause
+use Rattle.tally_returns_rows.specs.Source.{Delivery}
+use Rattle.tally_returns_rows.specs.declared.import.ImportCount.{ImportCount}
+use Rattle.tally_returns_rows.specs.declared.import.NamedRow.{NamedRow}
+use Rattle.tally_returns_rows.specs.declared.source.ImportFault.{ImportFault}
+use Rattle.tally_returns_rows.specs.declared.source.ImportFault.TheVariants as cause
 use Rattle.tally_import_records.specs.declared.separator.Sep.{Sep}
-use Rattle.tally_import.specs.Check.{count_text}
+use Rattle.tally_import.specs.CountLines.{count_text}
 use Rattle.tally_import.specs.ReturnRows.{text_coming}
 use Rattle.tally_import.specs.RowLines.{row_lines}
 use Rattle.tally_report_overview.specs.CountryText.{country_text}

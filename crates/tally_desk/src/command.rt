@@ -18,8 +18,9 @@ use tally_desk_answer::Word;
 use tally_desk_message::Message;
 use tally_desk_routes::{ConCommand, StationCommand, ask_on_con, ask_on_station};
 use tally_import::{ReturnRows, Sep};
-use tally_keeper::{ImportCount, ImportFault, Keeper};
+use tally_keeper::Keeper;
 use tally_returns::{Ask, Refusal};
+use tally_returns_rows::{ImportCount, ImportFault};
 use tally_setup::{Code, Constituency, Setup};
 
 /// Carries out the command that a body was read as. Its answer takes no memory.

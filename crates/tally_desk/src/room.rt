@@ -15,8 +15,8 @@ use tally_desk_answer::{
     ANSWER_ROOM, AnswerStatus, BODY_ROOM, BodyType, Word, answer_of, write_import, write_outcome,
     write_word,
 };
-use tally_keeper::ImportCount;
 use tally_returns::{Refusal, Reply};
+use tally_returns_rows::ImportCount;
 use tally_setup::ListEntry;
 
 /// Room for an answer, which is reserved before the office is asked: what is written into it takes

@@ -14,8 +14,9 @@ use tally_desk_answer::BodyType;
 use tally_desk_message::Message;
 use tally_import::room::{COUNT_ROOM, push_count};
 use tally_import::{ReturnRows, Sep, list_codes, push_lines};
-use tally_keeper::{ImportCount, ImportFault, Keeper, NamedRow};
+use tally_keeper::Keeper;
 use tally_returns::Refusal;
+use tally_returns_rows::{ImportCount, ImportFault, NamedRow};
 use tally_setup::{Code, Constituency};
 
 /// The six lines of an import, and a line for each row that it names.

@@ -1,8 +1,8 @@
 -- The answer to an import: how many of its rows were answered what, as JSON that is compact and has
 -- its keys in the order of their bytes.
 use Rattle.std.specs.Prelude.{ℕ, List, ◌++◌, codes, decimal, Option, Some, None}
-use Rattle.tally_keeper.specs.declared.import.FirstRow.{FirstRow}
-use Rattle.tally_keeper.specs.declared.import.ImportCount.{ImportCount}
+use Rattle.tally_returns_rows.specs.declared.import.FirstRow.{FirstRow}
+use Rattle.tally_returns_rows.specs.declared.import.ImportCount.{ImportCount}
 use Rattle.tally_desk_answer.specs.declared.status.AnswerStatus.TheVariants as status
 use Rattle.tally_desk_answer.specs.declared.status.BodyType.TheVariants as body
 use Rattle.tally_desk_answer.specs.Answer.{answer_text}

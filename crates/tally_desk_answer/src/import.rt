@@ -9,7 +9,7 @@ use crate::answer::write_answer;
 use crate::outcome::{ANSWER_ROOM, BODY_ROOM};
 use crate::push::{push, push_around};
 use crate::status::{AnswerStatus, BodyType};
-use tally_keeper::{FirstRow, ImportCount};
+use tally_returns_rows::{FirstRow, ImportCount};
 
 fn push_before(out: &mut Vec<u8>, count: &ImportCount)
     requires { vec_len out.old + 64 ≤ vec_capacity out.old }

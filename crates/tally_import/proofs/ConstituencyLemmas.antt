@@ -12,7 +12,7 @@ use Rattle.tally_setup.specs.declared.constituency.Station.{Station}
 use Rattle.tally_returns.specs.Decide.{station_in, limits_of}
 use Rattle.tally_import.specs.Header.{same_text}
 use Rattle.tally_import.specs.ReturnRows.{station_limits_in}
-use Rattle.tally_import.specs.internal.StationSet.{Codes}
+use Rattle.tally_import.specs.StationSet.{Codes}
 use Rattle.tally_import.proofs.HeaderLemmas.{drop-at}
 
 -- ---- the header

@@ -1,11 +1,5 @@
 pub mod HeaderLemmas
 pub mod NumberLemmas
-pub mod NamedLemmas
-pub mod FoundLemmas
-pub mod TotalsLemmas
-pub mod ProgressLemmas
-pub mod RoundsLemmas
-pub mod AnswerLemmas
 pub mod ConstituencyLemmas
 pub mod ReturnRowsLemmas
-pub mod StandingLemmas
+pub mod TableLemmas

@@ -7,11 +7,11 @@ use Rattle.std.specs.List.{list_any}
 use Rattle.std.specs.Str.{bytes_eq}
 use Rattle.tally_setup.specs.Constituency.{Constituency, list_codes, station_codes}
 use Rattle.tally_returns.specs.Lodge.{Stations}
-use Rattle.tally_keeper.specs.Given.{with_given}
-use Rattle.tally_keeper.specs.Source.{Coming, GivesNext, at_end, row_limit}
-use Rattle.tally_keeper.specs.declared.import.Row.{Row}
-use Rattle.tally_keeper.specs.declared.source.ImportFault.{ImportFault}
-use Rattle.tally_keeper.specs.declared.source.ImportFault.TheVariants as cause
+use Rattle.tally_returns_rows.specs.Given.{with_given}
+use Rattle.tally_returns_rows.specs.Source.{Coming, GivesNext, at_end, row_limit}
+use Rattle.tally_returns_rows.specs.declared.import.Row.{Row}
+use Rattle.tally_returns_rows.specs.declared.source.ImportFault.{ImportFault}
+use Rattle.tally_returns_rows.specs.declared.source.ImportFault.TheVariants as cause
 use Rattle.tally_import_records.specs.Input.{AreAll, complete_records, text_records, text_stop}
 use Rattle.tally_import_records.specs.Given.{HasGiven, IsReadingOn, sep_of}
 use Rattle.tally_import.specs.ReturnRows.{Advances, AllRowsCame, GivesRow, IsAtStage, IsNext, IsReadingRows, IsTrueAt, coming_after, bytes_coming, records_coming, import_fault, is_header, fault_without_header, came_by, ending, fault_alone, rows_coming, station_limits_in, still_coming, text_coming}

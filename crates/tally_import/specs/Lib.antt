@@ -1,7 +1,9 @@
 pub mod internal
+pub mod Faults
 pub mod Header
+pub mod StationSet
 pub mod Rows
 pub mod RowLines
-pub mod Check
+pub mod CountLines
 pub mod ReturnRows
 pub mod ReturnRowsValue

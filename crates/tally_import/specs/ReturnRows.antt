@@ -11,10 +11,10 @@ use Rattle.tally_frac.specs.Limits.{most_lists}
 use Rattle.tally_setup.specs.Constituency.{Constituency, list_codes}
 use Rattle.tally_returns.specs.Lodge.{Stations}
 use Rattle.tally_returns.specs.Decide.{station_in, limits_of}
-use Rattle.tally_keeper.specs.Source.{Coming, Ending, GivesNext, IsSudden, at_end, row_limit}
-use Rattle.tally_keeper.specs.declared.import.Row.{Row}
-use Rattle.tally_keeper.specs.declared.source.ImportFault.{ImportFault}
-use Rattle.tally_keeper.specs.declared.source.ImportFault.TheVariants as cause
+use Rattle.tally_returns_rows.specs.Source.{Coming, Ending, GivesNext, IsSudden, at_end, row_limit}
+use Rattle.tally_returns_rows.specs.declared.import.Row.{Row}
+use Rattle.tally_returns_rows.specs.declared.source.ImportFault.{ImportFault}
+use Rattle.tally_returns_rows.specs.declared.source.ImportFault.TheVariants as cause
 use Rattle.tally_import.specs.Header.{same_text}
 use Rattle.tally_import_records.specs.Input.{Gave, complete_records, text_records, text_stop}
 use Rattle.tally_import_records.specs.Given.{HasGiven, IsReadingOn, WatchAgrees, sep_of}

@@ -1,10 +1,10 @@
 -- The rows of a constituency's returns as contracts see them.
 use Rattle.std.specs.Prelude.{ℕ, Bool, false, List, [], Option, Some, None, IfSome, option_map}
 use Rattle.tally_setup.specs.Constituency.{Constituency}
-use Rattle.tally_keeper.specs.Source.{Coming, Ending}
-use Rattle.tally_keeper.specs.declared.import.Row.{Row}
-use Rattle.tally_keeper.specs.declared.source.ImportFault.{ImportFault}
-use Rattle.tally_keeper.specs.declared.source.ImportFault.TheVariants as cause
+use Rattle.tally_returns_rows.specs.Source.{Coming, Ending}
+use Rattle.tally_returns_rows.specs.declared.import.Row.{Row}
+use Rattle.tally_returns_rows.specs.declared.source.ImportFault.{ImportFault}
+use Rattle.tally_returns_rows.specs.declared.source.ImportFault.TheVariants as cause
 use Rattle.tally_import.specs.ReturnRows.{AllRowsCame, coming_after, fault_alone, text_coming}
 use Rattle.tally_import_records.specs.declared.separator.Sep.{Sep}
 

@@ -7,14 +7,14 @@ use Rattle.std.specs.Prelude.{◌++◌, ℕ, List, [], ◌∷◌, codes, slice_i
 use Rattle.std.specs.Fmt.{decimal}
 use Rattle.std.specs.List.{flat_map}
 use Rattle.tally_returns.specs.Refusals.{refusal_word}
-use Rattle.tally_keeper.specs.NamedRows.{cause_number}
-use Rattle.tally_keeper.specs.declared.import.BadRow.{BadRow}
-use Rattle.tally_keeper.specs.declared.import.BadRow.TheVariants as bad
-use Rattle.tally_keeper.specs.declared.import.Column.{Column}
-use Rattle.tally_keeper.specs.declared.import.Column.TheVariants as column
-use Rattle.tally_keeper.specs.declared.import.NamedRow.{NamedRow}
-use Rattle.tally_keeper.specs.declared.import.RowCause.{RowCause}
-use Rattle.tally_keeper.specs.declared.import.RowCause.TheVariants as cause
+use Rattle.tally_returns_rows.specs.NamedRows.{cause_number}
+use Rattle.tally_returns_rows.specs.declared.import.BadRow.{BadRow}
+use Rattle.tally_returns_rows.specs.declared.import.BadRow.TheVariants as bad
+use Rattle.tally_returns_rows.specs.declared.import.Column.{Column}
+use Rattle.tally_returns_rows.specs.declared.import.Column.TheVariants as column
+use Rattle.tally_returns_rows.specs.declared.import.NamedRow.{NamedRow}
+use Rattle.tally_returns_rows.specs.declared.import.RowCause.{RowCause}
+use Rattle.tally_returns_rows.specs.declared.import.RowCause.TheVariants as cause
 
 -- the name of a column in the header of these lists
 abbrev pub column_name : List (List ℕ) → Column → List ℕ

@@ -6,11 +6,12 @@ use Rattle.std.specs.List.{list_all}
 use Rattle.tally_setup.specs.Code.{is_code}
 use Rattle.tally_returns.specs.Lodge.{Stations}
 use Rattle.tally_returns.specs.declared.ask.Ask.TheVariants as ask
-use Rattle.tally_keeper.specs.declared.import.Row.{Row}
-use Rattle.tally_keeper.specs.declared.import.Row.TheVariants.{Lodge, Bad}
-use Rattle.tally_keeper.specs.declared.import.BadRow.TheVariants.{Fields, BadStation, NoStation}
-use Rattle.tally_keeper.specs.declared.import.BadRow.TheVariants.{BadSlip, BadNumber}
-use Rattle.tally_keeper.specs.declared.import.Column.TheVariants as column
+use Rattle.tally_returns_rows.specs.declared.import.Row.{Row}
+use Rattle.tally_returns_rows.specs.declared.import.Row.TheVariants.{Lodge, Bad}
+use Rattle.tally_returns_rows.specs.declared.import.BadRow.TheVariants.{Fields, BadStation}
+use Rattle.tally_returns_rows.specs.declared.import.BadRow.TheVariants.{NoStation}
+use Rattle.tally_returns_rows.specs.declared.import.BadRow.TheVariants.{BadSlip, BadNumber}
+use Rattle.tally_returns_rows.specs.declared.import.Column.TheVariants as column
 
 -- 1 to 9 digits; leading zeros are allowed
 abbrev pub is_number_text : List ℕ → Bool

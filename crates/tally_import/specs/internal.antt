@@ -1,8 +1,5 @@
 -- Words of private contracts and of proofs. No promise to a caller speaks of them.
-pub mod Totals
-pub mod Progress
-pub mod Rounds
 pub mod ReturnRowsWithin
 pub mod FixedNames
 pub mod NextRow
-pub mod StationSet
+pub mod Table

@@ -15,10 +15,7 @@ use tally_setup::Code;
 pub(crate) const FIXED_NAMES: usize = 4;
 
 /// The lists that a record names, if it is a header.
-pub(crate) fn lists_in_header(
-    alloc: Global,
-    fields: &ByteRecord,
-) -> Result<Option<Vec<Code>>, AllocError>
+pub fn lists_in_header(alloc: Global, fields: &ByteRecord) -> Result<Option<Vec<Code>>, AllocError>
     ensures { IfOk result (λ lists.
         option_map (λ l. l.items) lists ≡ header_lists (fields_of fields.now)) }
 {

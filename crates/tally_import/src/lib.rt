@@ -1,20 +1,18 @@
-//! Returns of polling stations from CSV.
+//! Returns of polling stations from CSV: rows, and the lines of what became of them.
 #![tactic(auto)]
 
-mod check;
+mod fault;
 mod header;
-mod import;
-pub mod laws;
 mod lines;
 mod output;
 mod return_rows;
 pub mod room;
 mod row;
-mod summary;
-mod totals;
 
-pub use check::{CheckFault, check_csv, check_watched};
+pub use fault::CheckFault;
+pub use header::lists_in_header;
 pub use lines::{LINE_ROOM, list_codes, push_lines};
 pub use output::{write_text, write_watched};
 pub use return_rows::ReturnRows;
+pub use row::row_of;
 pub use tally_import_records::{Sep, Watch};

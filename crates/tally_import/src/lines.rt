@@ -9,7 +9,7 @@ ghost use Rattle.tally_setup.specs.Constituency.{list_codes};
 use crate::room::push;
 use itoa::Buffer;
 use std::alloc::{AllocError, Global};
-use tally_keeper::{BadRow, Column, NamedRow, RowCause};
+use tally_returns_rows::{BadRow, Column, NamedRow, RowCause};
 use tally_setup::{Code, ListEntry};
 
 /// The most bytes of the line of a row.

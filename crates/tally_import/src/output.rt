@@ -4,7 +4,7 @@ ghost use Rattle.std.specs.Prelude.{◌≡◌, ℕ, true, take, Err, OnOk, OnErr
 ghost use Rattle.std.specs.Io.KnownBytes.{Appends};
 ghost use Rattle.tally_import_records.specs.Watch.{has_failed};
 
-use crate::check::CheckFault;
+use crate::fault::CheckFault;
 use std::io::Write;
 use tally_import_records::Watch;
 

@@ -8,12 +8,13 @@ ghost use Rattle.std.specs.Str.{bytes_eq};
 ghost use Rattle.csv.specs.Records.{fields_of};
 ghost use Rattle.tally_frac.specs.Limits.{most_lists};
 ghost use Rattle.tally_setup.specs.Constituency.{Constituency, list_codes, station_codes};
-ghost use Rattle.tally_keeper.specs.Given.{with_given};
-ghost use Rattle.tally_keeper.specs.Source.{GivesNext, IsLodgeOrBad, at_end, ends_by, row_limit};
-ghost use Rattle.tally_keeper.specs.declared.source.ImportFault.{ImportFault};
+ghost use Rattle.tally_returns_rows.specs.Given.{with_given};
+ghost use Rattle.tally_returns_rows.specs.Source.{GivesNext, IsLodgeOrBad, at_end, ends_by};
+ghost use Rattle.tally_returns_rows.specs.Source.{row_limit};
+ghost use Rattle.tally_returns_rows.specs.declared.source.ImportFault.{ImportFault};
 ghost use Rattle.tally_import_records.specs.Given.{IsReadingOn, WatchAgrees};
 ghost use Rattle.tally_import_records.specs.Watch.{flag_after_stop, has_failed};
-ghost use Rattle.tally_keeper.specs.declared.source.ImportFault.TheVariants as cause;
+ghost use Rattle.tally_returns_rows.specs.declared.source.ImportFault.TheVariants as cause;
 ghost use Rattle.tally_import.specs.declared.return_rows.Stage.TheVariants.{Ended};
 ghost use Rattle.tally_import_records.specs.declared.separator.Sep.{Sep};
 ghost use Rattle.tally_import.specs.ReturnRowsValue.{HasGivenAll, rows_to_come, unread_rows};
@@ -34,7 +35,7 @@ use std::io::Read;
 use std::marker::Model;
 use std::snapshot::Snapshot;
 use tally_import_records::{End, Records, Sep, Stop, Watch, field};
-use tally_keeper::{Given, ImportFault, ROW_LIMIT, Row, RowSource};
+use tally_returns_rows::{Given, ImportFault, ROW_LIMIT, Row, RowSource};
 use tally_setup::{Code, Constituency, ListEntry, Station};
 
 /// The rows of a constituency's returns, from a text that a reader gives.
@@ -53,7 +54,7 @@ pub struct ReturnRows<R: Read> {
 }
 
 impl<R: Read> Model for ReturnRows<R> {
-    ghost use Rattle.tally_keeper.specs.Given.{rows_of};
+    ghost use Rattle.tally_returns_rows.specs.Given.{rows_of};
     ghost use Rattle.tally_import_records.specs.Watch.{has_failed};
     ghost use Rattle.tally_import.specs.ReturnRows.{IsAtStage, IsTrueAt, came_by, ending};
     ghost use Rattle.tally_import.specs.ReturnRowsValue as value;

@@ -2,10 +2,10 @@
 
 ghost use Rattle.std.specs.Prelude.{◌≡◌, ◌≤◌, ◌+◌, ◌++◌, Some, length, string_bytes, string_len};
 ghost use Rattle.std.specs.Prelude.{string_capacity};
-ghost use Rattle.tally_import.specs.Check.{count_text, first_text, named_number};
+ghost use Rattle.tally_import.specs.CountLines.{count_text, first_text, named_number};
 
 use itoa::Buffer;
-use tally_keeper::{FirstRow, ImportCount};
+use tally_returns_rows::{FirstRow, ImportCount};
 
 /// The most bytes of the six lines of an import.
 pub const COUNT_ROOM: usize = 128;

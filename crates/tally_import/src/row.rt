@@ -6,24 +6,24 @@ ghost use Rattle.std.specs.Option.{option_copied};
 ghost use Rattle.csv.specs.Records.{fields_of};
 ghost use Rattle.tally_frac.specs.Limits.{most_lists};
 ghost use Rattle.tally_returns.specs.Lodge.{Stations};
-ghost use Rattle.tally_keeper.specs.Source.{IsLodgeOrBad};
+ghost use Rattle.tally_returns_rows.specs.Source.{IsLodgeOrBad};
 ghost use Rattle.tally_import.specs.Rows.{first_unread, is_number_text, row_of, written_number};
-ghost use Rattle.tally_import.specs.internal.StationSet.{is_station};
+ghost use Rattle.tally_import.specs.StationSet.{is_station};
 
 use crate::header::FIXED_NAMES;
 use csv::ByteRecord;
 use std::alloc::{AllocError, Global};
 use std::collections::HashSet;
 use tally_import_records::field;
-use tally_keeper::{BadRow, Column, Row};
 use tally_returns::{Ask, Counts};
+use tally_returns_rows::{BadRow, Column, Row};
 use tally_setup::Code;
 
 /// The most digits that a number may have.
 const DIGITS: usize = 9;
 
 /// The row that a record is, under a header of this many lists. Without stations every code is one.
-pub(crate) fn row_of(
+pub fn row_of(
     alloc: Global,
     lists: usize,
     stations: Option<&HashSet<Code>>,

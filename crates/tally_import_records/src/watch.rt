@@ -33,6 +33,16 @@ impl<S> Watch<S> {
     {
         self.failed
     }
+
+    /// Notes what another watch of the same stream noted.
+    pub fn add(&mut self, other: Self)
+        ensures failed { has_failed other ≡ true → has_failed self.new ≡ true }
+        ensures kept { has_failed other ≡ false → NotesNothing self.old self.new }
+    {
+        if other.failed {
+            self.failed = true;
+        }
+    }
 }
 
 impl<R: Read> Watch<R> {

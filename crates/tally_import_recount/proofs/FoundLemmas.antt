@@ -3,14 +3,14 @@ use Rattle.std.proofs.Common.{◌≡◌, ℕ, List, Bool, Option, Some, None, Er
 use Rattle.std.specs.Prelude.{IfSome}
 use Rattle.std.specs.Io.KnownBytes.{Appends, Keeps}
 use Rattle.tally_setup.specs.Constituency.{Constituency}
-use Rattle.tally_keeper.specs.declared.import.Row.{Row}
+use Rattle.tally_returns_rows.specs.declared.import.Row.{Row}
 use Rattle.tally_import_votes.specs.Troubles.{IsTroubleOf}
 use Rattle.tally_import_votes.specs.declared.fault.AllotTrouble.{AllotTrouble}
 use Rattle.tally_import_votes.specs.declared.fault.AllotTrouble.TheVariants as allotting
 use Rattle.tally_report_allotment.specs.Recount.{question_counted}
 use Rattle.tally_import_recount.specs.Counted.{recounted_rows}
 use Rattle.tally_import_recount.specs.Recounts.{AreKnown, AreRowsOf, IsTextOf, IsTroubleIn, Recounts}
-use Rattle.tally_import_votes.specs.WantedRecount.{Wanted}
+use Rattle.tally_import_options.specs.WantedRecount.{Wanted}
 use Rattle.tally_import_recount.specs.declared.fault.RecountTrouble.{RecountTrouble}
 use Rattle.tally_import_recount.specs.declared.fault.RecountTrouble.TheVariants as trouble
 use Rattle.tally_import_recount.specs.internal.Finds.{IsOfReading}

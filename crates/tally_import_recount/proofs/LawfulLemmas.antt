@@ -25,9 +25,9 @@ use Rattle.tally_returns.specs.declared.refusal.Refusal.TheVariants.{BadCounts, 
 use Rattle.tally_returns.specs.declared.reply.LodgeReply.{LodgeReply}
 use Rattle.tally_returns.specs.declared.reply.LodgeReply.TheVariants.{Lodged, Same}
 use Rattle.tally_returns.proofs.ClosedLemmas.{tied-same}
-use Rattle.tally_keeper.specs.Import.{after_row, returns_after_import}
-use Rattle.tally_keeper.specs.declared.import.Row.{Row}
-use Rattle.tally_keeper.specs.declared.import.Row.TheVariants as row
+use Rattle.tally_returns_rows.specs.Import.{after_row, returns_after_import}
+use Rattle.tally_returns_rows.specs.declared.import.Row.{Row}
+use Rattle.tally_returns_rows.specs.declared.import.Row.TheVariants as row
 use Rattle.tally_import.specs.ReturnRows.{station_limits_in}
 use Rattle.tally_report_allotment.specs.Recount.{AreCountsAt, AreReturnsOf}
 use Rattle.tally_import_recount.specs.Counted.{IsOfSetup, counts_in, returns_judged, rows_judged}

@@ -20,12 +20,12 @@ use Rattle.tally_returns.specs.declared.ask.Ask.TheVariants.{Lodge}
 use Rattle.tally_returns.specs.declared.refusal.Refusal.{Refusal}
 use Rattle.tally_returns.specs.declared.refusal.Refusal.TheVariants.{NoStation}
 use Rattle.tally_returns.specs.declared.reply.LodgeReply.{LodgeReply}
-use Rattle.tally_keeper.specs.Import.{RowAnswer, after_row, answers, is_lodged, returns_after_import, row_answer}
-use Rattle.tally_keeper.specs.declared.import.Row.{Row}
-use Rattle.tally_keeper.specs.declared.import.Row.TheVariants as row
-use Rattle.tally_keeper.proofs.RowsLemmas.{answers-push, imported-push}
+use Rattle.tally_returns_rows.specs.Import.{RowAnswer, after_row, answers, is_lodged, returns_after_import, row_answer}
+use Rattle.tally_returns_rows.specs.declared.import.Row.{Row}
+use Rattle.tally_returns_rows.specs.declared.import.Row.TheVariants as row
+use Rattle.tally_returns_rows.proofs.RowsLemmas.{answers-push, imported-push}
 use Rattle.tally_import.specs.ReturnRows.{station_limits_in}
-use Rattle.tally_import.specs.internal.Progress.{Holds, Table}
+use Rattle.tally_import.specs.internal.Table.{Holds, Table}
 use Rattle.tally_import_recount.specs.Counted.{answers_judged, is_left_out, is_passed, returns_judged, rows_judged}
 use Rattle.tally_import_recount.specs.declared.register.Register.{Register}
 use Rattle.tally_import_recount.specs.internal.Register.{HasStations, HasTaken, Numbers}

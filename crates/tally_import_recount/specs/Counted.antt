@@ -15,13 +15,13 @@ use Rattle.tally_returns.specs.Counts.{VoteCounts}
 use Rattle.tally_returns.specs.Decide.{station_in}
 use Rattle.tally_returns.specs.Return.{Returns}
 use Rattle.tally_returns.specs.declared.ask.Ask.TheVariants.{Lodge}
-use Rattle.tally_keeper.specs.Import.{RowAnswer, answers, is_lodged, returns_after_import}
-use Rattle.tally_keeper.specs.declared.import.Row.{Row}
-use Rattle.tally_keeper.specs.declared.import.Row.TheVariants as row
+use Rattle.tally_returns_rows.specs.Import.{RowAnswer, answers, is_lodged, returns_after_import}
+use Rattle.tally_returns_rows.specs.declared.import.Row.{Row}
+use Rattle.tally_returns_rows.specs.declared.import.Row.TheVariants as row
 use Rattle.tally_import.specs.ReturnRows.{station_limits_in}
 use Rattle.tally_import_votes.specs.Lot.{lot_places, words_given}
 use Rattle.tally_report_allotment.specs.Recount.{Recounted}
-use Rattle.tally_import_votes.specs.WantedRecount.{Wanted}
+use Rattle.tally_import_options.specs.WantedRecount.{Wanted}
 
 -- The constituency is one of a setup, in which no two stations have one code.
 abbrev pub IsOfSetup : Constituency → Type 0

@@ -2,9 +2,9 @@
 use Rattle.std.specs.Prelude.{◌≡◌, ⊤, ℕ, List, Option, Some, None, Result, Ok, Err, take}
 use Rattle.std.specs.Io.KnownBytes.{Appends, Keeps}
 use Rattle.tally_setup.specs.Constituency.{Constituency}
-use Rattle.tally_keeper.specs.declared.import.Row.{Row}
-use Rattle.tally_keeper.specs.declared.source.ImportFault.{ImportFault}
-use Rattle.tally_keeper.specs.declared.source.ImportFault.TheVariants as cause
+use Rattle.tally_returns_rows.specs.declared.import.Row.{Row}
+use Rattle.tally_returns_rows.specs.declared.source.ImportFault.{ImportFault}
+use Rattle.tally_returns_rows.specs.declared.source.ImportFault.TheVariants as cause
 use Rattle.tally_import.specs.ReturnRows.{bytes_coming, text_coming}
 use Rattle.tally_import_records.specs.Input.{Gave}
 use Rattle.tally_import_records.specs.declared.end.Stop.TheVariants as stopped
@@ -18,7 +18,7 @@ use Rattle.tally_import_votes.specs.declared.fault.VotesFault.TheVariants as fau
 use Rattle.tally_report_allotment.specs.Recount.{question_counted}
 use Rattle.tally_report_allotment.specs.RecountText.{IsRecountText}
 use Rattle.tally_import_recount.specs.Counted.{no_station, recounted_rows}
-use Rattle.tally_import_votes.specs.WantedRecount.{Wanted}
+use Rattle.tally_import_options.specs.WantedRecount.{Wanted}
 use Rattle.tally_import_recount.specs.declared.fault.RecountTrouble.{RecountTrouble}
 use Rattle.tally_import_recount.specs.declared.fault.RecountTrouble.TheVariants as trouble
 

@@ -9,5 +9,5 @@ mod without;
 
 pub use fault::RecountTrouble;
 pub use recount::{recount_csv, recount_watched};
+pub use tally_import_options::RecountOptions;
 pub use tally_import_records::{Sep, Watch};
-pub use tally_import_votes::RecountOptions;

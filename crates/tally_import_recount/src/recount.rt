@@ -4,11 +4,11 @@ ghost use Rattle.std.specs.Prelude.{◌≡◌, ◌≤◌, ℕ, List, Err, IfErr,
 ghost use Rattle.std.specs.Prelude.{length, map, option_map, string_bytes};
 ghost use Rattle.tally_setup.specs.Limits.{most_stations};
 ghost use Rattle.tally_import.specs.ReturnRowsValue.{unread_rows};
-ghost use Rattle.tally_import_records.specs.Watch.{NotesNothing, has_failed};
+ghost use Rattle.tally_import_records.specs.Watch.{has_failed};
 ghost use Rattle.tally_import_recount.specs.Counted.{IsOfSetup, count_named, counts_in};
 ghost use Rattle.tally_import_recount.specs.Counted.{recounted_rows};
 ghost use Rattle.tally_import_recount.specs.Recounts.{IsSilent, Recounts};
-ghost use Rattle.tally_import_votes.specs.WantedRecount.{wanted};
+ghost use Rattle.tally_import_options.specs.WantedRecount.{wanted};
 ghost use Rattle.tally_import_recount.specs.declared.fault.RecountTrouble.TheVariants as trouble;
 ghost use Rattle.tally_import_recount.specs.internal.Finds.{FindsText, IsOfReading, IsOutcome};
 ghost use Rattle.tally_import_recount.specs.internal.Finds.{trouble_of_rows};
@@ -16,10 +16,10 @@ ghost use Rattle.tally_import_recount.specs.internal.Register.{HasTaken, HasWord
 ghost use Rattle.tally_import_votes.specs.Lot.{words_given};
 ghost use Rattle.tally_import_votes.specs.declared.fault.AllotTrouble.TheVariants as allotting;
 ghost use Rattle.tally_import_votes.specs.declared.fault.VotesFault.TheVariants as votes;
-ghost use Rattle.tally_keeper.specs.declared.import.Row.{Row};
+ghost use Rattle.tally_returns_rows.specs.declared.import.Row.{Row};
 ghost use Rattle.tally_report_allotment.specs.Recount.{recounted};
 ghost use Rattle.tally_returns.specs.Return.{Returns};
-ghost use Rattle.tally_import.specs.internal.Progress.{Holds};
+ghost use Rattle.tally_import.specs.internal.Table.{Holds};
 
 use crate::fault::RecountTrouble;
 use crate::register::Register;
@@ -28,11 +28,12 @@ use std::alloc::{AllocError, Global};
 use std::collections::{HashMap, HashSet};
 use std::io::{Read, Write};
 use tally_import::{ReturnRows, list_codes, write_watched};
+use tally_import_options::RecountOptions;
 use tally_import_records::Watch;
-use tally_import_votes::{AllotTrouble, RecountOptions, VotesFault, lot_places, trouble_of};
-use tally_keeper::ImportFault;
+use tally_import_votes::{AllotTrouble, VotesFault, lot_places, trouble_of};
 use tally_report_allotment::{Recount, recount_text};
 use tally_returns::{Counts, Return};
+use tally_returns_rows::ImportFault;
 use tally_setup::{Code, Constituency, Station};
 
 /// Counts the returns of a text again, as closed, and writes the seats that they come to.
@@ -108,18 +109,8 @@ fn text_of_input<R: Read + Drop>(
     };
     let mut rows = ReturnRows::new(alloc, reader, options.sep, copy);
     let outcome = text_of_rows(alloc, con, options, &mut rows);
-    note(watch, rows.into_watch());
+    watch.add(rows.into_watch());
     outcome
-}
-
-/// Notes on a watch what another one of the same stream noted.
-fn note<R>(watch: &mut Watch<R>, other: Watch<R>)
-    ensures failed { has_failed other ≡ true → has_failed watch.new ≡ true }
-    ensures kept { has_failed other ≡ false → NotesNothing watch.old watch.new }
-{
-    if other.has_failed() {
-        *watch = other;
-    }
 }
 
 /// The text to write for the rows of a text of which nothing was read, or the trouble that comes

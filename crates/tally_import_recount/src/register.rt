@@ -10,9 +10,9 @@ ghost use Rattle.std.specs.HashSet.{contains};
 ghost use Rattle.std.specs.Str.{bytes_eq};
 ghost use Rattle.tally_frac.specs.Limits.{most_lists};
 ghost use Rattle.tally_setup.specs.Constituency.{Constituency, entitled};
-ghost use Rattle.tally_keeper.specs.Import.{is_lodged};
-ghost use Rattle.tally_keeper.specs.Source.{row_limit};
-ghost use Rattle.tally_keeper.specs.declared.import.Row.{Row};
+ghost use Rattle.tally_returns_rows.specs.Import.{is_lodged};
+ghost use Rattle.tally_returns_rows.specs.Source.{row_limit};
+ghost use Rattle.tally_returns_rows.specs.declared.import.Row.{Row};
 ghost use Rattle.tally_returns.specs.Counts.{VoteCounts};
 ghost use Rattle.tally_returns.specs.Lodge.{lodge, lodge_answer};
 ghost use Rattle.tally_returns.specs.Return.{Returns};
@@ -24,8 +24,8 @@ use crate::without::stations_named;
 use std::alloc::{AllocError, Global};
 use std::collections::{HashMap, HashSet};
 use tally_import_votes::{AllotTrouble, words_given};
-use tally_keeper::Row;
 use tally_returns::{Ask, Counts, LodgeReply, Return, decide_lodge};
+use tally_returns_rows::Row;
 use tally_setup::{Code, Constituency, Station};
 
 /// How far a recount has come.
@@ -45,7 +45,7 @@ pub(crate) struct Register {
 
 impl Register {
     ghost use Rattle.tally_import_recount.specs.Counted.{no_station};
-    ghost use Rattle.tally_import.specs.internal.Progress.{Holds};
+    ghost use Rattle.tally_import.specs.internal.Table.{Holds};
     ghost use Rattle.tally_import_recount.specs.internal.Finds.{IsNoStation};
     ghost use Rattle.tally_import_recount.specs.internal.Register.{HasStations, HasTaken, TakesRow};
 

@@ -2,8 +2,8 @@
 
 ghost use Rattle.std.specs.Prelude.{◌≡◌, ◌≤◌, List, [], Err, IfErr, IfSome, OnOk, false, true};
 ghost use Rattle.tally_frac.specs.Limits.{most_lists};
-ghost use Rattle.tally_keeper.specs.declared.import.Row.{Row};
-ghost use Rattle.tally_keeper.specs.declared.source.ImportFault.TheVariants as cause;
+ghost use Rattle.tally_returns_rows.specs.declared.import.Row.{Row};
+ghost use Rattle.tally_returns_rows.specs.declared.source.ImportFault.TheVariants as cause;
 ghost use Rattle.tally_import.specs.ReturnRowsValue.{unread_rows};
 ghost use Rattle.tally_import_recount.specs.Recounts.{AreRowsOf};
 ghost use Rattle.tally_import_recount.specs.internal.Finds.{IsFaultOfRows};
@@ -13,7 +13,7 @@ use crate::register::Register;
 use std::alloc::Global;
 use std::io::Read;
 use tally_import::ReturnRows;
-use tally_keeper::{ImportFault, ROW_LIMIT, RowSource};
+use tally_returns_rows::{ImportFault, ROW_LIMIT, RowSource};
 
 /// Takes all rows of a text of which nothing was read. With a fault the register is of no further
 /// use.

@@ -8,7 +8,7 @@ use Rattle.tally_import_records.specs.declared.end.Stop.{Stop}
 use Rattle.tally_import_votes.specs.Lot.{lot_places}
 use Rattle.tally_import_votes.specs.Troubles.{IsTroubleOf}
 use Rattle.tally_import_votes.specs.Votes.{VotesRead, votes_read}
-use Rattle.tally_import_votes.specs.Wanted.{Wanted}
+use Rattle.tally_import_options.specs.Wanted.{Wanted}
 use Rattle.tally_import_votes.specs.declared.fault.AllotTrouble.{AllotTrouble}
 use Rattle.tally_import_votes.specs.declared.fault.AllotTrouble.TheVariants as trouble
 use Rattle.tally_import_votes.specs.declared.fault.VotesFault.{VotesFault}

@@ -2,6 +2,4 @@ pub mod Allots
 pub mod Lot
 pub mod Troubles
 pub mod Votes
-pub mod Wanted
-pub mod WantedRecount
 pub mod internal

@@ -7,7 +7,7 @@ ghost use Rattle.tally_frac.specs.Limits.{most_lists, most_votes};
 ghost use Rattle.tally_import_records.specs.Watch.{NotesStop, has_failed};
 ghost use Rattle.tally_import_votes.specs.Allots.{Allots, IsSilent, question_result};
 ghost use Rattle.tally_import_votes.specs.Troubles.{IsTroubleOf, codes_marked};
-ghost use Rattle.tally_import_votes.specs.Wanted.{wanted};
+ghost use Rattle.tally_import_options.specs.Wanted.{wanted};
 ghost use Rattle.tally_import_votes.specs.declared.fault.AllotTrouble.TheVariants as trouble;
 ghost use Rattle.tally_import_votes.specs.declared.fault.VotesFault.TheVariants as fault_of_votes;
 ghost use Rattle.tally_import_votes.specs.internal.Reading.{FindsText, GivesQuestion, IsOfReading};
@@ -16,13 +16,13 @@ ghost use Rattle.tally_report_allotment.specs.Question.{Question, poll_asked, ru
 
 use crate::fault::{AllotTrouble, VotesFault};
 use crate::lot::lot_places;
-use crate::options::AllotOptions;
 use crate::votes::{Votes, read_votes};
 use std::alloc::{AllocError, Global};
 use std::io::{Read, Write};
 use tally_allot::AllotFault;
 use tally_frac::{ListSet, MOST_VOTES};
 use tally_import::write_watched;
+use tally_import_options::AllotOptions;
 use tally_import_records::{Watch, WholeText, read_whole};
 use tally_report_allotment::{Asked, allotment_text};
 use tally_setup::Code;

@@ -4,11 +4,10 @@
 mod allot;
 mod fault;
 mod lot;
-mod options;
 mod votes;
 
 pub use allot::{allot_csv, allot_watched, trouble_of};
 pub use fault::{AllotTrouble, BadVotes, VotesFault};
 pub use lot::{lot_places, words_given};
-pub use options::{AllotOptions, RecountOptions};
+pub use tally_import_options::AllotOptions;
 pub use tally_import_records::{Sep, Watch};

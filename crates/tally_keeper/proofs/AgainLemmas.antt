@@ -11,11 +11,11 @@ use Rattle.tally_returns.specs.declared.reply.LodgeReply.{LodgeReply}
 use Rattle.tally_returns.specs.declared.reply.LodgeReply.TheVariants.{Lodged, Same}
 use Rattle.tally_machine_law.proofs.StayLemmas.{Stay, run-stays, lodge-stays, not_lodged-again}
 use Rattle.tally_keeper.specs.Events.{answers_of, asks_of}
-use Rattle.tally_keeper.specs.Import.{RowAnswer, row_answer, after_row, answers, returns_after_import, is_lodged}
+use Rattle.tally_returns_rows.specs.Import.{RowAnswer, row_answer, after_row, answers, returns_after_import, is_lodged}
 use Rattle.tally_keeper.specs.Keeper.{Event, HappensInTurn, Happens, IsImport, whole_import}
-use Rattle.tally_keeper.specs.declared.import.ImportCount.{ImportCount}
-use Rattle.tally_keeper.specs.declared.import.Row.{Row}
-use Rattle.tally_keeper.specs.declared.import.Row.TheVariants as row
+use Rattle.tally_returns_rows.specs.declared.import.ImportCount.{ImportCount}
+use Rattle.tally_returns_rows.specs.declared.import.Row.{Row}
+use Rattle.tally_returns_rows.specs.declared.import.Row.TheVariants as row
 use Rattle.tally_keeper.proofs.KeeperLemmas.{happen-run}
 
 row-stays : (stations : Stations) (m : Returns) (r : Row) → Stay m (after_row stations m r)

@@ -27,8 +27,8 @@ use Rattle.tally_machine_law.proofs.ReturnStepLemmas.{opening-lawful}
 use Rattle.tally_keeper.specs.EnteredTwice.{ActsIn, BringsIn, HoldsAt, IsEnteredTwiceIn}
 use Rattle.tally_keeper.specs.Events.{BringsCodes, lodge_answers, lodge_commands}
 use Rattle.tally_keeper.specs.Keeper.{Event, Happens, HappensInTurn, IsTaken, failed_import, request, whole_import}
-use Rattle.tally_keeper.specs.declared.import.Row.{Row}
-use Rattle.tally_keeper.specs.declared.import.Row.TheVariants as row
+use Rattle.tally_returns_rows.specs.declared.import.Row.{Row}
+use Rattle.tally_returns_rows.specs.declared.import.Row.TheVariants as row
 use Rattle.tally_keeper.proofs.EventLemmas.{happen-lawful}
 use Rattle.tally_keeper.proofs.KeeperLemmas.{import-run, shut-stays}
 

@@ -19,10 +19,10 @@ use Rattle.tally_machine_law.proofs.ActLemmas.{answered-idle}
 use Rattle.tally_machine_law.proofs.LawLemmas.{run-lawful}
 use Rattle.tally_machine_law.proofs.RunLemmas.{second-idle}
 use Rattle.tally_keeper.specs.Events.{BringsCodes, acts, answers_of, asks_of, lodge_answers, lodge_commands}
-use Rattle.tally_keeper.specs.Import.{RowAnswer, IsCodedRow, is_lodged}
+use Rattle.tally_returns_rows.specs.Import.{RowAnswer, IsCodedRow, is_lodged}
 use Rattle.tally_keeper.specs.Keeper.{Event, HappensInTurn, Happens, IsTaken, failed_import, request, whole_import}
-use Rattle.tally_keeper.specs.declared.import.Row.{Row}
-use Rattle.tally_keeper.specs.declared.import.Row.TheVariants as row
+use Rattle.tally_returns_rows.specs.declared.import.Row.{Row}
+use Rattle.tally_returns_rows.specs.declared.import.Row.TheVariants as row
 use Rattle.tally_keeper.proofs.KeeperLemmas.{happen-run, import-run, shut-stays, some-run}
 
 -- ---- the slips are codes

@@ -12,11 +12,11 @@ use Rattle.tally_returns.specs.declared.reply.LodgeReply.{LodgeReply}
 use Rattle.tally_returns.specs.declared.reply.LodgeReply.TheVariants.{Lodged, Same}
 use Rattle.tally_returns.specs.declared.reply.Reply.{Reply}
 use Rattle.tally_keeper.specs.Events.{answers_of, as_answer, asks_of, lodge_answers, lodge_commands}
-use Rattle.tally_keeper.specs.Import.{RowAnswer, answers, count_of, returns_after_import}
+use Rattle.tally_returns_rows.specs.Import.{RowAnswer, answers, count_of, returns_after_import}
 use Rattle.tally_keeper.specs.Keeper.{Event, HappensInTurn, Happens, IsImport, IsNotTaken, IsTaken, Runs, failed_import, request, requests, whole_import}
-use Rattle.tally_keeper.specs.declared.import.ImportCount.{ImportCount}
-use Rattle.tally_keeper.specs.declared.import.Row.{Row}
-use Rattle.tally_keeper.specs.declared.import.Row.TheVariants as row
+use Rattle.tally_returns_rows.specs.declared.import.ImportCount.{ImportCount}
+use Rattle.tally_returns_rows.specs.declared.import.Row.{Row}
+use Rattle.tally_returns_rows.specs.declared.import.Row.TheVariants as row
 use Rattle.tally_keeper.proofs.HeldLemmas.{lodge-step}
 
 -- a keeper that was shut stays so

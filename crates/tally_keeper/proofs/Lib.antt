@@ -10,10 +10,8 @@ pub mod AgainLemmas
 pub mod CarryLemmas
 pub mod EventLemmas
 pub mod HeldLemmas
-pub mod ImportLemmas
 pub mod KeeperLemmas
 pub mod LodgeLemmas
-pub mod RowsLemmas
 pub mod RunLemmas
 pub mod StaysLemmas
 pub mod StepLemmas

@@ -9,19 +9,19 @@ use Rattle.tally_returns.specs.Return.{Returns}
 use Rattle.tally_returns.specs.State.{State, stations_of}
 use Rattle.tally_returns.specs.declared.ask.Ask.TheVariants.{Lodge}
 use Rattle.tally_keeper.specs.internal.Held.{IsHeld, returns_without}
-use Rattle.tally_keeper.specs.Import.{RowAnswer, IsBelow, IsCodedRow, row_answer, after_row, answers, returns_after_import, count_of, count_with_row}
-use Rattle.tally_keeper.specs.Given.{with_given}
+use Rattle.tally_returns_rows.specs.Import.{RowAnswer, IsBelow, IsCodedRow, row_answer, after_row, answers, returns_after_import, count_of, count_with_row}
+use Rattle.tally_returns_rows.specs.Given.{with_given}
 use Rattle.tally_keeper.specs.Keeper.{IsImportFault, IsImportOf, IsOwnFault, Tries}
-use Rattle.tally_keeper.specs.Source.{AreAllGiven, AreGiven, Coming, Delivery, GaveAll, IsSudden, GivesNext, SourceAt, ends_by, row_limit}
-use Rattle.tally_keeper.specs.NamedRows.{NamesRows, named_row, named_rows}
-use Rattle.tally_keeper.specs.declared.import.ImportCount.{ImportCount}
-use Rattle.tally_keeper.specs.declared.import.NamedRow.{NamedRow}
-use Rattle.tally_keeper.specs.declared.import.Row.{Row}
-use Rattle.tally_keeper.specs.declared.import.Row.TheVariants as row
-use Rattle.tally_keeper.specs.declared.source.ImportFault.{ImportFault}
+use Rattle.tally_returns_rows.specs.Source.{AreAllGiven, AreGiven, Coming, Delivery, GaveAll, IsSudden, GivesNext, SourceAt, ends_by, row_limit}
+use Rattle.tally_returns_rows.specs.NamedRows.{NamesRows, named_row, named_rows}
+use Rattle.tally_returns_rows.specs.declared.import.ImportCount.{ImportCount}
+use Rattle.tally_returns_rows.specs.declared.import.NamedRow.{NamedRow}
+use Rattle.tally_returns_rows.specs.declared.import.Row.{Row}
+use Rattle.tally_returns_rows.specs.declared.import.Row.TheVariants as row
+use Rattle.tally_returns_rows.specs.declared.source.ImportFault.{ImportFault}
 use Rattle.tally_keeper.proofs.HeldLemmas.{held-lodge}
-use Rattle.tally_keeper.proofs.ImportLemmas.{count_of-below, count_of-push}
-use Rattle.tally_keeper.proofs.RowsLemmas.{imported-push, answers-push, length-answers, named_rows-push}
+use Rattle.tally_returns_rows.proofs.ImportLemmas.{count_of-below, count_of-push}
+use Rattle.tally_returns_rows.proofs.RowsLemmas.{imported-push, answers-push, length-answers, named_rows-push}
 
 -- what a source answers to a call, its state before it and after it
 abbrev pub GivesAt : SourceAt → Result (Option Row) ImportFault → SourceAt → Type 0

@@ -10,10 +10,10 @@ use Rattle.tally_returns.specs.declared.ask.Ask.TheVariants.{Lodge}
 use Rattle.tally_returns.specs.declared.refusal.Refusal.{Refusal}
 use Rattle.tally_returns.specs.declared.reply.LodgeReply.{LodgeReply}
 use Rattle.tally_returns.specs.declared.reply.Reply.{Reply}
-use Rattle.tally_keeper.specs.Import.{RowAnswer, is_lodged}
+use Rattle.tally_returns_rows.specs.Import.{RowAnswer, is_lodged}
 use Rattle.tally_keeper.specs.Keeper.{Event, request, whole_import, failed_import}
-use Rattle.tally_keeper.specs.declared.import.Row.{Row}
-use Rattle.tally_keeper.specs.declared.import.Row.TheVariants as row
+use Rattle.tally_returns_rows.specs.declared.import.Row.{Row}
+use Rattle.tally_returns_rows.specs.declared.import.Row.TheVariants as row
 
 -- the Lodge commands of the rows, in order: the other rows are passed over
 abbrev pub lodge_commands : List Row → List Ask

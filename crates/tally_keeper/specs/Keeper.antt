@@ -7,13 +7,14 @@ use Rattle.tally_machine_law.specs.Step.{IsAnswered, IsNotAccepted}
 use Rattle.tally_returns.specs.declared.ask.Ask.{Ask}
 use Rattle.tally_returns.specs.declared.refusal.Refusal.{Refusal}
 use Rattle.tally_returns.specs.declared.reply.Reply.{Reply}
-use Rattle.tally_keeper.specs.Import.{RowAnswer, IsCodedRow, answers, returns_after_import}
-use Rattle.tally_keeper.specs.Import.{count_of}
-use Rattle.tally_keeper.specs.Source.{AreAllGiven, AreGiven, Coming, Delivery, IsSudden, row_limit}
-use Rattle.tally_keeper.specs.declared.import.ImportCount.{ImportCount}
-use Rattle.tally_keeper.specs.declared.import.Row.{Row}
-use Rattle.tally_keeper.specs.declared.source.ImportFault.{ImportFault}
-use Rattle.tally_keeper.specs.declared.source.ImportFault.TheVariants.{TooLong, Memory, Store}
+use Rattle.tally_returns_rows.specs.Import.{RowAnswer, IsCodedRow, answers, returns_after_import}
+use Rattle.tally_returns_rows.specs.Import.{count_of}
+use Rattle.tally_returns_rows.specs.Source.{AreAllGiven, AreGiven, Coming, Delivery, IsSudden}
+use Rattle.tally_returns_rows.specs.Source.{row_limit}
+use Rattle.tally_returns_rows.specs.declared.import.ImportCount.{ImportCount}
+use Rattle.tally_returns_rows.specs.declared.import.Row.{Row}
+use Rattle.tally_returns_rows.specs.declared.source.ImportFault.{ImportFault}
+use Rattle.tally_returns_rows.specs.declared.source.ImportFault.TheVariants.{TooLong, Memory, Store}
 
 -- What happens to a keeper: a request with its answer; an import that was done, with the rows that
 -- came, what each of them was answered and the count of that; or an import with a fault.

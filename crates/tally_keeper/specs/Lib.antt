@@ -2,16 +2,11 @@ pub mod internal
 pub mod MapOf
 pub mod Kept
 pub mod MovedSum
-pub mod Delivery
 pub mod Events
 pub mod FaultNumbers
-pub mod Given
 pub mod Held
-pub mod Import
 pub mod Keeper
-pub mod NamedRows
 pub mod Shown
-pub mod Source
 pub mod Stays
 pub mod StaysKeeper
 pub mod EnteredTwice

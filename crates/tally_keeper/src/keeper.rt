@@ -8,17 +8,16 @@ ghost use Rattle.tally_returns.specs.State.{State};
 ghost use Rattle.tally_returns.specs.View.{FitsView};
 ghost use Rattle.tally_machine_law.specs.Kinds.{IsReplyTo};
 ghost use Rattle.tally_machine_law.specs.LawfulState.{IsLawfulState};
-ghost use Rattle.tally_keeper.specs.Delivery.{delivery};
+ghost use Rattle.tally_returns_rows.specs.Delivery.{delivery};
 ghost use Rattle.tally_keeper.specs.Keeper.{Happens, Imports, Tries, request};
-ghost use Rattle.tally_keeper.specs.NamedRows.{NamesRows};
+ghost use Rattle.tally_returns_rows.specs.NamedRows.{NamesRows};
 ghost use Rattle.tally_keeper.specs.Shown.{AnswersShowCon, ShowsReturns};
 ghost use Rattle.tally_keeper.specs.Stays.{StaysBy};
-ghost use Rattle.tally_keeper.specs.declared.source.ImportFault.TheVariants as fault;
+ghost use Rattle.tally_returns_rows.specs.declared.source.ImportFault.TheVariants as fault;
 ghost use Rattle.tally_returns.specs.declared.refusal.Refusal.TheVariants as refusal;
 
-use crate::import::{ImportCount, NamedRow};
-use crate::source::{ImportFault, RowSource};
 use tally_returns::{Ask, ConView, Refusal, Reply, StationRow};
+use tally_returns_rows::{ImportCount, ImportFault, NamedRow, RowSource};
 use tally_setup::{Code, Setup};
 
 /// Keeps the office's state, in memory or in a database.

@@ -4,23 +4,15 @@
 #![tactic(auto)]
 
 mod fault;
-mod given;
-mod import;
 mod keeper;
 mod ledger;
 mod returns;
 mod runs;
-mod source;
 mod sums;
 mod views;
 
 pub use fault::{CreateFault, OpenFault};
-pub use given::Given;
-pub use import::{
-    BadRow, Column, FirstRow, ImportCount, NamedRow, Row, RowCause, name_bad, name_refused,
-};
 pub use keeper::Keeper;
 pub use ledger::Ledger;
 pub use runs::run;
-pub use source::{ImportFault, ROW_LIMIT, RowSource};
 pub use sums::moved;

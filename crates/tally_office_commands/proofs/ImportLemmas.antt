@@ -3,11 +3,11 @@ use Rattle.std.proofs.Common.{◌≡◌, ◌≤◌, ◌+◌, ℕ, Bool, true, fa
 use Rattle.std.specs.Prelude.{IsOk}
 use Rattle.tally_setup.specs.Constituency.{Constituency}
 use Rattle.tally_returns.specs.State.{State, stations_of}
-use Rattle.tally_keeper.specs.Import.{answers}
+use Rattle.tally_returns_rows.specs.Import.{answers}
 use Rattle.tally_keeper.specs.Keeper.{Happens, Imports, IsImportFault, IsOwnFault, failed_import}
-use Rattle.tally_keeper.specs.NamedRows.{NamesRows}
-use Rattle.tally_keeper.specs.Source.{Delivery, SourceAt, row_limit}
-use Rattle.tally_keeper.proofs.RowsLemmas.{length-named_rows}
+use Rattle.tally_returns_rows.specs.NamedRows.{NamesRows}
+use Rattle.tally_returns_rows.specs.Source.{Delivery, SourceAt, row_limit}
+use Rattle.tally_returns_rows.proofs.RowsLemmas.{length-named_rows}
 use Rattle.tally_keeper.proofs.TakenLemmas.{own-first}
 use Rattle.tally_import.specs.ReturnRows.{text_coming}
 use Rattle.tally_import.specs.ReturnRowsValue.{ReturnRows, rows_to_come, unread_rows}
@@ -18,10 +18,10 @@ use Rattle.tally_office_commands.specs.internal.Room.{room_of_lines}
 use Rattle.tally_office_trouble.specs.Trouble.{import_trouble}
 use Rattle.tally_office_trouble.specs.declared.trouble.Trouble.{Trouble}
 use Rattle.tally_office_trouble.specs.declared.trouble.Trouble.TheVariants as trouble
-use Rattle.tally_keeper.specs.declared.import.ImportCount.{ImportCount}
-use Rattle.tally_keeper.specs.declared.import.NamedRow.{NamedRow}
-use Rattle.tally_keeper.specs.declared.source.ImportFault.{ImportFault}
-use Rattle.tally_keeper.specs.declared.source.ImportFault.TheVariants.{BadHeader, TooLong, Read, Memory, Store}
+use Rattle.tally_returns_rows.specs.declared.import.ImportCount.{ImportCount}
+use Rattle.tally_returns_rows.specs.declared.import.NamedRow.{NamedRow}
+use Rattle.tally_returns_rows.specs.declared.source.ImportFault.{ImportFault}
+use Rattle.tally_returns_rows.specs.declared.source.ImportFault.TheVariants.{BadHeader, TooLong, Read, Memory, Store}
 
 -- an import that was not done, since it was out of memory
 pub memory-import : (setup : List Constituency) (old : Option State) (at : SourceAt) → Imports setup old (record { start = at; finish = at }) (Err Memory) old

@@ -6,12 +6,12 @@ use Rattle.tally_setup.specs.Setup.{constituency_with}
 use Rattle.tally_import_records.specs.declared.separator.Sep.{Sep}
 use Rattle.tally_returns.specs.State.{State}
 use Rattle.tally_keeper.specs.Keeper.{Imports}
-use Rattle.tally_keeper.specs.NamedRows.{NamesRows}
-use Rattle.tally_keeper.specs.Source.{Coming, Delivery}
-use Rattle.tally_keeper.specs.declared.import.ImportCount.{ImportCount}
-use Rattle.tally_keeper.specs.declared.import.NamedRow.{NamedRow}
-use Rattle.tally_keeper.specs.declared.source.ImportFault.{ImportFault}
-use Rattle.tally_import.specs.Check.{count_text}
+use Rattle.tally_returns_rows.specs.NamedRows.{NamesRows}
+use Rattle.tally_returns_rows.specs.Source.{Coming, Delivery}
+use Rattle.tally_returns_rows.specs.declared.import.ImportCount.{ImportCount}
+use Rattle.tally_returns_rows.specs.declared.import.NamedRow.{NamedRow}
+use Rattle.tally_returns_rows.specs.declared.source.ImportFault.{ImportFault}
+use Rattle.tally_import.specs.CountLines.{count_text}
 use Rattle.tally_import.specs.ReturnRows.{text_coming}
 use Rattle.tally_import.specs.RowLines.{row_lines}
 use Rattle.tally_office_trouble.specs.Trouble.{import_trouble}

@@ -1,6 +1,6 @@
 -- What is reported of an office that was made.
 use Rattle.std.specs.Prelude.{◌≡◌, ℕ, List, length, codes}
-use Rattle.tally_import.specs.Check.{named_number}
+use Rattle.tally_import.specs.CountLines.{named_number}
 use Rattle.tally_setup.specs.Constituency.{Constituency}
 
 -- a line of how many constituencies there are

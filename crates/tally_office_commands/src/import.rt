@@ -6,8 +6,8 @@ ghost use Rattle.std.specs.Prelude.{string_len, true};
 ghost use Rattle.tally_setup.specs.Constituency.{list_codes};
 ghost use Rattle.tally_setup.specs.Setup.{constituency_with};
 ghost use Rattle.tally_import_records.specs.Watch.{NotesNothing, has_failed};
-ghost use Rattle.tally_keeper.specs.Delivery.{delivery};
-ghost use Rattle.tally_keeper.specs.Source.{row_limit};
+ghost use Rattle.tally_returns_rows.specs.Delivery.{delivery};
+ghost use Rattle.tally_returns_rows.specs.Source.{row_limit};
 ghost use Rattle.tally_keeper.specs.StaysKeeper.{StaysKeeper};
 ghost use Rattle.tally_office_commands.specs.Done.{IsFileImported, IsImportedAt};
 ghost use Rattle.tally_office_commands.specs.Imported.{IsCountText, IsImportTrouble, IsImportText};
@@ -28,8 +28,9 @@ use std::alloc::Global;
 use std::io::{Read, Write};
 use tally_import::room::{COUNT_ROOM, push_count};
 use tally_import::{LINE_ROOM, ReturnRows, Sep, Watch, list_codes, push_lines};
-use tally_keeper::{ImportCount, Keeper, NamedRow, ROW_LIMIT, RowSource};
+use tally_keeper::Keeper;
 use tally_office_trouble::{NamedFiles, Trouble, con_with_code};
+use tally_returns_rows::{ImportCount, NamedRow, ROW_LIMIT, RowSource};
 use tally_setup::{Code, Constituency, Setup};
 
 /// Lodges the returns of a file, and with `lines` names each row that is not lodged.
@@ -191,19 +192,8 @@ fn import_constituency<K: Keeper, R: Read + Drop>(
 {
     let mut rows = ReturnRows::new(alloc, reader, sep, con);
     let outcome = import_from(alloc, keeper, &mut rows, lists, lines);
-    note(watch, rows.into_watch());
+    watch.add(rows.into_watch());
     outcome
-}
-
-/// Notes a failed read on a watch if another one, of the same stream, noted it. Otherwise the watch
-/// notes nothing.
-fn note<R>(watch: &mut Watch<R>, other: Watch<R>)
-    ensures failed { has_failed other ≡ true → has_failed watch.new ≡ true }
-    ensures kept { has_failed other ≡ false → NotesNothing watch.old watch.new }
-{
-    if other.has_failed() {
-        *watch = other;
-    }
 }
 
 /// Imports the rows of a source: all that it gives, or with a trouble none, unless a failed disk

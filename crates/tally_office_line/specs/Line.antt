@@ -21,9 +21,9 @@ use Rattle.clap.specs.declared.builder.ValueParser.TheVariants.{Unsigned}
 use Rattle.tally_frac.specs.Limits.{most_seats, most_votes, whole_base}
 use Rattle.tally_import_records.specs.declared.separator.Sep.{Sep}
 use Rattle.tally_import_records.specs.declared.separator.Sep.TheVariants.{Comma, Semicolon}
-use Rattle.tally_import_votes.specs.WantedRecount.{Wanted as WantedRecount}
-use Rattle.tally_import_votes.specs.WantedRecount.{wanted as recount_wanted}
-use Rattle.tally_import_votes.specs.Wanted.{Wanted, wanted}
+use Rattle.tally_import_options.specs.WantedRecount.{Wanted as WantedRecount}
+use Rattle.tally_import_options.specs.WantedRecount.{wanted as recount_wanted}
+use Rattle.tally_import_options.specs.Wanted.{Wanted, wanted}
 use Rattle.tally_setup.specs.Method.{method_named}
 use Rattle.tally_setup.specs.declared.profile.Base.{Base}
 use Rattle.tally_setup.specs.declared.profile.Base.TheVariants.{Valid, Lists}

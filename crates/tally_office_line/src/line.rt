@@ -29,8 +29,8 @@ use clap::error::ErrorKind;
 use clap::{Arg, ArgAction, ArgMatches, Command};
 use std::alloc::{AllocError, Global};
 use tally_frac::MOST_VOTES;
+use tally_import_options::{AllotOptions, RecountOptions};
 use tally_import_records::Sep;
-use tally_import_votes::{AllotOptions, RecountOptions};
 use tally_report_names::Shown;
 use tally_setup::{Base, LotRule, Method, Profile};
 

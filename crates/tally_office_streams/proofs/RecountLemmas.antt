@@ -1,7 +1,7 @@
 -- How a recount ends, by what reading the setup and counting came to.
 use Rattle.std.proofs.Common.{◌≡◌, ℕ, List, Option, Some, None, IfSome, Result, refl, sym, inl, inr}
 use Rattle.tally_import_recount.specs.Recounts.{IsSilent, Recounts}
-use Rattle.tally_import_votes.specs.WantedRecount.{Wanted}
+use Rattle.tally_import_options.specs.WantedRecount.{Wanted}
 use Rattle.tally_import_recount.specs.declared.fault.RecountTrouble.{RecountTrouble}
 use Rattle.tally_setup.specs.Constituency.{Constituency}
 use Rattle.tally_setup.specs.Setup.{constituency_with}

@@ -1,11 +1,11 @@
 -- How a check and an allotment end, which read standard input and write standard output.
 use Rattle.std.specs.Prelude.{◌≡◌, ◌⊎◌, ℕ, Bool, IfSome, Result, Ok, Err, codes}
-use Rattle.tally_import.specs.Check.{Checks, IsSilent}
+use Rattle.tally_import_check.specs.Check.{Checks, IsSilent}
 use Rattle.tally_import.specs.declared.CheckFault.{CheckFault}
 use Rattle.tally_import_records.specs.declared.separator.Sep.{Sep}
 use Rattle.tally_import_votes.specs.Allots.{Allots, IsSilent as IsSilentAllot}
 use Rattle.tally_import_votes.specs.Troubles.{allot_line, allot_status}
-use Rattle.tally_import_votes.specs.Wanted.{Wanted}
+use Rattle.tally_import_options.specs.Wanted.{Wanted}
 use Rattle.tally_import_votes.specs.declared.fault.AllotTrouble.{AllotTrouble}
 use Rattle.tally_office_trouble.specs.Reported.{IsReported}
 use Rattle.tally_office_trouble.specs.Trouble.{check_trouble}

@@ -3,7 +3,7 @@
 use Rattle.std.specs.Prelude.{◌≡◌, ◌⊎◌, ℕ, List, Option, None, Some, IfSome, Result, Ok, Err, codes}
 use Rattle.tally_import_recount.specs.Recounts.{IsSilent, Recounts}
 use Rattle.tally_import_recount.specs.Troubles.{recount_line, recount_status}
-use Rattle.tally_import_votes.specs.WantedRecount.{Wanted}
+use Rattle.tally_import_options.specs.WantedRecount.{Wanted}
 use Rattle.tally_import_recount.specs.declared.fault.RecountTrouble.{RecountTrouble}
 use Rattle.tally_rules.specs.Reading.{setup_of_text}
 use Rattle.tally_setup.specs.Constituency.{Constituency}

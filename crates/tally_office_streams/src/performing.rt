@@ -1,7 +1,7 @@
 //! What is done for `check` and `allot`, and for the command line of a program that has no office.
 
 ghost use Rattle.std.specs.Prelude.{◌≡◌, map, string_bytes};
-ghost use Rattle.tally_import_votes.specs.Wanted.{wanted};
+ghost use Rattle.tally_import_options.specs.Wanted.{wanted};
 ghost use Rattle.tally_office_trouble.specs.Reported.{IsReported};
 ghost use Rattle.tally_office_streams.specs.Ends.{EndsAllot, EndsCheck, IsAllotAnswered};
 ghost use Rattle.tally_office_streams.specs.Ends.{check_outcome};
@@ -12,9 +12,11 @@ use crate::recounting::recount_streams;
 use crate::reporting::{DONE, USAGE, report_fault};
 use std::alloc::Global;
 use std::io::{Read, Write};
-use tally_import::{CheckFault, check_csv};
+use tally_import::CheckFault;
+use tally_import_check::check_csv;
+use tally_import_options::AllotOptions;
 use tally_import_records::Sep;
-use tally_import_votes::{AllotOptions, AllotTrouble, allot_csv};
+use tally_import_votes::{AllotTrouble, allot_csv};
 use tally_office_line::{Line, read_line};
 use tally_office_trouble::{NamedFiles, Trouble, tell};
 

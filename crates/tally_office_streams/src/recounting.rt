@@ -2,7 +2,7 @@
 //! `?` of an enum that holds a text (`Trouble`) has no proof yet.
 
 ghost use Rattle.std.specs.Prelude.{◌≡◌, Some};
-ghost use Rattle.tally_import_votes.specs.WantedRecount.{wanted};
+ghost use Rattle.tally_import_options.specs.WantedRecount.{wanted};
 ghost use Rattle.tally_setup.specs.Limits.{IsSetup};
 ghost use Rattle.tally_setup.specs.Setup.{constituency_with};
 ghost use Rattle.tally_office_streams.specs.Recounted.{EndsRecount, IsRecountAnswered};

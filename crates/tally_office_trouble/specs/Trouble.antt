@@ -6,8 +6,8 @@ use Rattle.tally_rules.specs.declared.fault.SetupFault.TheVariants as setup
 use Rattle.tally_rules.specs.declared.place.Place.{Place}
 use Rattle.tally_import.specs.declared.CheckFault.{CheckFault}
 use Rattle.tally_import.specs.declared.CheckFault.TheVariants as check
-use Rattle.tally_keeper.specs.declared.source.ImportFault.{ImportFault}
-use Rattle.tally_keeper.specs.declared.source.ImportFault.TheVariants as lodging
+use Rattle.tally_returns_rows.specs.declared.source.ImportFault.{ImportFault}
+use Rattle.tally_returns_rows.specs.declared.source.ImportFault.TheVariants as lodging
 use Rattle.tally_keeper.specs.declared.fault.CreateFault.{CreateFault}
 use Rattle.tally_keeper.specs.declared.fault.CreateFault.TheVariants as create
 use Rattle.tally_keeper.specs.declared.fault.OpenFault.{OpenFault}

@@ -19,7 +19,8 @@ use crate::place::put_place;
 use crate::standard_error::{put, put_named, tell};
 use std::io::{self, ErrorKind, Write};
 use tally_import::CheckFault;
-use tally_keeper::{CreateFault, ImportFault, OpenFault};
+use tally_keeper::{CreateFault, OpenFault};
+use tally_returns_rows::ImportFault;
 use tally_rules::{Place, SetupFault};
 
 /// The exit status where what was asked is refused.

@@ -31,9 +31,9 @@ use Rattle.tally_machine_law.proofs.LawLemmas.{answered-lawful}
 use Rattle.tally_store_open.specs.Numbers.{HasNumbers}
 use Rattle.tally_keeper.specs.Events.{BringsCodes}
 use Rattle.tally_keeper.specs.Keeper.{Event, Happens, Imports, IsImportFault, IsImportOf, failed_import, request, whole_import}
-use Rattle.tally_keeper.specs.Source.{Delivery}
-use Rattle.tally_keeper.specs.declared.import.ImportCount.{ImportCount}
-use Rattle.tally_keeper.specs.declared.source.ImportFault.{ImportFault}
+use Rattle.tally_returns_rows.specs.Source.{Delivery}
+use Rattle.tally_returns_rows.specs.declared.import.ImportCount.{ImportCount}
+use Rattle.tally_returns_rows.specs.declared.source.ImportFault.{ImportFault}
 use Rattle.tally_keeper.proofs.EventLemmas.{happen-lawful}
 use Rattle.tally_keeper.proofs.TreeLemmas.{get-tree}
 use Rattle.tally_store_commands.specs.internal.Inside.{IsLawfulInside, StaysInState}

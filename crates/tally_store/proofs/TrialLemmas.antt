@@ -8,11 +8,11 @@ use Rattle.tally_setup.specs.Constituency.{Constituency}
 use Rattle.tally_returns.specs.State.{State}
 use Rattle.tally_machine_law.specs.LawStatements.{ViewsAreLawful}
 use Rattle.tally_keeper.specs.Keeper.{IsImportFault, Tries}
-use Rattle.tally_keeper.specs.NamedRows.{NamesRows}
-use Rattle.tally_keeper.specs.Source.{Delivery}
-use Rattle.tally_keeper.specs.declared.import.ImportCount.{ImportCount}
-use Rattle.tally_keeper.specs.declared.import.NamedRow.{NamedRow}
-use Rattle.tally_keeper.specs.declared.source.ImportFault.{ImportFault}
+use Rattle.tally_returns_rows.specs.NamedRows.{NamesRows}
+use Rattle.tally_returns_rows.specs.Source.{Delivery}
+use Rattle.tally_returns_rows.specs.declared.import.ImportCount.{ImportCount}
+use Rattle.tally_returns_rows.specs.declared.import.NamedRow.{NamedRow}
+use Rattle.tally_returns_rows.specs.declared.source.ImportFault.{ImportFault}
 use Rattle.tally_store_commands.specs.internal.Inside.{IsLawfulInside}
 use Rattle.tally_store_commands.specs.internal.Known.{Known}
 use Rattle.tally_store_schema.specs.Office.{IsInside}

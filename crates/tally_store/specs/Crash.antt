@@ -13,9 +13,9 @@ use Rattle.tally_returns.specs.declared.refusal.Refusal.{Refusal}
 use Rattle.tally_returns.specs.declared.reply.Reply.{Reply}
 use Rattle.tally_keeper.specs.Keeper.{IsImportOf}
 use Rattle.tally_keeper.specs.Shown.{IsOwnRefusal}
-use Rattle.tally_keeper.specs.Source.{Delivery}
-use Rattle.tally_keeper.specs.declared.source.ImportFault.{ImportFault}
-use Rattle.tally_keeper.specs.declared.import.ImportCount.{ImportCount}
+use Rattle.tally_returns_rows.specs.Source.{Delivery}
+use Rattle.tally_returns_rows.specs.declared.source.ImportFault.{ImportFault}
+use Rattle.tally_returns_rows.specs.declared.import.ImportCount.{ImportCount}
 use Rattle.tally_store_open.specs.Create.{IsAsBefore}
 use Rattle.tally_store_open.specs.Office.{HasState, IsOffice, IsWholeOffice}
 use Rattle.tally_store.specs.Content.{content_of}

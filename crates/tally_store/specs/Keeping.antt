@@ -10,13 +10,13 @@ use Rattle.tally_returns.specs.declared.ask.Ask.{Ask}
 use Rattle.tally_returns.specs.declared.refusal.Refusal.{Refusal}
 use Rattle.tally_returns.specs.declared.station_row.StationRow.{StationRow}
 use Rattle.tally_keeper.specs.Keeper.{Event, Happens, Imports, Tries}
-use Rattle.tally_keeper.specs.NamedRows.{NamesRows}
+use Rattle.tally_returns_rows.specs.NamedRows.{NamesRows}
 use Rattle.tally_keeper.specs.Shown.{AnswersShowCon, ShowsReturns}
-use Rattle.tally_keeper.specs.Source.{Delivery}
+use Rattle.tally_returns_rows.specs.Source.{Delivery}
 use Rattle.tally_keeper.specs.Stays.{StaysBy}
-use Rattle.tally_keeper.specs.declared.import.ImportCount.{ImportCount}
-use Rattle.tally_keeper.specs.declared.import.NamedRow.{NamedRow}
-use Rattle.tally_keeper.specs.declared.source.ImportFault.{ImportFault}
+use Rattle.tally_returns_rows.specs.declared.import.ImportCount.{ImportCount}
+use Rattle.tally_returns_rows.specs.declared.import.NamedRow.{NamedRow}
+use Rattle.tally_returns_rows.specs.declared.source.ImportFault.{ImportFault}
 use Rattle.tally_store_open.specs.Office.{IsOffice}
 use Rattle.tally_store.specs.Certified.{HasCertificates}
 use Rattle.tally_store.specs.Content.{content_of}

@@ -3,7 +3,7 @@
 ghost use Rattle.std.specs.Prelude.{◌≡◌, [], false, Some, IfErr, IfOk};
 ghost use Rattle.sqlite.specs.State.{HasCleanDisk};
 ghost use Rattle.sqlite.specs.Held.{state};
-ghost use Rattle.tally_keeper.specs.Delivery.{delivery};
+ghost use Rattle.tally_returns_rows.specs.Delivery.{delivery};
 ghost use Rattle.tally_keeper.specs.Keeper.{request};
 ghost use Rattle.tally_keeper.specs.Shown.{IsReturnsRefusal, con_with};
 ghost use Rattle.tally_returns.specs.View.{FitsView};
@@ -24,9 +24,10 @@ ghost use Rattle.tally_store.specs.Keeping.{SurvivesRequest};
 use crate::requests::{answer_request, import_rows, show_request, show_stations, try_rows};
 use crate::store::Store;
 use sqlite::Alter;
-use tally_keeper::{ImportCount, ImportFault, Keeper, NamedRow, RowSource};
+use tally_keeper::Keeper;
 use tally_machine::laws;
 use tally_returns::{Ask, ConView, Refusal, Reply, StationRow};
+use tally_returns_rows::{ImportCount, ImportFault, NamedRow, RowSource};
 use tally_setup::{Code, Setup};
 
 impl<S: Alter> Keeper for Store<S> {

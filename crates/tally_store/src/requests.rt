@@ -4,9 +4,9 @@ ghost use Rattle.std.specs.Prelude.{◌≡◌, ◌↔◌, [], ◌⊎◌, false, 
 ghost use Rattle.std.specs.Prelude.{OnOk};
 ghost use Rattle.sqlite.specs.State.{HasCleanDisk};
 ghost use Rattle.sqlite.specs.Held.{state};
-ghost use Rattle.tally_keeper.specs.Delivery.{delivery};
+ghost use Rattle.tally_returns_rows.specs.Delivery.{delivery};
 ghost use Rattle.tally_keeper.specs.Keeper.{IsImportFault, IsOwnFault};
-ghost use Rattle.tally_keeper.specs.Source.{GaveAll};
+ghost use Rattle.tally_returns_rows.specs.Source.{GaveAll};
 ghost use Rattle.tally_store_open.specs.Crash.{IsUnwritten};
 ghost use Rattle.tally_store_open.specs.internal.Ending.{EndsUnchanged};
 ghost use Rattle.tally_keeper.specs.Shown.{IsReturnsRefusal, con_with};
@@ -35,8 +35,8 @@ ghost use Rattle.tally_store.specs.internal.Served.{IsKnownOf};
 use sqlite::{Alter, Connection, Error, ErrorCode, Transaction};
 use std::alloc::Global;
 use std::collections::BTreeMap;
-use tally_keeper::{ImportCount, ImportFault, NamedRow, RowSource};
 use tally_returns::{Ask, ConView, Refusal, Reply, StationRow};
+use tally_returns_rows::{ImportCount, ImportFault, NamedRow, RowSource};
 use tally_setup::{Code, Setup};
 use tally_store_commands::{
     answer_in, import_fault_of, see_open, show_con_in, show_returns_in, take_rows,

@@ -37,9 +37,9 @@ use Rattle.tally_setup.proofs.NamedLemmas.{Has, con-limits, station-found, stati
 use Rattle.tally_keeper.proofs.SumLemmas.{one_if, stations_in-total}
 use Rattle.tally_keeper.proofs.TreeLemmas.{get-tree, tree-insert}
 use Rattle.tally_keeper.specs.internal.Held.{moves_return}
-use Rattle.tally_keeper.specs.Import.{RowAnswer, after_row as returns_after_row, row_answer}
-use Rattle.tally_keeper.specs.declared.import.Row.{Row}
-use Rattle.tally_keeper.specs.declared.import.Row.TheVariants as row
+use Rattle.tally_returns_rows.specs.Import.{RowAnswer, after_row as returns_after_row, row_answer}
+use Rattle.tally_returns_rows.specs.declared.import.Row.{Row}
+use Rattle.tally_returns_rows.specs.declared.import.Row.TheVariants as row
 use Rattle.tally_keeper.proofs.HeldLemmas.{lodge-step}
 use Rattle.tally_keeper.proofs.LodgeLemmas.{lodged-none}
 use Rattle.tally_machine_law.specs.Step.{Answer, ConChange, IsAnswered, IsConStepSeen, IsNotAccepted, IsStep, IsStepSeenAt, state_after, after_change, after_put, after_return, certified_with, con_of_station, change_in_state, gone_for_good, lodge_reply, lot_set, move_reply, no_change, open_again, reply_seen, with_return, without_lot}

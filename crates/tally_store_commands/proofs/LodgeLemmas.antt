@@ -17,9 +17,9 @@ use Rattle.tally_machine_law.specs.LawfulState.{IsLawfulState}
 use Rattle.tally_machine_law.specs.Step.{lodge_reply, reply_seen}
 use Rattle.tally_machine_law.proofs.ReturnStepLemmas.{return-step-lawful}
 use Rattle.tally_keeper.proofs.HeldLemmas.{lodge-step}
-use Rattle.tally_keeper.specs.Import.{IsCodedRow, after_row}
-use Rattle.tally_keeper.specs.declared.import.Row.{Row}
-use Rattle.tally_keeper.specs.declared.import.Row.TheVariants as row
+use Rattle.tally_returns_rows.specs.Import.{IsCodedRow, after_row}
+use Rattle.tally_returns_rows.specs.declared.import.Row.{Row}
+use Rattle.tally_returns_rows.specs.declared.import.Row.TheVariants as row
 use Rattle.tally_store_commands.specs.internal.Requests.{IsCarriedOut}
 use Rattle.tally_store_commands.specs.internal.Lodging.{IsLodged, IsRowTaken}
 

@@ -16,17 +16,17 @@ use Rattle.tally_returns.specs.declared.ask.Ask.{Ask}
 use Rattle.tally_returns.specs.declared.ask.Ask.TheVariants.{Lodge}
 use Rattle.tally_machine_law.specs.LawfulState.{IsLawfulState}
 use Rattle.tally_keeper.specs.Kept.{Kept}
-use Rattle.tally_keeper.specs.Import.{IsBelow, IsCodedRow, RowAnswer, after_row, count_of, count_with_row, row_answer}
+use Rattle.tally_returns_rows.specs.Import.{IsBelow, IsCodedRow, RowAnswer, after_row, count_of, count_with_row, row_answer}
 use Rattle.tally_keeper.specs.Keeper.{IsImportFault, IsOwnFault}
-use Rattle.tally_keeper.specs.NamedRows.{NamesRows, named_row}
-use Rattle.tally_keeper.specs.Source.{Coming, Delivery, GaveAll, IsWithinRowLimit, SourceAt, row_limit}
-use Rattle.tally_keeper.specs.declared.import.ImportCount.{ImportCount}
-use Rattle.tally_keeper.specs.declared.import.NamedRow.{NamedRow}
-use Rattle.tally_keeper.specs.declared.import.Row.{Row}
-use Rattle.tally_keeper.specs.declared.import.Row.TheVariants as row
-use Rattle.tally_keeper.specs.declared.source.ImportFault.{ImportFault}
-use Rattle.tally_keeper.specs.declared.source.ImportFault.TheVariants.{TooLong}
-use Rattle.tally_keeper.proofs.ImportLemmas.{count_of-below, push_is}
+use Rattle.tally_returns_rows.specs.NamedRows.{NamesRows, named_row}
+use Rattle.tally_returns_rows.specs.Source.{Coming, Delivery, GaveAll, IsWithinRowLimit, SourceAt, row_limit}
+use Rattle.tally_returns_rows.specs.declared.import.ImportCount.{ImportCount}
+use Rattle.tally_returns_rows.specs.declared.import.NamedRow.{NamedRow}
+use Rattle.tally_returns_rows.specs.declared.import.Row.{Row}
+use Rattle.tally_returns_rows.specs.declared.import.Row.TheVariants as row
+use Rattle.tally_returns_rows.specs.declared.source.ImportFault.{ImportFault}
+use Rattle.tally_returns_rows.specs.declared.source.ImportFault.TheVariants.{TooLong}
+use Rattle.tally_returns_rows.proofs.ImportLemmas.{count_of-below, push_is}
 use Rattle.tally_keeper.proofs.TakenLemmas.{AreTaken, GivesAt, NamedSoFar, NamedSoFar-end, NamedSoFar-next, NamedSoFar-start, SoFar, SoFar-end, SoFar-fault, SoFar-next, SoFar-own, SoFar-start, all-given}
 use Rattle.tally_store_rows.specs.declared.views.Statuses.{Statuses}
 use Rattle.tally_store_commands.specs.internal.Known.{AreKnown, Known}

@@ -11,8 +11,8 @@ use Rattle.tally_returns.specs.declared.reply.LodgeReply.TheVariants.{Lodged, Sa
 use Rattle.tally_returns.specs.declared.reply.Reply.{Reply}
 use Rattle.tally_machine_law.specs.Runs.{is_act}
 use Rattle.tally_keeper.specs.Events.{as_answer}
-use Rattle.tally_keeper.specs.Import.{RowAnswer, count_with_row, is_lodged}
-use Rattle.tally_keeper.specs.declared.import.ImportCount.{ImportCount}
+use Rattle.tally_returns_rows.specs.Import.{RowAnswer, count_with_row, is_lodged}
+use Rattle.tally_returns_rows.specs.declared.import.ImportCount.{ImportCount}
 use Rattle.tally_store_schema.specs.Office.{IsInside}
 use Rattle.tally_store_entries.proofs.FindLemmas.{inside_still}
 use Rattle.tally_store_commands.specs.internal.Requests.{WritesOnlyActs}

@@ -2,11 +2,11 @@
 
 ghost use Rattle.std.specs.Prelude.{◌≡◌, ◌↔◌, ◌++◌, IfErr, IfOk};
 ghost use Rattle.sqlite.specs.Held.{state};
-ghost use Rattle.tally_keeper.specs.Delivery.{delivery};
-ghost use Rattle.tally_keeper.specs.Import.{IsCodedRow};
+ghost use Rattle.tally_returns_rows.specs.Delivery.{delivery};
+ghost use Rattle.tally_returns_rows.specs.Import.{IsCodedRow};
 ghost use Rattle.tally_keeper.specs.Keeper.{IsOwnFault};
-ghost use Rattle.tally_keeper.specs.NamedRows.{named_row};
-ghost use Rattle.tally_keeper.specs.declared.import.Row.{Row};
+ghost use Rattle.tally_returns_rows.specs.NamedRows.{named_row};
+ghost use Rattle.tally_returns_rows.specs.declared.import.Row.{Row};
 ghost use Rattle.tally_store_schema.specs.internal.Inside.{StaysInside};
 ghost use Rattle.tally_store_commands.specs.internal.Inside.{StaysInState};
 ghost use Rattle.tally_store_commands.specs.internal.Counting.{CountsRow};
@@ -17,10 +17,10 @@ use crate::returns::lodge;
 use sqlite::{Alter, Error, ErrorCode, Transaction};
 use std::alloc::Global;
 use std::collections::BTreeMap;
-use tally_keeper::{
+use tally_returns::{Ask, LodgeReply, Refusal};
+use tally_returns_rows::{
     ImportCount, ImportFault, NamedRow, ROW_LIMIT, Row, RowSource, name_bad, name_refused,
 };
-use tally_returns::{Ask, LodgeReply, Refusal};
 use tally_setup::{Code, Setup};
 use tally_store_rows::Statuses;
 use tally_store_schema::is_memory;

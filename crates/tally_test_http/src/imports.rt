@@ -4,7 +4,7 @@ use crate::lines::{cut, number};
 use std::alloc::Global;
 use std::test::Fail;
 use tally_desk_answer::{ANSWER_ROOM, BODY_ROOM, write_import};
-use tally_keeper::{FirstRow, ImportCount};
+use tally_returns_rows::{FirstRow, ImportCount};
 
 // Rows that are bad, differ, were lodged, were refused and were there already; then the first row
 // that was neither lodged nor there already, with the number of its refusal.

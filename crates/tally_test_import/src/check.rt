@@ -5,7 +5,8 @@ use crate::writers::Room;
 use std::alloc::{AllocError, Global};
 use std::io::ErrorKind;
 use std::test::Fail;
-use tally_import::{CheckFault, Sep, check_csv};
+use tally_import::{CheckFault, Sep};
+use tally_import_check::check_csv;
 use tally_test_scripts::{HEADER, Pieces};
 
 const RETURNS: &[u8] = b"\

@@ -5,7 +5,8 @@ use std::alloc::{AllocError, Global};
 use std::io::ErrorKind;
 use std::test::*;
 use tally_core::{Book, Keeper, RowSource};
-use tally_import::{ReturnRows, Sep, check_csv};
+use tally_import::{ReturnRows, Sep};
+use tally_import_check::check_csv;
 use tally_setup::Constituency;
 use tally_test_scripts::{
     Failing, TWIN_TOWN, TWO_ROWS_AND_A_PIECE, check_answers, failing_reads, text_of_import_from,

@@ -1,12 +1,12 @@
 //! Imports into a keeper in memory.
 
-ghost use Rattle.tally_keeper.specs.Source.{IsLodgeOrBad};
+ghost use Rattle.tally_returns_rows.specs.Source.{IsLodgeOrBad};
 
 use crate::setups::fresh;
 use std::alloc::Global;
 use std::test::*;
 use tally_core::{Ask, Book, ImportFault, Keeper, Row, RowSource};
-use tally_keeper::{BadRow, Given};
+use tally_returns_rows::{BadRow, Given};
 use tally_test_scripts::{TWIN_TOWN, check_answers, command};
 
 /// Gives rows of these commands, the last first; then it ends, or its reads fail.
@@ -20,8 +20,8 @@ struct Script {
 
 impl RowSource for Script {
     ghost use Rattle.std.specs.Prelude.{if◌then◌else◌, Some, None};
-    ghost use Rattle.tally_keeper.specs.Given.{rows_of};
-    ghost use Rattle.tally_keeper.specs.declared.source.ImportFault.TheVariants.{Read};
+    ghost use Rattle.tally_returns_rows.specs.Given.{rows_of};
+    ghost use Rattle.tally_returns_rows.specs.declared.source.ImportFault.TheVariants.{Read};
 
     ghost coming = { λ _. None };
 

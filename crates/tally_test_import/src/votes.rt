@@ -3,7 +3,8 @@
 use std::alloc::Global;
 use std::io::Read;
 use std::test::Fail;
-use tally_import_votes::{AllotOptions, Sep, allot_csv};
+use tally_import_options::AllotOptions;
+use tally_import_votes::{Sep, allot_csv};
 use tally_setup::{Base, LotRule, Method, Profile};
 
 // The example that LOREG article 163.1 c) prints, for eight seats.

@@ -5,7 +5,8 @@ use std::alloc::Global;
 use std::io::Read;
 use std::test::Fail;
 use tally_import::{ReturnRows, Sep};
-use tally_keeper::{ImportCount, ImportFault, Keeper, NamedRow};
+use tally_keeper::Keeper;
+use tally_returns_rows::{ImportCount, ImportFault, NamedRow};
 
 /// The outcome of importing a reader's text, and the rows that it names.
 fn import_named<K: Keeper, R: Read + Drop>(

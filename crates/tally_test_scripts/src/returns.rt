@@ -2,7 +2,7 @@
 
 use std::alloc::Global;
 use std::test::Fail;
-use tally_keeper::{FirstRow, ImportCount, ImportFault};
+use tally_returns_rows::{FirstRow, ImportCount, ImportFault};
 
 /// The first line of each text.
 pub const HEADER: &str = "station,slip,blank,spoiled,A,B\n";

@@ -18,15 +18,15 @@ use Rattle.tally_machine_law.specs.Decisions.{StepsAreOne}
 use Rattle.tally_machine_law.specs.Runs.{IsRun, IsSameCommand, is_act}
 use Rattle.tally_machine_law.specs.Step.{IsAnswered, IsNotAccepted, IsStep, reply_seen}
 use Rattle.tally_keeper.specs.Events.{acts, answers_of, asks_of, lodge_answers, lodge_commands}
-use Rattle.tally_keeper.specs.Import.{RowAnswer, is_lodged}
+use Rattle.tally_returns_rows.specs.Import.{RowAnswer, is_lodged}
 use Rattle.tally_keeper.specs.Keeper.{Event, HappensInTurn, Happens, failed_import, request, whole_import}
 use Rattle.tally_keeper.specs.Keeper as keeper
 use Rattle.tally_theorems.specs.KeeperLaws.{ActsAloneHappen, NoTwoEqualRequestsAct, TheSameImportLodgesNothing, WhatHappensToAKeeperIsARun}
-use Rattle.tally_keeper.specs.Source.{AreAllGiven, Coming, Delivery, IsSudden}
-use Rattle.tally_keeper.specs.declared.import.ImportCount.{ImportCount}
-use Rattle.tally_keeper.specs.declared.import.Row.{Row}
-use Rattle.tally_keeper.specs.declared.source.ImportFault.{ImportFault}
-use Rattle.tally_keeper.specs.declared.source.ImportFault.TheVariants as cause
+use Rattle.tally_returns_rows.specs.Source.{AreAllGiven, Coming, Delivery, IsSudden}
+use Rattle.tally_returns_rows.specs.declared.import.ImportCount.{ImportCount}
+use Rattle.tally_returns_rows.specs.declared.import.Row.{Row}
+use Rattle.tally_returns_rows.specs.declared.source.ImportFault.{ImportFault}
+use Rattle.tally_returns_rows.specs.declared.source.ImportFault.TheVariants as cause
 use Rattle.tally_import_records.specs.declared.separator.Sep.{Sep}
 use Rattle.tally_import.specs.ReturnRows.{text_coming}
 use Rattle.tally_desk_message.specs.declared.message.Message.{Message}

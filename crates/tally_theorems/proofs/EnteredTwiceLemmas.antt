@@ -28,12 +28,12 @@ use Rattle.tally_keeper.specs.EnteredTwice.{ActsIn, BringsIn, HoldsAt, IsEntered
 use Rattle.tally_keeper.specs.Events.{BringsCodes, lodge_commands}
 use Rattle.tally_keeper.specs.Keeper.{Event, Happens, HappensInTurn, failed_import, request, whole_import}
 use Rattle.tally_keeper.specs.Keeper as keeper
-use Rattle.tally_keeper.specs.Source.{Coming, Delivery}
-use Rattle.tally_keeper.specs.declared.import.ImportCount.{ImportCount}
-use Rattle.tally_keeper.specs.declared.import.Row.{Row}
-use Rattle.tally_keeper.specs.declared.import.Row.TheVariants as of_row
-use Rattle.tally_keeper.specs.declared.source.ImportFault.{ImportFault}
-use Rattle.tally_keeper.specs.declared.source.ImportFault.TheVariants.{Memory}
+use Rattle.tally_returns_rows.specs.Source.{Coming, Delivery}
+use Rattle.tally_returns_rows.specs.declared.import.ImportCount.{ImportCount}
+use Rattle.tally_returns_rows.specs.declared.import.Row.{Row}
+use Rattle.tally_returns_rows.specs.declared.import.Row.TheVariants as of_row
+use Rattle.tally_returns_rows.specs.declared.source.ImportFault.{ImportFault}
+use Rattle.tally_returns_rows.specs.declared.source.ImportFault.TheVariants.{Memory}
 use Rattle.tally_keeper.proofs.EnteredTwiceLemmas.{happen-closed_twice}
 use Rattle.tally_keeper.proofs.EventLemmas.{happen-lawful}
 use Rattle.tally_import_records.specs.declared.separator.Sep.{Sep}

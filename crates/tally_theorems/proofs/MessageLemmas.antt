@@ -18,9 +18,9 @@ use Rattle.tally_returns.specs.declared.refusal.Refusal.TheVariants.{NoConstitue
 use Rattle.tally_keeper.specs.Events.{BringsCodes}
 use Rattle.tally_keeper.specs.Keeper.{Event, HappensInTurn, Happens, failed_import, request, whole_import}
 use Rattle.tally_keeper.specs.Keeper as keeper
-use Rattle.tally_keeper.specs.Source.{Coming, Delivery}
-use Rattle.tally_keeper.specs.declared.import.ImportCount.{ImportCount}
-use Rattle.tally_keeper.specs.declared.source.ImportFault.{ImportFault}
+use Rattle.tally_returns_rows.specs.Source.{Coming, Delivery}
+use Rattle.tally_returns_rows.specs.declared.import.ImportCount.{ImportCount}
+use Rattle.tally_returns_rows.specs.declared.source.ImportFault.{ImportFault}
 use Rattle.tally_import.specs.ReturnRows.{text_coming}
 use Rattle.tally_desk_message.specs.Connection.{Connection}
 use Rattle.tally_desk_message.specs.declared.message.Message.{Message}

@@ -38,14 +38,14 @@ use Rattle.tally_returns.specs.declared.reply.LodgeReply.TheVariants.{Lodged, Sa
 use Rattle.tally_returns.specs.declared.station_row.StationRow.{StationRow}
 use Rattle.tally_returns.proofs.ClosedLemmas.{get-kept, get-put}
 use Rattle.tally_setup.proofs.NamedLemmas.{Apart, Differ, Has, all-has, apart-has, bytes_flipped, bytes_same, code_of_station, con-found, con-limits, found-has, station-only, stations-differ}
-use Rattle.tally_keeper.specs.Import.{RowAnswer, after_row, answers, count_of, first_note, is_bad, is_differing, is_lodged, is_refused, is_same, note_at, note_number, or_else, returns_after_import}
-use Rattle.tally_keeper.specs.Source.{Coming, row_limit}
-use Rattle.tally_keeper.specs.declared.import.FirstRow.{FirstRow}
-use Rattle.tally_keeper.specs.declared.import.ImportCount.{ImportCount}
-use Rattle.tally_keeper.specs.declared.import.Row.{Row}
-use Rattle.tally_keeper.specs.declared.import.Row.TheVariants as row
-use Rattle.tally_keeper.specs.declared.source.ImportFault.{ImportFault}
-use Rattle.tally_keeper.specs.declared.source.ImportFault.TheVariants.{BadHeader, TooLong}
+use Rattle.tally_returns_rows.specs.Import.{RowAnswer, after_row, answers, count_of, first_note, is_bad, is_differing, is_lodged, is_refused, is_same, note_at, note_number, or_else, returns_after_import}
+use Rattle.tally_returns_rows.specs.Source.{Coming, row_limit}
+use Rattle.tally_returns_rows.specs.declared.import.FirstRow.{FirstRow}
+use Rattle.tally_returns_rows.specs.declared.import.ImportCount.{ImportCount}
+use Rattle.tally_returns_rows.specs.declared.import.Row.{Row}
+use Rattle.tally_returns_rows.specs.declared.import.Row.TheVariants as row
+use Rattle.tally_returns_rows.specs.declared.source.ImportFault.{ImportFault}
+use Rattle.tally_returns_rows.specs.declared.source.ImportFault.TheVariants.{BadHeader, TooLong}
 use Rattle.tally_keeper.proofs.StepLemmas.{lawful-at, limits-known}
 use Rattle.tally_import_records.specs.Input.{complete_records, size_limit, text_records, text_stop}
 use Rattle.tally_import_records.specs.declared.end.Stop.TheVariants as stopped

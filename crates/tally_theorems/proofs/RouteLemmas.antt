@@ -16,9 +16,9 @@ use Rattle.tally_machine_law.specs.Runs.{is_act}
 use Rattle.tally_machine_law.specs.Step.{IsNotAccepted}
 use Rattle.tally_keeper.specs.Keeper.{Happens, Tries, request}
 use Rattle.tally_keeper.specs.Shown.{IsOwnRefusal, ShowsReturns}
-use Rattle.tally_keeper.specs.Source.{Delivery}
-use Rattle.tally_keeper.specs.declared.import.ImportCount.{ImportCount}
-use Rattle.tally_keeper.specs.declared.source.ImportFault.{ImportFault}
+use Rattle.tally_returns_rows.specs.Source.{Delivery}
+use Rattle.tally_returns_rows.specs.declared.import.ImportCount.{ImportCount}
+use Rattle.tally_returns_rows.specs.declared.source.ImportFault.{ImportFault}
 use Rattle.tally_import_records.specs.declared.separator.Sep.{Sep}
 use Rattle.tally_desk_message.specs.declared.message.Message.{Message}
 use Rattle.tally_desk_routes.specs.Bodies.{con_command, station_command}

@@ -6,14 +6,14 @@ use Rattle.tally_setup.specs.Constituency.{Constituency, list_codes}
 use Rattle.tally_setup.specs.Setup.{constituency_with}
 use Rattle.tally_returns.specs.State.{State, stations_of}
 use Rattle.tally_returns.specs.declared.refusal.Refusal.TheVariants.{NoConstituency}
-use Rattle.tally_keeper.specs.Import.{RowAnswer, answers, count_of}
+use Rattle.tally_returns_rows.specs.Import.{RowAnswer, answers, count_of}
 use Rattle.tally_keeper.specs.Keeper.{Happens, Tries, whole_import}
 use Rattle.tally_keeper.specs.Keeper as keeper
-use Rattle.tally_keeper.specs.Source.{Coming, Delivery}
-use Rattle.tally_keeper.specs.declared.import.ImportCount.{ImportCount}
-use Rattle.tally_keeper.specs.declared.import.NamedRow.{NamedRow}
-use Rattle.tally_keeper.specs.declared.import.Row.{Row}
-use Rattle.tally_keeper.specs.declared.source.ImportFault.{ImportFault}
+use Rattle.tally_returns_rows.specs.Source.{Coming, Delivery}
+use Rattle.tally_returns_rows.specs.declared.import.ImportCount.{ImportCount}
+use Rattle.tally_returns_rows.specs.declared.import.NamedRow.{NamedRow}
+use Rattle.tally_returns_rows.specs.declared.import.Row.{Row}
+use Rattle.tally_returns_rows.specs.declared.source.ImportFault.{ImportFault}
 use Rattle.tally_import_records.specs.declared.separator.Sep.{Sep}
 use Rattle.tally_import.specs.ReturnRows.{text_coming}
 use Rattle.tally_desk_message.specs.declared.message.Message.{Message}

@@ -18,7 +18,7 @@ use Rattle.tally_machine_law.specs.Runs.{is_act}
 use Rattle.tally_keeper.specs.EnteredTwice.{ActsIn, BringsIn, HoldsAt}
 use Rattle.tally_keeper.specs.Events.{BringsCodes, lodge_commands}
 use Rattle.tally_keeper.specs.Keeper.{Event, request, whole_import, failed_import}
-use Rattle.tally_keeper.specs.declared.import.Row.{Row}
+use Rattle.tally_returns_rows.specs.declared.import.Row.{Row}
 use Rattle.tally_import_records.specs.declared.separator.Sep.{Sep}
 use Rattle.tally_import.specs.ReturnRows.{text_coming}
 use Rattle.tally_desk_message.specs.Connection.{Connection}

@@ -6,10 +6,10 @@ use Rattle.std.specs.List.{filter}
 use Rattle.tally_keeper.specs.EnteredTwice.{IsEnteredTwiceIn}
 use Rattle.tally_keeper.specs.Events.{BringsCodes, acts, answers_of, asks_of, lodge_answers}
 use Rattle.tally_keeper.specs.Events.{lodge_commands}
-use Rattle.tally_keeper.specs.Import.{RowAnswer, count_of}
+use Rattle.tally_returns_rows.specs.Import.{RowAnswer, count_of}
 use Rattle.tally_keeper.specs.Keeper.{Event, HappensInTurn, Happens, IsImport, Runs, whole_import}
-use Rattle.tally_keeper.specs.declared.import.ImportCount.{ImportCount}
-use Rattle.tally_keeper.specs.declared.import.Row.{Row}
+use Rattle.tally_returns_rows.specs.declared.import.ImportCount.{ImportCount}
+use Rattle.tally_returns_rows.specs.declared.import.Row.{Row}
 use Rattle.tally_machine_law.specs.EnteredTwice.{ForCertifiedReturns, ForClosedReturns}
 use Rattle.tally_machine_law.specs.EnteredTwice.{IsEnteredTwice}
 use Rattle.tally_machine_law.specs.Step.{IsView}

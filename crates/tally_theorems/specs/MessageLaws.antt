@@ -12,7 +12,7 @@ use Rattle.tally_setup.specs.Limits.{IsSetup}
 use Rattle.tally_returns.specs.declared.refusal.Refusal.TheVariants.{NoConstituency}
 use Rattle.tally_keeper.specs.Events.{BringsCodes}
 use Rattle.tally_keeper.specs.Keeper.{Event, HappensInTurn}
-use Rattle.tally_keeper.specs.declared.import.ImportCount.{ImportCount}
+use Rattle.tally_returns_rows.specs.declared.import.ImportCount.{ImportCount}
 use Rattle.tally_desk_message.specs.Connection.{Connection}
 use Rattle.tally_desk_message.specs.LawStatements.{IsSame, IsSameMessage}
 use Rattle.tally_desk_message.specs.Message.{IsMessageOrFault}

@@ -15,10 +15,10 @@ use Rattle.tally_returns.specs.declared.ask.Ask.TheVariants as ask
 use Rattle.tally_returns.specs.declared.station_row.StationRow.{StationRow}
 use Rattle.tally_machine_law.specs.LawfulState.{IsLawfulState}
 use Rattle.tally_keeper.specs.Keeper.{ImportsComing}
-use Rattle.tally_keeper.specs.Source.{Delivery}
-use Rattle.tally_keeper.specs.declared.import.ImportCount.{ImportCount}
-use Rattle.tally_keeper.specs.declared.import.Row.{Row}
-use Rattle.tally_keeper.specs.declared.import.Row.TheVariants as row
+use Rattle.tally_returns_rows.specs.Source.{Delivery}
+use Rattle.tally_returns_rows.specs.declared.import.ImportCount.{ImportCount}
+use Rattle.tally_returns_rows.specs.declared.import.Row.{Row}
+use Rattle.tally_returns_rows.specs.declared.import.Row.TheVariants as row
 use Rattle.tally_import_records.specs.declared.separator.Sep.TheVariants.{Comma}
 use Rattle.tally_import.specs.ReturnRows.{text_coming}
 use Rattle.tally_report_overview.specs.ReturnsText.{returns_text}

@@ -1,8 +1,8 @@
 -- Trials of imports: a trial leaves the state, and the import that follows comes to what it said.
 -- These are the statements of laws.
 use Rattle.std.specs.Prelude.{◌≡◌, ◌≢◌, ◌⊎◌, ℕ, List, Ok}
-use Rattle.tally_keeper.specs.declared.import.ImportCount.{ImportCount}
-use Rattle.tally_keeper.specs.declared.import.NamedRow.{NamedRow}
+use Rattle.tally_returns_rows.specs.declared.import.ImportCount.{ImportCount}
+use Rattle.tally_returns_rows.specs.declared.import.NamedRow.{NamedRow}
 use Rattle.tally_import_records.specs.declared.separator.Sep.{Sep}
 use Rattle.tally_desk_message.specs.declared.message.Message.{Message}
 use Rattle.tally_desk_routes.specs.Routes.{con_of_target}

@@ -1,23 +1,24 @@
 //! An import into a keeper in memory.
 
 ghost use Rattle.std.specs.Prelude.{◌≡◌, ◌≢◌, ◌++◌, Some, true, IfErr, IfOk, OnOk};
-ghost use Rattle.tally_keeper.specs.Delivery.{delivery};
+ghost use Rattle.tally_returns_rows.specs.Delivery.{delivery};
 ghost use Rattle.tally_keeper.specs.internal.Held.{after_row_in, lodge_answer_in, after_lodge_in};
 ghost use Rattle.tally_keeper.specs.internal.Held.{row_answer_in, returns_without};
-ghost use Rattle.tally_keeper.specs.Import.{IsCodedRow};
+ghost use Rattle.tally_returns_rows.specs.Import.{IsCodedRow};
 ghost use Rattle.tally_keeper.specs.Keeper.{IsImportFault, IsImportOf};
-ghost use Rattle.tally_keeper.specs.NamedRows.{NamesRows, named_row};
-ghost use Rattle.tally_keeper.specs.declared.import.Row.{Row};
-ghost use Rattle.tally_keeper.specs.declared.source.ImportFault.TheVariants.{Store};
+ghost use Rattle.tally_returns_rows.specs.NamedRows.{NamesRows, named_row};
+ghost use Rattle.tally_returns_rows.specs.declared.import.Row.{Row};
+ghost use Rattle.tally_returns_rows.specs.declared.source.ImportFault.TheVariants.{Store};
 ghost use Rattle.tally_keeper.specs.Kept.{state_in};
 ghost use Rattle.tally_setup.specs.Code.{is_code};
 
 use super::answers::decide_first;
 use std::alloc::{AllocError, Global};
-use tally_keeper::{
-    ImportCount, ImportFault, Ledger, NamedRow, ROW_LIMIT, Row, RowSource, name_bad, name_refused,
-};
+use tally_keeper::Ledger;
 use tally_returns::{Ask, Counts, LodgeReply, Refusal, Return};
+use tally_returns_rows::{
+    ImportCount, ImportFault, NamedRow, ROW_LIMIT, Row, RowSource, name_bad, name_refused,
+};
 use tally_setup::Code;
 
 /// Lodges the rows of a source, and adds the stations that were lodged to a list, so that a fault

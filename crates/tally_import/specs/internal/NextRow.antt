@@ -1,8 +1,8 @@
 -- What the parts of a call for the next row answer.
 use Rattle.std.specs.Prelude.{ℕ, List, Option, Result}
 use Rattle.tally_setup.specs.Constituency.{Constituency}
-use Rattle.tally_keeper.specs.declared.import.Row.{Row}
-use Rattle.tally_keeper.specs.declared.source.ImportFault.{ImportFault}
+use Rattle.tally_returns_rows.specs.declared.import.Row.{Row}
+use Rattle.tally_returns_rows.specs.declared.source.ImportFault.{ImportFault}
 use Rattle.tally_import_records.specs.declared.separator.Sep.{Sep}
 use Rattle.tally_import.specs.ReturnRows.{Advances, IsAtStage}
 use Rattle.tally_import.specs.declared.return_rows.Stage.{Stage}

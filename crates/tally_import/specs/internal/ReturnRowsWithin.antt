@@ -3,9 +3,9 @@ use Rattle.std.proofs.Common.{◌≤◌, ℕ, zero, suc, List, [], ◌∷◌, Bo
 use Rattle.std.proofs.Common.{None, length, take, map, arith, length-drop}
 use Rattle.std.specs.Prelude.{◌≢◌, if◌then◌else◌, nat_lt, option_map, IfSome}
 use Rattle.tally_setup.specs.Constituency.{Constituency, list_codes}
-use Rattle.tally_keeper.specs.Source.{IsWithinRowLimit, row_limit}
-use Rattle.tally_keeper.specs.declared.source.ImportFault.{ImportFault}
-use Rattle.tally_keeper.specs.declared.source.ImportFault.TheVariants as cause
+use Rattle.tally_returns_rows.specs.Source.{IsWithinRowLimit, row_limit}
+use Rattle.tally_returns_rows.specs.declared.source.ImportFault.{ImportFault}
+use Rattle.tally_returns_rows.specs.declared.source.ImportFault.TheVariants as cause
 use Rattle.tally_import_records.specs.Input.{size_limit, text_records}
 use Rattle.tally_import.specs.ReturnRows.{records_coming, import_fault, is_header, fault_alone}
 use Rattle.tally_import.specs.ReturnRows.{rows_coming, text_coming}

@@ -3,8 +3,8 @@ use Rattle.std.specs.Prelude.{◌≡◌, ⊤, ℕ, Bool, true, List, Some, Resul
 use Rattle.std.specs.Prelude.{String, string_bytes, IfSome}
 use Rattle.std.specs.declared.alloc.Global.{Global}
 use Rattle.tally_setup.specs.Constituency.{Constituency}
-use Rattle.tally_keeper.specs.declared.source.ImportFault.{ImportFault}
-use Rattle.tally_keeper.specs.declared.source.ImportFault.TheVariants as cause
+use Rattle.tally_returns_rows.specs.declared.source.ImportFault.{ImportFault}
+use Rattle.tally_returns_rows.specs.declared.source.ImportFault.TheVariants as cause
 use Rattle.tally_import.specs.ReturnRowsValue.{ReturnRows}
 use Rattle.tally_import_votes.specs.Troubles.{IsTroubleOf}
 use Rattle.tally_import_votes.specs.declared.fault.AllotTrouble.{AllotTrouble}
@@ -14,7 +14,7 @@ use Rattle.tally_report_allotment.specs.Recount.{Recounted, question_counted}
 use Rattle.tally_report_allotment.specs.RecountText.{IsRecountText}
 use Rattle.tally_import_recount.specs.Counted.{no_station}
 use Rattle.tally_import_recount.specs.Recounts.{IsFaultOfText, IsTextOf, IsTroubleIn}
-use Rattle.tally_import_votes.specs.WantedRecount.{Wanted}
+use Rattle.tally_import_options.specs.WantedRecount.{Wanted}
 use Rattle.tally_import_recount.specs.declared.fault.RecountTrouble.{RecountTrouble}
 use Rattle.tally_import_recount.specs.declared.fault.RecountTrouble.TheVariants as trouble
 

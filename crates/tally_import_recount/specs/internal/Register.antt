@@ -9,8 +9,8 @@ use Rattle.std.specs.declared.hash.FoldHasher.{FoldHasher}
 use Rattle.tally_setup.specs.Codes.{is_among_codes}
 use Rattle.tally_setup.specs.Constituency.{Constituency, entitled}
 use Rattle.tally_returns.specs.Decide.{station_in}
-use Rattle.tally_keeper.specs.declared.import.Row.{Row}
-use Rattle.tally_import.specs.internal.Progress.{Holds}
+use Rattle.tally_returns_rows.specs.declared.import.Row.{Row}
+use Rattle.tally_import.specs.internal.Table.{Holds}
 use Rattle.tally_import_recount.specs.Counted.{answers_judged, is_passed, returns_judged}
 use Rattle.tally_import_recount.specs.declared.register.Register.{Register}
 

@@ -5,7 +5,7 @@ use Rattle.std.specs.declared.alloc.Global.{Global}
 use Rattle.tally_import_records.specs.declared.end.Stop.{Stop}
 use Rattle.tally_import_votes.specs.Allots.{Found, IsTextOf, IsTroubleFound, question_result}
 use Rattle.tally_import_votes.specs.Votes.{VotesRead}
-use Rattle.tally_import_votes.specs.Wanted.{Wanted}
+use Rattle.tally_import_options.specs.Wanted.{Wanted}
 use Rattle.tally_import_votes.specs.declared.fault.AllotTrouble.{AllotTrouble}
 use Rattle.tally_import_votes.specs.declared.fault.AllotTrouble.TheVariants as trouble
 use Rattle.tally_import_votes.specs.declared.fault.VotesFault.{VotesFault}

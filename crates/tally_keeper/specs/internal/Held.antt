@@ -28,8 +28,8 @@ use Rattle.tally_returns.specs.declared.refusal.Refusal.{Refusal}
 use Rattle.tally_returns.specs.declared.refusal.Refusal.TheVariants.{Memory}
 use Rattle.tally_returns.specs.declared.reply.LodgeReply.{LodgeReply}
 use Rattle.tally_returns.specs.declared.reply.Reply.{Reply}
-use Rattle.tally_keeper.specs.Import.{RowAnswer, after_row, row_answer}
-use Rattle.tally_keeper.specs.declared.import.Row.{Row}
+use Rattle.tally_returns_rows.specs.Import.{RowAnswer, after_row, row_answer}
+use Rattle.tally_returns_rows.specs.declared.import.Row.{Row}
 use Rattle.tally_keeper.specs.Held.{Held}
 
 abbrev pub held_code : Coded Held

@@ -20,12 +20,12 @@ use Rattle.tally_returns.specs.declared.refusal.Refusal.TheVariants.{Memory, Sto
 use Rattle.tally_returns.specs.declared.reply.Reply.{Reply}
 use Rattle.tally_returns.specs.declared.station_row.StationRow.{StationRow}
 use Rattle.tally_keeper.specs.Keeper.{IsImportOf}
-use Rattle.tally_keeper.specs.NamedRows.{NamesRows}
+use Rattle.tally_returns_rows.specs.NamedRows.{NamesRows}
 use Rattle.tally_keeper.specs.Shown.{IsOwnRefusal, ShowsReturns, con_with}
-use Rattle.tally_keeper.specs.Source.{Delivery}
-use Rattle.tally_keeper.specs.declared.import.ImportCount.{ImportCount}
-use Rattle.tally_keeper.specs.declared.import.NamedRow.{NamedRow}
-use Rattle.tally_keeper.specs.declared.source.ImportFault.{ImportFault}
+use Rattle.tally_returns_rows.specs.Source.{Delivery}
+use Rattle.tally_returns_rows.specs.declared.import.ImportCount.{ImportCount}
+use Rattle.tally_returns_rows.specs.declared.import.NamedRow.{NamedRow}
+use Rattle.tally_returns_rows.specs.declared.source.ImportFault.{ImportFault}
 use Rattle.tally_store_commands.specs.internal.Known.{AreKnown, Known}
 use Rattle.tally_store_open.specs.Office.{HasState}
 use Rattle.tally_store.specs.Crash.{LeavesAfter, LeavesImported}

@@ -15,9 +15,9 @@ use Rattle.tally_returns.specs.declared.reply.LodgeReply.TheVariants.{Lodged}
 use Rattle.tally_returns.specs.declared.returns.Status.{Status}
 use Rattle.tally_returns.specs.declared.returns.Status.TheVariants.{Received, Queried, Corrected}
 use Rattle.tally_returns.specs.declared.returns.Status.TheVariants.{Closed}
-use Rattle.tally_keeper.specs.Import.{RowAnswer}
-use Rattle.tally_keeper.specs.declared.import.Row.{Row}
-use Rattle.tally_keeper.specs.declared.import.Row.TheVariants as row
+use Rattle.tally_returns_rows.specs.Import.{RowAnswer}
+use Rattle.tally_returns_rows.specs.declared.import.Row.{Row}
+use Rattle.tally_returns_rows.specs.declared.import.Row.TheVariants as row
 use Rattle.tally_returns.specs.declared.ask.Ask.TheVariants as ask
 use Rattle.tally_machine_law.specs.Step.{con_of_station}
 use Rattle.tally_store_rows.specs.declared.views.Statuses.{Statuses}

@@ -17,9 +17,9 @@ use Rattle.tally_keeper.specs.Events.{as_answer}
 use Rattle.tally_store_schema.specs.internal.Inside.{IsOpenInside}
 use Rattle.tally_store_schema.specs.Office.{IsInside}
 use Rattle.tally_store_rows.specs.TablesOfState.{AreTables}
-use Rattle.tally_keeper.specs.Import.{RowAnswer, after_row, is_lodged, row_answer}
-use Rattle.tally_keeper.specs.declared.import.Row.{Row}
-use Rattle.tally_keeper.specs.declared.source.ImportFault.{ImportFault}
+use Rattle.tally_returns_rows.specs.Import.{RowAnswer, after_row, is_lodged, row_answer}
+use Rattle.tally_returns_rows.specs.declared.import.Row.{Row}
+use Rattle.tally_returns_rows.specs.declared.source.ImportFault.{ImportFault}
 use Rattle.tally_store_commands.specs.internal.Requests.{IsInState}
 
 -- What a Lodge is answered, for every lawful state whose tables are there.

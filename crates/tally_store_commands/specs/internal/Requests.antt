@@ -16,11 +16,11 @@ use Rattle.tally_machine_law.specs.LawfulState.{IsLawfulState}
 use Rattle.tally_machine_law.specs.Runs.{is_act}
 use Rattle.tally_machine_law.specs.Step.{IsAnswered}
 use Rattle.tally_keeper.specs.Keeper.{IsImportFault, IsImportOf}
-use Rattle.tally_keeper.specs.NamedRows.{NamesRows}
-use Rattle.tally_keeper.specs.Source.{Delivery, GaveAll}
-use Rattle.tally_keeper.specs.declared.import.ImportCount.{ImportCount}
-use Rattle.tally_keeper.specs.declared.import.NamedRow.{NamedRow}
-use Rattle.tally_keeper.specs.declared.source.ImportFault.{ImportFault}
+use Rattle.tally_returns_rows.specs.NamedRows.{NamesRows}
+use Rattle.tally_returns_rows.specs.Source.{Delivery, GaveAll}
+use Rattle.tally_returns_rows.specs.declared.import.ImportCount.{ImportCount}
+use Rattle.tally_returns_rows.specs.declared.import.NamedRow.{NamedRow}
+use Rattle.tally_returns_rows.specs.declared.source.ImportFault.{ImportFault}
 use Rattle.tally_store_schema.specs.internal.Inside.{InDatabase, IsOpenInside}
 use Rattle.tally_store_schema.specs.Office.{IsInside}
 use Rattle.tally_store_rows.specs.TablesOfState.{AreTables}

@@ -1,5 +1,5 @@
 use Rattle.std.proofs.Common.{ap}
-use Rattle.tally_keeper.specs.Source.{Delivery, SourceAt}
+use Rattle.tally_returns_rows.specs.Source.{Delivery, SourceAt}
 use Rattle.tally_import.specs.ReturnRowsValue.{ReturnRows, rows_to_come}
 use Rattle.tally_desk.proofs.command.lodge_rows.Goals as goal
 

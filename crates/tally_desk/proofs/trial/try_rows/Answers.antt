@@ -1,8 +1,8 @@
 use Rattle.std.proofs.Common.{◌≡◌, ◌∙◌, List, [], OnOk, ap, subst, sym}
 use Rattle.tally_setup.specs.Constituency.{Constituency, ListEntry, list_codes}
-use Rattle.tally_keeper.specs.NamedRows.{NamesRows}
-use Rattle.tally_keeper.specs.Source.{Delivery, SourceAt}
-use Rattle.tally_keeper.specs.declared.import.NamedRow.{NamedRow}
+use Rattle.tally_returns_rows.specs.NamedRows.{NamesRows}
+use Rattle.tally_returns_rows.specs.Source.{Delivery, SourceAt}
+use Rattle.tally_returns_rows.specs.declared.import.NamedRow.{NamedRow}
 use Rattle.tally_import.specs.ReturnRowsValue.{ReturnRows, rows_to_come}
 use Rattle.tally_desk.proofs.DeskLemmas.{gives-trial}
 use Rattle.tally_desk.proofs.trial.try_rows.Goals as goal

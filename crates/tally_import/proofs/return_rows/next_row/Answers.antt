@@ -1,6 +1,6 @@
 use Rattle.std.proofs.Common.{◌≡◌, ◌∙◌, Err, Some, ap, subst, sym}
 use Rattle.std.specs.Prelude.{IfSome}
-use Rattle.tally_keeper.specs.declared.source.ImportFault.TheVariants as cause
+use Rattle.tally_returns_rows.specs.declared.source.ImportFault.TheVariants as cause
 use Rattle.tally_import.specs.ReturnRows.{Advances, AllRowsCame, IsAtStage, IsNext, IsReadingRows, came_by, ending, text_coming}
 use Rattle.tally_import.specs.declared.return_rows.Stage.TheVariants.{Ended, Unread}
 use Rattle.tally_import.proofs.ReturnRowsLemmas.{advanced-fault, advanced-first}

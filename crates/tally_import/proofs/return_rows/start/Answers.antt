@@ -3,7 +3,7 @@ use Rattle.std.specs.List.{list_any}
 use Rattle.std.specs.Str.{bytes_eq}
 use Rattle.csv.specs.Records.{fields_of}
 use Rattle.tally_setup.specs.Constituency.{list_codes, station_codes}
-use Rattle.tally_keeper.specs.declared.source.ImportFault.TheVariants as cause
+use Rattle.tally_returns_rows.specs.declared.source.ImportFault.TheVariants as cause
 use Rattle.tally_import_records.specs.Input.{AreAll}
 use Rattle.tally_import_records.specs.Given.{WatchAgrees}
 use Rattle.tally_import.specs.ReturnRows.{IsNext, is_header, text_coming}

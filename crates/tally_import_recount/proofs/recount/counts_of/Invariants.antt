@@ -1,6 +1,6 @@
 use Rattle.std.proofs.Common.{◌≡◌, take, map}
 use Rattle.tally_returns.specs.Return.{Returns}
-use Rattle.tally_import.specs.internal.Progress.{Holds}
+use Rattle.tally_import.specs.internal.Table.{Holds}
 use Rattle.tally_import_recount.specs.Counted.{counts_in}
 use Rattle.tally_import_recount.proofs.recount.counts_of.Given as goal
 

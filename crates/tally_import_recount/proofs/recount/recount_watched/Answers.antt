@@ -1,5 +1,5 @@
 use Rattle.std.proofs.Common.{Err, Ok, string_bytes}
-use Rattle.tally_import_votes.specs.WantedRecount.{wanted}
+use Rattle.tally_import_options.specs.WantedRecount.{wanted}
 use Rattle.tally_import_recount.specs.internal.Finds.{FindsText}
 use Rattle.tally_import_recount.proofs.FoundLemmas.{Keeps-same, kept-trouble, where-known, written-part}
 use Rattle.tally_import_recount.proofs.recount.recount_watched.Goals as goal

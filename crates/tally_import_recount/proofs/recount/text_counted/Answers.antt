@@ -4,7 +4,7 @@ use Rattle.tally_import_votes.specs.Lot.{words_given}
 use Rattle.tally_report_allotment.specs.Question.{poll_asked, rule_asked}
 use Rattle.tally_report_allotment.specs.Recount.{AreReturnsOf, Recounted, question_counted}
 use Rattle.tally_import_recount.specs.Counted.{recounted_rows}
-use Rattle.tally_import_votes.specs.WantedRecount.{wanted}
+use Rattle.tally_import_options.specs.WantedRecount.{wanted}
 use Rattle.tally_import_recount.proofs.LawfulLemmas.{returns-of}
 use Rattle.tally_import_recount.proofs.recount.text_counted.Goals as goal
 

@@ -2,7 +2,7 @@ use Rattle.std.proofs.Common.{ap, subst}
 use Rattle.tally_import.specs.ReturnRowsValue.{ReturnRows}
 use Rattle.tally_import_votes.specs.Lot.{words_given}
 use Rattle.tally_import_recount.specs.Recounts.{AreRowsOf}
-use Rattle.tally_import_votes.specs.WantedRecount.{wanted}
+use Rattle.tally_import_options.specs.WantedRecount.{wanted}
 use Rattle.tally_import_recount.proofs.FoundLemmas.{found-outcome, outcome-reading, where-known}
 use Rattle.tally_import_recount.proofs.recount.text_of_rows.Goals as goal
 

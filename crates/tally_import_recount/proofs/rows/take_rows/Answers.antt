@@ -1,7 +1,7 @@
 use Rattle.std.proofs.Common.{◌≤◌, ◌+◌, ◌++◌, ◌∷◌, ◌∙◌, [], Ok, Some, length-append, refl, sym, ap, subst, arith}
 use Rattle.tally_frac.specs.Limits.{most_lists}
-use Rattle.tally_keeper.specs.Source.{GivesNext, ends_by}
-use Rattle.tally_keeper.specs.declared.source.ImportFault.TheVariants as cause
+use Rattle.tally_returns_rows.specs.Source.{GivesNext, ends_by}
+use Rattle.tally_returns_rows.specs.declared.source.ImportFault.TheVariants as cause
 use Rattle.tally_import.specs.ReturnRowsValue.{rows_to_come}
 use Rattle.tally_import_recount.proofs.RowsLemmas.{rows-many, rows-next}
 use Rattle.tally_import_recount.proofs.rows.take_rows.Goals as goal

@@ -1,6 +1,6 @@
 use Rattle.std.proofs.Common.{◌≡◌, ◌≤◌, List, length, None}
 use Rattle.tally_frac.specs.Limits.{most_lists}
-use Rattle.tally_keeper.specs.declared.import.Row.{Row}
+use Rattle.tally_returns_rows.specs.declared.import.Row.{Row}
 use Rattle.tally_import.specs.ReturnRowsValue.{rows_to_come}
 use Rattle.tally_import_recount.specs.internal.Register.{TakesRows}
 use Rattle.tally_import_recount.proofs.RowsLemmas.{ComesInText}

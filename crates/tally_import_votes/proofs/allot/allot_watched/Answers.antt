@@ -1,4 +1,4 @@
-use Rattle.tally_import_votes.specs.Wanted.{wanted}
+use Rattle.tally_import_options.specs.Wanted.{wanted}
 use Rattle.tally_import_votes.proofs.AnswerLemmas.{IfSome-then, allots-trouble}
 use Rattle.tally_import_votes.proofs.allot.allot_watched.Goals as goal
 

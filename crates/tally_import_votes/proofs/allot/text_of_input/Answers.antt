@@ -1,4 +1,4 @@
-use Rattle.tally_import_votes.specs.Wanted.{wanted}
+use Rattle.tally_import_options.specs.Wanted.{wanted}
 use Rattle.tally_import_votes.proofs.AnswerLemmas.{IfSome-then, finds}
 use Rattle.tally_import_votes.proofs.allot.text_of_input.Goals as goal
 

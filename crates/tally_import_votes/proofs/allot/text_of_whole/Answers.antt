@@ -1,5 +1,5 @@
 use Rattle.std.proofs.Common.{sym}
-use Rattle.tally_import_votes.specs.Wanted.{wanted}
+use Rattle.tally_import_options.specs.Wanted.{wanted}
 use Rattle.tally_import_votes.proofs.AnswerLemmas.{asked-end, found-trouble, notes-end, notes-fault, notes-trouble}
 use Rattle.tally_report_allotment.specs.Question.{question}
 use Rattle.tally_import_votes.proofs.allot.text_of_whole.Goals as goal

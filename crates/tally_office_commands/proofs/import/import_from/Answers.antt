@@ -1,13 +1,13 @@
 use Rattle.std.proofs.Common.{[], List, Result, OnOk, refl, sym, subst, arith, string_bytes}
 use Rattle.std.specs.Prelude.{string_capacity}
 use Rattle.std.proofs.lemmas.Result.{IfOk-weaker}
-use Rattle.tally_keeper.specs.Delivery.{delivery, source_at}
+use Rattle.tally_returns_rows.specs.Delivery.{delivery, source_at}
 use Rattle.tally_keeper.specs.Keeper.{Imports}
-use Rattle.tally_keeper.specs.NamedRows.{NamesRows}
-use Rattle.tally_keeper.specs.declared.import.ImportCount.{ImportCount}
-use Rattle.tally_keeper.specs.declared.import.NamedRow.{NamedRow}
-use Rattle.tally_keeper.specs.declared.source.ImportFault.{ImportFault}
-use Rattle.tally_keeper.specs.declared.source.ImportFault.TheVariants as lodging
+use Rattle.tally_returns_rows.specs.NamedRows.{NamesRows}
+use Rattle.tally_returns_rows.specs.declared.import.ImportCount.{ImportCount}
+use Rattle.tally_returns_rows.specs.declared.import.NamedRow.{NamedRow}
+use Rattle.tally_returns_rows.specs.declared.source.ImportFault.{ImportFault}
+use Rattle.tally_returns_rows.specs.declared.source.ImportFault.TheVariants as lodging
 use Rattle.tally_office_commands.proofs.ImportLemmas.{memory-import, text-fits, text-imported}
 use Rattle.tally_office_commands.proofs.import.import_from.Goals as goal
 

@@ -1,4 +1,4 @@
-use Rattle.tally_import_votes.specs.WantedRecount.{wanted}
+use Rattle.tally_import_options.specs.WantedRecount.{wanted}
 use Rattle.tally_office_streams.proofs.RecountLemmas.{without-con, without-setup}
 use Rattle.tally_office_streams.proofs.recounting.recount_streams.Goals as goal
 

@@ -7,7 +7,7 @@ use Rattle.tally_returns.specs.State.{State}
 use Rattle.tally_machine_law.specs.LawfulState.{IsLawfulState}
 use Rattle.tally_store_schema.specs.Office.{IsInside}
 use Rattle.tally_store_rows.specs.TablesOfState.{AreTables}
-use Rattle.tally_keeper.specs.Delivery.{delivery}
+use Rattle.tally_returns_rows.specs.Delivery.{delivery}
 use Rattle.tally_keeper.proofs.TakenLemmas.{own-last}
 use Rattle.tally_store_commands.specs.internal.Known.{known_of}
 use Rattle.tally_store.specs.Crash.{LeavesImported}

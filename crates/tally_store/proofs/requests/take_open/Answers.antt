@@ -4,7 +4,7 @@ use Rattle.sqlite.proofs.Callers.{unchanged_then}
 use Rattle.sqlite.specs.Effect.{Database}
 use Rattle.sqlite.specs.State.{HasCleanDisk, IsUnchanged}
 use Rattle.sqlite.specs.Held.{state}
-use Rattle.tally_keeper.specs.Delivery.{source_at}
+use Rattle.tally_returns_rows.specs.Delivery.{source_at}
 use Rattle.tally_keeper.proofs.TakenLemmas.{own-first}
 use Rattle.tally_store_commands.specs.internal.Inside.{IsLawfulInside}
 use Rattle.tally_store_schema.proofs.StaysLemmas.{clean_first, stays-then}

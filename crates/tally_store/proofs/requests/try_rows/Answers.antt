@@ -1,7 +1,7 @@
 use Rattle.std.proofs.lemmas.Result.{err_from_is_err_and}
 use Rattle.sqlite.specs.State.{HasCleanDisk}
 use Rattle.sqlite.specs.Held.{state}
-use Rattle.tally_keeper.specs.Delivery.{delivery}
+use Rattle.tally_returns_rows.specs.Delivery.{delivery}
 use Rattle.tally_keeper.proofs.TakenLemmas.{own-last}
 use Rattle.tally_store_schema.proofs.StaysLemmas.{clean_first}
 use Rattle.tally_store.proofs.TrialLemmas.{ends_then, unwritten_ends}

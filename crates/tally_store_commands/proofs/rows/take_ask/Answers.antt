@@ -1,13 +1,13 @@
 use Rattle.std.proofs.Common.{◌≡◌, ◌∙◌, ◌++◌, Some, ap, subst, sym}
-use Rattle.tally_keeper.specs.declared.import.Row.TheVariants as row
+use Rattle.tally_returns_rows.specs.declared.import.Row.TheVariants as row
 use Rattle.tally_store_commands.specs.internal.Known.{known_of}
 use Rattle.tally_store_commands.specs.internal.Counting.{known_after_row}
 use Rattle.tally_store_commands.proofs.LodgeLemmas.{lodged-taken}
 use Rattle.tally_store_commands.proofs.RowLemmas.{other-coded, other-taken, unanswered}
 use Rattle.tally_store_commands.proofs.UnwrittenLemmas.{row-acts}
-use Rattle.tally_keeper.specs.Import.{IsCodedRow}
+use Rattle.tally_returns_rows.specs.Import.{IsCodedRow}
 use Rattle.sqlite.specs.Held.{state}
-use Rattle.tally_keeper.specs.NamedRows.{named_row}
+use Rattle.tally_returns_rows.specs.NamedRows.{named_row}
 use Rattle.tally_store_commands.proofs.rows.take_ask.Goals as goal
 
 pub returns-clause-taken : goal.returns-clause-taken

@@ -1,7 +1,7 @@
 use Rattle.std.proofs.Common.{◌≡◌, ◌++◌, IfOk, sym, subst}
 use Rattle.sqlite.specs.Held.{state}
-use Rattle.tally_keeper.specs.Import.{IsCodedRow}
-use Rattle.tally_keeper.specs.NamedRows.{named_row}
+use Rattle.tally_returns_rows.specs.Import.{IsCodedRow}
+use Rattle.tally_returns_rows.specs.NamedRows.{named_row}
 use Rattle.tally_store_commands.specs.internal.Counting.{CountsRow}
 use Rattle.tally_store_commands.specs.internal.Lodging.{TakesRow}
 use Rattle.tally_store_commands.proofs.rows.take_row.Goals as goal

@@ -4,7 +4,7 @@ use Rattle.sqlite.proofs.StateLemmas.{unchanged}
 use Rattle.sqlite.specs.State.{HasCleanDisk}
 use Rattle.sqlite.specs.Held.{state}
 use Rattle.tally_keeper.proofs.TakenLemmas.{GivesAt}
-use Rattle.tally_keeper.specs.Delivery.{delivery, source_at}
+use Rattle.tally_returns_rows.specs.Delivery.{delivery, source_at}
 use Rattle.tally_store_schema.specs.Office.{IsInside}
 use Rattle.tally_store_commands.specs.internal.Inside.{IsLawfulInside}
 use Rattle.tally_store_commands.specs.internal.Known.{known_of}

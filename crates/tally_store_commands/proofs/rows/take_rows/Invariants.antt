@@ -3,7 +3,7 @@ use Rattle.sqlite.specs.State.{HasCleanDisk, IsUnchanged}
 use Rattle.sqlite.specs.Held.{state}
 use Rattle.tally_returns.specs.State.{State}
 use Rattle.tally_machine_law.specs.LawfulState.{IsLawfulState}
-use Rattle.tally_keeper.specs.Delivery.{source_at}
+use Rattle.tally_returns_rows.specs.Delivery.{source_at}
 use Rattle.tally_store_schema.specs.Office.{IsInside}
 use Rattle.tally_store_schema.specs.internal.Inside.{IsOpenInside}
 use Rattle.tally_store_rows.specs.TablesOfState.{AreTables}

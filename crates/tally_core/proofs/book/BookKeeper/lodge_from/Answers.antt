@@ -1,4 +1,4 @@
-use Rattle.tally_keeper.specs.Delivery.{delivery}
+use Rattle.tally_returns_rows.specs.Delivery.{delivery}
 use Rattle.tally_keeper.proofs.TakenLemmas.{import-held}
 use Rattle.tally_core.proofs.book.BookKeeper.lodge_from.Goals as goal
 

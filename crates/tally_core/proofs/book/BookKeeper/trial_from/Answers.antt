@@ -1,9 +1,9 @@
 use Rattle.std.proofs.Common.{◌≡◌, ◌∙◌, OnOk, Some, sym, ap, subst}
-use Rattle.tally_keeper.specs.Delivery.{delivery}
+use Rattle.tally_returns_rows.specs.Delivery.{delivery}
 use Rattle.tally_keeper.specs.Keeper.{Tries}
 use Rattle.tally_keeper.specs.Held.{Held}
 use Rattle.tally_keeper.specs.Kept.{state_in}
-use Rattle.tally_keeper.specs.NamedRows.{NamesRows}
+use Rattle.tally_returns_rows.specs.NamedRows.{NamesRows}
 use Rattle.tally_keeper.specs.internal.Held.{IsHeld, returns_without}
 use Rattle.tally_keeper.proofs.TakenLemmas.{trial-tries, trial-undone}
 use Rattle.tally_core.proofs.book.BookKeeper.trial_from.Goals as goal

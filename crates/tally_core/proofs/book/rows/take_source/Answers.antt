@@ -1,9 +1,9 @@
 use Rattle.std.proofs.Common.{◌≡◌, ◌∙◌, Ok, Some, inl, refl, subst}
 use Rattle.std.proofs.lemmas.Result.{err_from_is_err_and}
 use Rattle.tally_returns.specs.State.{stations_of}
-use Rattle.tally_keeper.specs.Delivery.{source_at}
+use Rattle.tally_returns_rows.specs.Delivery.{source_at}
 use Rattle.tally_keeper.specs.internal.Held.{returns_without}
-use Rattle.tally_keeper.specs.declared.source.ImportFault.TheVariants.{Memory}
+use Rattle.tally_returns_rows.specs.declared.source.ImportFault.TheVariants.{Memory}
 use Rattle.tally_keeper.proofs.TakenLemmas.{GivesAt, NamedSoFar-start, NamedSoFar-taken, SoFar-below, SoFar-fault, SoFar-own, kept-next}
 use Rattle.tally_core.proofs.book.rows.take_source.Goals as goal
 

@@ -1,6 +1,6 @@
 use Rattle.std.proofs.Common.{◌≡◌}
 use Rattle.tally_returns.specs.State.{stations_of}
-use Rattle.tally_keeper.specs.Delivery.{source_at}
+use Rattle.tally_returns_rows.specs.Delivery.{source_at}
 use Rattle.tally_keeper.specs.internal.Held.{returns_without}
 use Rattle.tally_keeper.proofs.TakenLemmas.{NamedSoFar}
 use Rattle.tally_core.proofs.book.rows.take_source.Given as goal

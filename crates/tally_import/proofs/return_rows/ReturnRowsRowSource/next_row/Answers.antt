@@ -1,7 +1,7 @@
 use Rattle.std.proofs.Common.{◌∙◌, ℕ, Bool, List, Option, ap, option_map, subst}
-use Rattle.tally_keeper.specs.Given.{rows_of, with_given}
-use Rattle.tally_keeper.specs.Source.{GivesNext}
-use Rattle.tally_keeper.specs.declared.import.Row.{Row}
+use Rattle.tally_returns_rows.specs.Given.{rows_of, with_given}
+use Rattle.tally_returns_rows.specs.Source.{GivesNext}
+use Rattle.tally_returns_rows.specs.declared.import.Row.{Row}
 use Rattle.tally_import.specs.ReturnRows.{came_by, ending}
 use Rattle.tally_import.specs.ReturnRowsValue.{HasGivenAll, ReturnRows, rows_to_come, coming_at}
 use Rattle.tally_import.specs.declared.return_rows.Stage.{Stage}

@@ -1,5 +1,5 @@
 use Rattle.std.proofs.Common.{◌<◌, ◌+◌, ◌∙◌, arith, refl, subst, sym}
-use Rattle.tally_keeper.specs.Source.{row_limit}
+use Rattle.tally_returns_rows.specs.Source.{row_limit}
 use Rattle.tally_import.specs.ReturnRows.{GivesRow}
 use Rattle.tally_import.specs.declared.return_rows.Rows.{Rows}
 use Rattle.tally_import.proofs.ReturnRowsLemmas.{rows-ended, rows-failed, rows-too_many, rows-row}

@@ -2,8 +2,8 @@ use Rattle.std.proofs.Common.{◌≡◌, ◌∙◌, Ok, sym, ap, subst}
 use Rattle.std.specs.FinMap.{insert}
 use Rattle.tally_returns.specs.declared.reply.LodgeReply.TheVariants.{Lodged}
 use Rattle.tally_import.specs.ReturnRows.{station_limits_in}
-use Rattle.tally_import.specs.internal.Progress.{Holds}
-use Rattle.tally_import.proofs.ProgressLemmas.{Holds-insert, lodge-lodged}
+use Rattle.tally_import.specs.internal.Table.{Holds}
+use Rattle.tally_import.proofs.TableLemmas.{Holds-insert, lodge-lodged}
 use Rattle.tally_import_recount.proofs.TakenLemmas.{answer-there}
 use Rattle.tally_import_recount.proofs.register.Register.lodge.Goals as goal
 

@@ -3,7 +3,7 @@ use Rattle.std.specs.List.{find}
 use Rattle.std.specs.Str.{bytes_eq}
 use Rattle.tally_setup.specs.Constituency.{entitled}
 use Rattle.tally_setup.specs.declared.constituency.Station.{Station}
-use Rattle.tally_import.proofs.ProgressLemmas.{Holds-empty}
+use Rattle.tally_import.proofs.TableLemmas.{Holds-empty}
 use Rattle.tally_import_votes.specs.Lot.{bytes_of}
 use Rattle.tally_import_recount.specs.internal.Register.{HasWords}
 use Rattle.tally_import_recount.proofs.register.Register.new.Goals as goal

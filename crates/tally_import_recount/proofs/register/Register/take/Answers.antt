@@ -1,5 +1,5 @@
 use Rattle.std.proofs.Common.{◌++◌, ◌∷◌, [], sym, subst, refl}
-use Rattle.tally_keeper.specs.declared.import.Row.TheVariants as row
+use Rattle.tally_returns_rows.specs.declared.import.Row.TheVariants as row
 use Rattle.tally_import_recount.specs.internal.Register.{HasTaken}
 use Rattle.tally_import_recount.proofs.TakenLemmas.{taken-nothing}
 use Rattle.tally_import_recount.proofs.register.Register.take.Goals as goal

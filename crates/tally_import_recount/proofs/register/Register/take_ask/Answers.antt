@@ -1,6 +1,6 @@
 use Rattle.std.proofs.Common.{◌≡◌, ◌∙◌, ◌++◌, ◌∷◌, [], true, false, sym, ap, subst, rules}
 use Rattle.tally_returns.specs.declared.ask.Ask.TheVariants.{Lodge}
-use Rattle.tally_keeper.specs.declared.import.Row.TheVariants as row
+use Rattle.tally_returns_rows.specs.declared.import.Row.TheVariants as row
 use Rattle.tally_import.specs.ReturnRows.{station_limits_in}
 use Rattle.tally_import_recount.specs.Counted.{is_left_out, returns_judged}
 use Rattle.tally_import_recount.specs.declared.register.Register.{Register}

@@ -1,8 +1,8 @@
 use Rattle.std.proofs.Common.{OnOk, subst}
 use Rattle.sqlite.specs.Held.{state}
-use Rattle.tally_keeper.specs.Delivery.{delivery}
+use Rattle.tally_returns_rows.specs.Delivery.{delivery}
 use Rattle.tally_keeper.specs.Keeper.{Tries}
-use Rattle.tally_keeper.specs.NamedRows.{NamesRows}
+use Rattle.tally_returns_rows.specs.NamedRows.{NamesRows}
 use Rattle.tally_store_open.specs.Crash.{IsUnwritten}
 use Rattle.tally_store_commands.specs.internal.Known.{known_of}
 use Rattle.tally_store_schema.proofs.StaysLemmas.{clean_first}

@@ -1,5 +1,0 @@
-use Rattle.tally_import.proofs.laws.faults_before_a_stop_remain.Goals as goal
-use Rattle.tally_import.proofs.StandingLemmas.{checked-more}
-
-pub returns : goal.returns
-returns c = checked-more

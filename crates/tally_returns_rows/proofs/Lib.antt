@@ -1,0 +1,2 @@
+pub mod ImportLemmas
+pub mod RowsLemmas

@@ -1,0 +1,5 @@
+pub mod Delivery
+pub mod Given
+pub mod Import
+pub mod NamedRows
+pub mod Source

@@ -1,0 +1,281 @@
+"""Functions of the clerks' page, each at the edges of what it tells apart.
+
+The page is opened as a file, without an office.
+"""
+
+from pathlib import Path
+
+from tests.support import browser
+from tests.support.case import Case, needs
+from tests.support.rounds import DEPLOY
+
+# What an answer with each status says, where it has no word of its own.
+STATUSES = {
+    0: "There was no answer. It may have been done.",
+    401: "The office does not know this name and password.",
+    403: "Your name may not do this.",
+    404: "The office has nothing of this code.",
+    409: "Nothing was done: the setup is another one since this page was loaded.",
+    413: "This is more than 1,048,576 bytes.",
+    429: "Too many requests came from here in a short time.",
+    502: "The office does not answer now. It may have been done.",
+    504: "The office took too long to answer. It may have been done.",
+}
+# How a history speaks of the outcome of a command.
+OUTCOMES = {
+    None: "Nobody knows whether it was done.", 502: "Nobody knows whether it was done.",
+    503: "Nobody knows whether it was done.", 504: "Nobody knows whether it was done.",
+    403: "It was refused: the name may not do it.", 400: "It was refused.", 200: "Done."}
+# The votes of a slip, and which of its figures are far off, of lists with as many votes each and a
+# variance of 0.04. With 100 votes for each other list 100.5 are expected, and the deviation is the
+# root of 0.04 + 1 / 100.5, which is 0.2235: 209 are 3.29 of it, 210 are 3.31, 48 are 3.26 below,
+# and 47 are 3.35. The size is that of the list in the middle as soon as there are three.
+FAR_OFF = (
+    ([100, 100, 100, 209], []), ([100, 100, 100, 210], [[3, True]]),
+    ([100, 100, 100, 48], []), ([100, 100, 100, 47], [[3, False]]),
+    ([100, 100, 300], [[2, True]]), ([100, 300], []),
+)
+
+# A constituency as setup.json has it, and a name of the board.
+KNOWN = """
+  setup = [{ code: "c1", name: "Twin Town", seats: 3,
+             lists: [{ code: "A", name: "Alpha", candidates: ["Ana", "Abel"] },
+                     { code: "B", name: "Beta", candidates: ["Bea"] }],
+             stations: [{ code: "s1", electors: 1000 }, { code: "s2", electors: 1000 }] },
+           { code: "c2", name: "Port", seats: 1, lists: [{ code: "A", name: "Alpha" }],
+             stations: [{ code: "t1", electors: 10 }] }];
+  person = { name: "berta", role: "board" };
+  shown = { con: "c1", view: null, station: "s1", found: null };
+"""
+# Slips at a station of 1,000 electors, and what is unusual in them. 20 of 400 are 5 per cent
+# exactly; 200 and 950 are 20 and 95 per cent of the electors.
+UNUSUAL = (
+    ([190, 190], 20, 0, []),
+    ([190, 190], 21, 0, [["blank", "More than 5 per cent of all votes are blank."]]),
+    ([190, 190], 0, 20, []),
+    ([190, 190], 0, 21, [["spoiled", "More than 5 per cent of all votes are spoiled."]]),
+    ([100, 100], 0, 0, []),
+    ([100, 99], 0, 0, [["total", "Less than 20 per cent of the 1,000 electors."]]),
+    ([475, 475], 0, 0, []),
+    ([475, 476], 0, 0, [["total", "More than 95 per cent of the 1,000 electors."]]),
+    ([500, 500], 0, 0, [["total", "More than 95 per cent of the 1,000 electors."]]),
+    ([500, 501], 0, 0, []),
+)
+FORM = """const form = document.createElement("form"), [votes, blank, spoiled] = arguments;
+for (const [name, value] of [["slip", "p1"], ...votes.map((many) => ["votes", many]),
+                             ["blank", blank], ["spoiled", spoiled], ["total", ""]])
+  form.append(Object.assign(document.createElement("input"), { name, value }));
+return unusual(form).map(({ field, text }) => [field ? field.name : null, text]);"""
+# A result of the office with 7 stations, of which one has no return.
+RESULT = """({ con: "c1", stations: 7, received: 1, queried: 2, corrected: 1, closed: 2, edition: 4,
+  certified: true, lot: [], note: "", blank: 0, spoiled: 0, gone: [],
+  lists: [{ votes: 30, seats: 2 }, { votes: 20, seats: 1 }],
+  holders: [["A", 2, "Abel"], ["B", 0, ""]] })"""
+# Commands as a history has them, and the last one that changed a return, and whether a second entry
+# after it was another one.
+DIFFERS = '{"word":"differs"}'
+HISTORIES = (
+    ([], [None, False]),
+    ([(1, "lodge", 200, '{"ok":"lodged"}'), (2, "lodge", 200, '{"ok":"same"}')], [1, False]),
+    ([(1, "lodge", 200, '{"ok":"lodged"}'), (2, "query", 409, '{"word":"stale"}')], [1, False]),
+    ([(1, "lodge", 200, '{"ok":"lodged"}'), (2, "confirm", 409, DIFFERS)], [1, True]),
+    ([(1, "lodge", 200, '{"ok":"lodged"}'), (2, "lodge", 409, DIFFERS)], [1, False]),
+    ([(1, "confirm", 409, DIFFERS), (2, "correct", 200, '{"ok":"corrected"}')], [2, False]),
+)
+
+# An office that answers with a result and with a return that are given, and what was asked of it.
+OFFICE = """
+  const [role, station, result, status] = arguments, asked = [];
+  ask = async (method, target) => {
+    asked.push(target.split("/").at(-1));
+    return { ok: true, status: 200, text: "", value: target.endsWith("/result")
+      ? { con: "c1", stations: 20, received: 1, queried: 0, corrected: 0, closed: 20, edition: 4,
+          certified: false, entry: "single", lot: [], note: "", blank: 0, spoiled: 0, gone: [],
+          lists: [{ votes: 30, seats: 2 }, { votes: 20, seats: 1 }], holders: [],
+          status: "lot", question: 1, group: ["A", "B"], ...result }
+      : { station, status, rev: 1, slip: "p1", votes: [1, 2], blank: 0, spoiled: 0, note: "" } };
+  };
+  person = { name: "clara", role };
+  shown = { con: "c1", view: null, station, found: null };
+  lot = null;
+  learned = { con: null, closed: 0, spreads: [] };
+  return look().then(() => ({
+    asked, lot: lot && lot.group, found: shown.found && shown.found.status,
+    waits: element("return").textContent.includes("It waits for its second entry"),
+    compares: !element("compare").hidden }));
+"""
+
+
+class Functions(Case):
+    may_leave_files = True
+
+    @needs("chromium")
+    def test_at_their_edges(self):
+        with browser.browser(Path.cwd()) as it:
+            it.open((DEPLOY / "www/clerk.html").as_uri())
+            for status, said in STATUSES.items():
+                with self.subTest(status=status):
+                    found = it.run("return sentence({ status: arguments[0], value: null })", status)
+                    self.assertTrue(found.startswith(said), found)
+            for status, said in OUTCOMES.items():
+                with self.subTest(outcome=status):
+                    found = it.run("return outcome(arguments[0], {})", status)
+                    self.assertEqual(found, said)
+            # The former result counts as long as less than three stations are closed.
+            for closed, is_former in ((0, True), (2, True), (3, False), (4, False)):
+                with self.subTest(closed=closed):
+                    found = it.run("return expectation([30, 70], arguments[0], [60, 40], [])",
+                                   closed)
+                    self.assertEqual(found["isFormer"], is_former)
+                    self.assertEqual([one["share"] for one in found["lists"]],
+                                     [0.6, 0.4] if is_former else [0.3, 0.7])
+            for votes, wanted in FAR_OFF:
+                with self.subTest(votes=votes):
+                    found = it.run(
+                        "const [votes] = arguments; return farOff(votes, votes.map(() => "
+                        "({ share: 1 / votes.length, variance: 0.04 })))", votes)
+                    self.assertEqual([[one["place"], one["isMore"]] for one in found], wanted)
+            # How fast stations are closed is said from the first whole minute on.
+            for seconds, said in ((59, []), (60, ["1 minutes: 2, which is 120 an hour."]),
+                                  (90, ["2 minutes: 2, which is 80 an hour."])):
+                with self.subTest(seconds=seconds):
+                    found = it.run(
+                        "closings = [{ time: 0, closed: 3 }, { time: arguments[0] * 1000, "
+                        "closed: 5 }]; return pace().map((one) => one.textContent)", seconds)
+                    self.assertEqual(found, [f"Closed in the last {one}" for one in said])
+            # A row in quotes goes over as many lines as it takes to close them.
+            found = it.run("return rowsOfFile(arguments[0])",
+                           'a,"b\nc"\n\nd,"e""f"\n"g\nh\ni",j\nk\n')
+            self.assertEqual([(row["line"], row["text"]) for row in found], [
+                (1, 'a,"b c"'), (4, 'd,"e""f"'), (5, '"g h i",j'), (8, "k")])
+
+    @needs("chromium")
+    def test_with_a_setup(self):
+        with browser.browser(Path.cwd()) as it:
+            it.open((DEPLOY / "www/clerk.html").as_uri())
+            it.run(KNOWN)
+            for votes, blank, spoiled, wanted in UNUSUAL:
+                with self.subTest(votes=votes, blank=blank, spoiled=spoiled):
+                    self.assertEqual(it.run(FORM, votes, blank, spoiled), wanted)
+            self.assertEqual(
+                it.run("return sentence({ status: 409, value: { word: 'stale', rev: 2 } })"),
+                "Somebody was here before you. Look at what is shown now, and decide again.")
+            self.assertEqual(it.run("return CAUSES.fields(5)"),
+                             "it has 5 fields, and the header has 6")
+            self.assertEqual(it.run("return ['s2', 't1', 's9'].map((code) => "
+                                    "(homeOf(code) || { code: null }).code)"), ["c1", "c2", None])
+            # Of a return that is not seen its revision is known, or it is the first.
+            it.run("revisions.s2 = 3")
+            self.assertEqual(it.run("return ['s1', 's2', 's9'].map(unseen)"), [
+                {"ok": True, "value": {"station": "s1", "rev": 1, "status": ""}},
+                {"ok": True, "value": {"station": "s2", "rev": 3, "status": ""}},
+                {"ok": False, "value": {"word": "no_station"}}])
+            found = it.run(f"return viewOf({RESULT})")
+            self.assertEqual((found["missing"], found["votes"], found["seats"], found["holders"]),
+                             (1, [30, 20], [2, 1], [{"list": "A", "place": 2, "name": "Abel"}]))
+            for commands, wanted in HISTORIES:
+                with self.subTest(commands=commands):
+                    found = it.run("const { last, isOther } = lastOf(arguments[0]); "
+                                   "return [last ? last.n : null, isOther]",
+                                   [dict(zip(("n", "act", "status", "answer"), one))
+                                    for one in commands])
+                    self.assertEqual(found, wanted)
+            self.assertRegex(it.run("return hourOf('2026-11-29T20:05:00+00:00')"), r"\d:05\b")
+            # Of a certificate whose seats nobody holds any more none can be given up.
+            forms = ("certify", "draw", "vacate", "reopen")
+            for is_certified, holders, wanted in (
+                    (False, [], ["certify"]), (True, [{}], ["vacate", "reopen"]),
+                    (True, [], ["reopen"])):
+                with self.subTest(certified=is_certified, holders=holders):
+                    it.run(f"shown.view = {{ ...viewOf({RESULT}), certified: arguments[0] }}; "
+                           "showView(arguments[1])", is_certified, holders)
+                    self.assertEqual([form for form in forms
+                                      if it.run("return !element(arguments[0]).hidden", form)],
+                                     wanted)
+            # The lists of a lot are asked for from the first place on.
+            it.run("lot = { con: 'c1', edition: 4, group: ['A', 'B'], seats: 1 }; showDraw()")
+            self.assertEqual(it.run("return [...element('order').children].map((one) => "
+                                    "one.firstChild.textContent)"), ["Place 1 ", "Place 2 "])
+
+    @needs("chromium")
+    def test_what_is_asked_for_and_shown(self):
+        with browser.browser(Path.cwd()) as it:
+            it.open((DEPLOY / "www/clerk.html").as_uri())
+            it.run(KNOWN)
+
+            def looked(role, station="s1", of_return="received", **result):
+                return it.run(OFFICE, role, station, result, of_return)
+
+            # A lot is known to the board once all is closed, and as long as nothing is certified.
+            for role, result, wanted in (
+                    ("board", {}, ["A", "B"]), ("board", {"closed": 19}, None),
+                    ("board", {"certified": True}, None), ("clerk", {}, None),
+                    ("board", {"status": "seats"}, None)):
+                with self.subTest(role=role, result=result):
+                    self.assertEqual(looked(role, **result)["lot"], wanted)
+            # A return is shown of a station of this constituency alone.
+            self.assertEqual(looked("clerk")["found"], "received")
+            self.assertIsNone(looked("clerk", "t1")["found"])
+            # The list of stations is for who enters a second time, where a return was corrected.
+            for role, station, queried, wanted in (
+                    ("second", "s1", 1, True), ("second", "s1", 0, False), ("second", "", 1, False),
+                    ("clerk", "s1", 1, False), ("board", "", 1, False)):
+                with self.subTest(role=role, station=station, queried=queried):
+                    self.assertEqual("stations" in looked(role, station, queried=queried)["asked"],
+                                     wanted)
+            # What is usual is learned from ten closed returns on; a station learns nothing.
+            for role, result, wanted in (
+                    ("clerk", {"closed": 10}, True), ("clerk", {"closed": 9}, False),
+                    ("station", {"closed": 10}, False), ("clerk", {"certified": True}, False)):
+                with self.subTest(role=role, result=result):
+                    self.assertEqual("stations-c1-open.csv" in looked(role, **result)["asked"],
+                                     wanted)
+            # A return waits for its second entry until it is closed, and is compared in others.
+            for entry, status, waits, compares in (
+                    ("double", "received", True, False), ("double", "closed", False, False),
+                    ("single", "received", False, True), ("single", "closed", False, True),
+                    ("single", "queried", False, False), ("single", "corrected", False, True)):
+                with self.subTest(entry=entry, status=status):
+                    found = looked("clerk", of_return=status, entry=entry)
+                    self.assertEqual((found["waits"], found["compares"]), (waits, compares))
+
+    @needs("chromium")
+    def test_keys_links_and_drafts(self):
+        with browser.browser(Path.cwd()) as it:
+            it.open((DEPLOY / "www/clerk.html").as_uri())
+            it.run(KNOWN)
+            # Who types on while the page stops for a difference types nothing, and the end of that
+            # presses no button.
+            it.run("stopped = { form: element('lodge'), typed: false }")
+            for key, is_taken in (("Enter", False), ("Shift", False), ("7", True), ("Enter", True),
+                                  ("Enter", False), ("7", True), (" ", True), (" ", False)):
+                with self.subTest(key=key):
+                    self.assertEqual(it.run(
+                        "return !element('stopped').dispatchEvent(new KeyboardEvent('keydown', "
+                        "{ key: arguments[0], cancelable: true }))", key), is_taken)
+            # A link of the list is followed by the page, and in another window by the browser.
+            for key, is_taken in ((None, True), ("ctrlKey", False), ("metaKey", False),
+                                  ("shiftKey", False)):
+                with self.subTest(key=key):
+                    self.assertEqual(it.run(
+                        "busy = true; const link = made('a', 's1'), "
+                        "more = arguments[0] ? { [arguments[0]]: true } : {}; "
+                        "element('waiting').replaceChildren(link); let isTaken; "
+                        "const look = (event) => { isTaken = event.defaultPrevented; "
+                        "event.preventDefault(); }; document.addEventListener('click', look); "
+                        "link.dispatchEvent(new MouseEvent('click', "
+                        "{ bubbles: true, cancelable: true, ...more })); "
+                        "document.removeEventListener('click', look); return isTaken", key),
+                        is_taken)
+            # A draft is brought into an empty form that is shown, and into no second typing.
+            for is_hidden, again, typed, wanted in (
+                    (False, False, "", "p7"), (True, False, "", ""), (False, True, "", ""),
+                    (False, False, "p8", "p8")):
+                with self.subTest(hidden=is_hidden, again=again, typed=typed):
+                    self.assertEqual(it.run(
+                        "const [isHidden, again, typed] = arguments, form = element('lodge'); "
+                        "form.reset(); form.elements.slip.value = 'p7'; form.hidden = false; "
+                        "shown.again = false; keepDraft({ currentTarget: form }); form.reset(); "
+                        "form.elements.slip.value = typed; form.hidden = isHidden; "
+                        "shown.again = again; bringDraft(); return form.elements.slip.value",
+                        is_hidden, again, typed), wanted)
