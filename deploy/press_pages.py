@@ -392,8 +392,12 @@ def count_sections(site, cons):
         said, progress_bar(site, said, certified, len(cons)))
     heads = (Head(site.said("con")), Head(site.said("certificate")),
              *(numbers(site.said(key)) for key in COUNTED))
+    # On a phone a column is left out that has no return at all.
+    left_out = [f"no-{key}" for key in ("received", "queried", "corrected")
+                if not any(con["progress"][key] for con in cons.values())]
     return sections(site, site.said("cons"),
-                    tables(site, site.said("table_count"), heads, rows, "count stacked"),
+                    tables(site, site.said("table_count"), heads, rows,
+                           " ".join(["count stacked", *left_out])),
                     progress_said)
 
 

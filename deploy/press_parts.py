@@ -87,10 +87,10 @@ def framed(site, caption, heads, rows, kind="", wide=False):
     """A table of such rows, whose classes name the columns of numbers by their places. One that is
     wider than a phone is `wide`: there it has a frame, within which it is moved. The kind `stacked`
     has the head of each row above its cells on a phone, so that no name is broken; there `under`
-    has the last cell under the one before it, and `count` not the fifth to the seventh."""
+    has the last cell under the one before it, and `no-received` and its like lack a column."""
     heads = [head if isinstance(head, Head) else Head(head) for head in heads]
     classes = [*kind.split(), *(f"n{place}" for place, head in enumerate(heads, 1) if head.numbers)]
-    fewer = {"under": 1, "count": 3}
+    fewer = {"under": 1, "no-received": 1, "no-queried": 1, "no-corrected": 1}
     columns = len(heads) - 1 - sum(fewer.get(one, 0) for one in classes)
     table = site.templates.parts.table(caption, heads, rows, " ".join(classes), wide,
                                        columns if "stacked" in classes else 0)

@@ -440,3 +440,33 @@ class PagesOfAnEvening(SiteCase):
                         self.assertEqual(framed, ["2px", *[0] * rows])
                         self.assertTrue(it.visible(".sideways"))
         self.assertIn('<a href="stations-norte-2.csv">', read("stations-norte-1.html", "four"))
+
+    @needs("chromium")
+    def test_the_count_on_a_phone(self):
+        """A column is left out where no return is in its state, and else its numbers add up with
+        those beside it, within the width of a phone.
+        """
+        votes = {"slip": "p1", "votes": [3, 2, 2, 1], "blank": 0, "spoiled": 0}
+        acts = (("received", "lodge", votes), ("queried", "query", {"rev": 1, "note": "sum"}),
+                ("corrected", "correct", {"rev": 2} | votes))
+        Path("setup.toml").write_text(level_setup(), encoding="utf-8")
+        shown = ("return [...document.querySelectorAll('.count thead th')].filter((e) => "
+                 "e.offsetWidth).map((e) => e.innerText.trim().split(/[ ,]/)[0])")
+        with modelled(level_setup()) as (office, port):
+            press(port, "--setup", "setup.toml", folder="none")
+            for state, act, body in acts:
+                done(office, f"/station/s1/{act}", body)
+                press(port, "--setup", "setup.toml", folder=state)
+        with browser.browser(Path.cwd()) as it:
+            for folder, left in (("none", []), ("received", ["received"]), ("queried", ["queried"]),
+                                 ("corrected", ["corrected"])):
+                it.open((Path.cwd() / folder / "count.html").as_uri())
+                it.size(320, 640)
+                with self.subTest(folder=folder):
+                    self.assertEqual([one for one in it.run(shown)
+                                      if one in ("received", "queried", "corrected")], left)
+                    self.assertEqual(it.run("return document.documentElement.scrollWidth"), 320)
+                it.size(1280, 900)
+                self.assertEqual([one for one in it.run(shown)
+                                  if one in ("received", "queried", "corrected")],
+                                 ["received", "queried", "corrected"])
