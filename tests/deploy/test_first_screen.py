@@ -6,9 +6,9 @@ from pathlib import Path
 
 from tests.support import browser
 from tests.support.case import needs
-from tests.support.countries import four, setup_of_four
+from tests.support.countries import count_level, four, level_setup, setup_of_four
 from tests.support.desks import answering_desk, done, modelled
-from tests.support.office import constituency, party_list, profile, station
+from tests.support.office import constituency, party_list, station
 from tests.support.pages import (
     RESULT, TWIN, page_of, press, read, results_of, shown_text, site_folder,
 )
@@ -18,28 +18,12 @@ from tests.support.site import SiteCase
 press_head, press_site = module("press_head"), module("press_site")
 
 SPANISH = 'language = "es"\n'
-# Two seats of A 5 (2.5), B 3, C 3, D 1: the second is a matter of a lot between B and C.
-LEVEL = [["A", "Alpha", 5], ["B", "Beta", 3], ["C", "Iris", 3], ["D", "Delta", 1]]
 
 
 def header(name, folder="pages"):
     """The text under the title of a page, in its order."""
     text = read(name, folder)
     return shown_text(text[text.index("<h1>"):text.index('<p class="moment">')]).strip()
-
-
-def level_setup():
-    lists = "".join(party_list(code, name, "Ana", "Bea") for code, name, _ in LEVEL)
-    return (profile("d0") + constituency("c1", "Soria", 2, "d0") + lists
-            + station("s1", 500) + station("s2", 500))
-
-
-def count_level(office, stations):
-    votes = {"s1": [3, 2, 2, 1], "s2": [2, 1, 1, 0]}
-    for code in stations:
-        done(office, f"/station/{code}/lodge",
-             {"slip": "p1", "votes": votes[code], "blank": 0, "spoiled": 0})
-        done(office, f"/station/{code}/close", {"rev": 1})
 
 
 class FirstScreen(SiteCase):

@@ -20,6 +20,7 @@ recorder, limits, machine, places = (module(name) for name in (
     "recorder", "setup_limits", "site_machine", "site_places"))
 parts, server, staff = module("desk_parts"), module("desk_server"), module("staff")
 forms, looks = module("papers_forms"), module("status_looks")
+record_index = module("record_index")
 desk, office_site, replay, setup_json, keep_copies, password = (loaded(name) for name in (
     "desk", "office-site", "replay", "setup-json", "keep-copies", "password"))
 
@@ -79,7 +80,7 @@ class Records(Case):
                 (200, '{"ok":"lodged"}', True), (200, '{"ok":"same"}', False), (409, "{}", False),
                 (403, "{}", False), (502, "", True), (None, "", True)):
             with self.subTest(status=status, answer=answer):
-                self.assertEqual(recorder.is_done({"status": status, "answer": answer}), wanted)
+                self.assertEqual(record_index.is_done({"status": status, "answer": answer}), wanted)
 
     def test_a_file_of_which_nothing_was_lodged_is_about_no_station(self):
         rows = "station,slip,blank,spoiled,A,B\ns1,p1,0,0,1,2\n"

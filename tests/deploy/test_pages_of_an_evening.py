@@ -9,7 +9,9 @@ from pathlib import Path
 
 from tests.support import browser
 from tests.support.case import needs
-from tests.support.countries import count_four, four, setup_of_four
+from tests.support.countries import (
+    count_four, count_level, four, level_setup, setup_of_four,
+)
 from tests.support.desks import answering_desk, done, modelled
 from tests.support.office import constituency, party_list, profile, station
 from tests.support.pages import (
@@ -24,22 +26,6 @@ press_country, press_head, press_image, press_names, press_results, press_site =
 SPANISH, NONE = 'language = "es"\n', "provisional = false\n"
 # The table of the seats of all, in both languages.
 ALL = ("Seats and votes of each list", "Escaños y votos por candidatura")
-LEVEL = [["A", "Alpha", 5], ["B", "Beta", 3], ["C", "Iris", 3], ["D", "Delta", 1]]
-
-
-def level_setup():
-    """Two seats of A 5 (2.5), B 3, C 3, D 1: the second is a matter of a lot between B and C."""
-    lists = "".join(party_list(code, name, "Ana", "Bea") for code, name, _ in LEVEL)
-    return (profile("d0") + constituency("c1", "Soria", 2, "d0") + lists
-            + station("s1", 500) + station("s2", 500))
-
-
-def count_level(office, stations):
-    votes = {"s1": [3, 2, 2, 1], "s2": [2, 1, 1, 0]}
-    for code in stations:
-        done(office, f"/station/{code}/lodge",
-             {"slip": "p1", "votes": votes[code], "blank": 0, "spoiled": 0})
-        done(office, f"/station/{code}/close", {"rev": 1})
 
 
 def adds_up(rows, columns):

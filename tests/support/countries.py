@@ -17,6 +17,7 @@ FOUR = {"norte": ("Norte", 3, {"n1": 500, "n2": 500}, "ABC"),
 FOUR_NAMES = {"A": "Alpha", "B": "Beta", "C": "Gamma", "D": "Delta"}
 FOUR_RETURNS = {"norte": "n1,p1,5,1,60,50,5\nn2,p2,0,2,40,40,0\n", "este": "e1,p1,0,0,30,80,10\n",
                 "sur": "s1,p1,0,0,10,20\n", "oeste": "o1,p1,0,0,7,3,90\n"}
+LEVEL = {"A": "Alpha", "B": "Beta", "C": "Iris", "D": "Delta"}
 # A former result: in Norte A had 20 per cent of the valid votes and B 30, and in Este each a seat.
 FOUR_BEFORE = ("con,list,votes,seats,valid\nnorte,A,40,2,200\nnorte,B,60,1,200\n"
                "este,A,50,1,100\neste,B,50,1,100\nsur,A,50,2,100\noeste,A,1,1,100\n")
@@ -51,6 +52,21 @@ def four():
     with modelled(setup_of_four()) as (office, port):
         count_four(office)
         yield office, port
+
+
+def level_setup():
+    """Two seats of A 5 (2.5), B 3, C 3, D 1: the second is a matter of a lot between B and C."""
+    lists = "".join(party_list(code, name, "Ana", "Bea") for code, name in LEVEL.items())
+    return (profile("d0") + constituency("c1", "Soria", 2, "d0") + lists
+            + station("s1", 500) + station("s2", 500))
+
+
+def count_level(office, stations):
+    votes = {"s1": [3, 2, 2, 1], "s2": [2, 1, 1, 0]}
+    for code in stations:
+        done(office, f"/station/{code}/lodge",
+             {"slip": "p1", "votes": votes[code], "blank": 0, "spoiled": 0})
+        done(office, f"/station/{code}/close", {"rev": 1})
 
 
 def many_stations():
