@@ -7,6 +7,8 @@ record is, by the SHA-256 of setup.json.
 import csv
 import hashlib
 import json
+import os
+import stat
 
 FIRST = "0" * 64
 
@@ -17,9 +19,13 @@ def printable(said):
 
 
 def read_shown(file):
-    """The hashes that were shown, by the numbers of their lines. Before the first there is none."""
+    """The hashes that were shown, by the numbers of their lines. Before the first there is none.
+
+    The user of the pages may put a pipe in the place of the file, which root would wait for."""
     shown = {}
-    with open(file, encoding="utf-8", newline="") as rows:
+    with open(os.open(file, os.O_RDONLY | os.O_NONBLOCK), encoding="utf-8", newline="") as rows:
+        if not stat.S_ISREG(os.fstat(rows.fileno()).st_mode):
+            raise ValueError("it is no file")
         for row in csv.DictReader(rows):
             shown.setdefault(int(row["lines"]), set()).add(row["sha256"])
     shown.pop(0, None)

@@ -253,12 +253,14 @@ class Handler(http.server.BaseHTTPRequestHandler):
         except OSError:
             body = None
         kind = KINDS.get(file.suffix, "application/octet-stream")
+        # A drawing that is opened by itself may have a script, and it would act as the name.
+        policy = {"Content_Security_Policy": self.server.house.policy}
         if body is None:
             self.send(404)
         elif kind == HTML:
-            self.send_page(body, Content_Security_Policy=self.server.house.policy)
+            self.send_page(body, **policy)
         else:
-            self.send(200, body, kind)
+            self.send(200, body, kind, **policy)
 
     def answer_table(self, found):
         self.read(found.path, Office_Allowed=self.says_allowed(found))

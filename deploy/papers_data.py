@@ -307,7 +307,7 @@ class Record(entries.Reading):
     def gone_since(self, con):
         """Those who are gone since the certificate; None where the record does not say."""
         whole = len(self.editions[con.code]) - 1 == con.edition
-        if not whole or con.gone.keys() - self.places_of(con, self.gone):
+        if not whole or self.lost_gone_of(con):
             return None
         return con.gone.keys() - self.places_of(con, self.gone_before.get(con.code, ()))
 
@@ -331,6 +331,24 @@ class Record(entries.Reading):
             raise Refused("copy_is_older", con=con.code, what=con.code)
         if len(known) - 1 == con.edition and known[-1] != con.certified:
             raise Refused("other_record", con=con.code, what=con.code)
+        drawn = self.lots[con.code][-1][1]
+        lot = tuple(con.lists[place - 1]["code"] for place in con.lot)
+        # (a query that the record lacks may have removed the lot)
+        is_later = bool(self.lost_of(con)) and not lot
+        if len(known) - 1 == con.edition and lot != drawn and not is_later:
+            raise Refused("other_record", con=con.code, what=con.code)
+
+    def lost_of(self, con):
+        """The stations of which it lacks an act."""
+        return [one.station for one in con.returns if not self.is_whole_of(one)]
+
+    def lost_gone_of(self, con):
+        """The places of those who are gone by no act that it has."""
+        return sorted(con.gone.keys() - self.places_of(con, self.gone))
+
+    def lacks_edition_of(self, con):
+        """Whether it lacks the act by which the constituency came to its edition."""
+        return len(self.editions[con.code]) - 1 < con.edition
 
     def is_whole_of(self, one):
         """Whether it has each revision of a return."""

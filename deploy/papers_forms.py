@@ -220,6 +220,17 @@ def lot(forms, con, record):
     return found
 
 
+def lost(forms, con, record):
+    """The acts that the copy has and the record lacks: the stations, the edition, and who is gone;
+    an empty text where there are none."""
+    if not record:
+        return {"lost": "", "lost_edition": "", "lost_gone": ""}
+    edition = forms.number(con.edition) if record.lacks_edition_of(con) else ""
+    gone = [f"{con.lists[place - 1]['code']} {order}" for place, order in record.lost_gone_of(con)]
+    return {"lost": ", ".join(record.lost_of(con)), "lost_edition": edition,
+            "lost_gone": ", ".join(gone)}
+
+
 def withdrawn(forms, con):
     """The proclamations that were withdrawn, each with its seats."""
     return [forms.say("withdrawn_of", edition=edition, seats=", ".join(
@@ -303,7 +314,6 @@ def act_of_count(forms, con, record):
     """The values for the template of the act of the general count."""
     if con.left:
         raise Refused("not_closed", con=con.code, left=con.left, stations=len(con.stations))
-    lost = [one.station for one in con.returns if record and not record.is_whole_of(one)]
     key = "count_said_one" if len(con.stations) == 1 else "count_said"
     said = forms.said(key, con=forms.templates.name(con.setup["name"]),
                       stations=forms.number(len(con.stations)))
@@ -313,7 +323,7 @@ def act_of_count(forms, con, record):
             "lists": list_rows(forms, con),
             "threshold": threshold(forms, con), "lot": lot(forms, con, record),
             "incidents": incidents(forms, con, record), "withdrawn": withdrawn(forms, con),
-            "lost": ", ".join(lost), "room": ROOM_FOR_COMPLAINTS, "more": ROOM_FOR_MORE,
+            **lost(forms, con, record), "room": ROOM_FOR_COMPLAINTS, "more": ROOM_FOR_MORE,
             "done_at": done_at(forms), "annex": annex(forms, con)}
 
 
@@ -358,8 +368,8 @@ def act_of_proclamation(forms, con, record):
             "threshold": threshold(forms, con), "lot": lot(forms, con, record),
             "elected": elected, "gone": gone, "gone_unknown": since is None,
             "gone_since": gone_of(forms, con, since or ()), "holders": holders(forms, con, since),
-            "withdrawn": withdrawn(forms, con), "room": ROOM_FOR_COMPLAINTS,
-            "appeals": ROOM_FOR_APPEALS, "more": ROOM_FOR_MORE,
+            "withdrawn": withdrawn(forms, con), **lost(forms, con, record),
+            "room": ROOM_FOR_COMPLAINTS, "appeals": ROOM_FOR_APPEALS, "more": ROOM_FOR_MORE,
             "done_at": done_at(forms), "total": forms.number(sum(con.given.values()))}
 
 

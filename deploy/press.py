@@ -484,7 +484,7 @@ def write_index(folder, site, cons, setup, electors, seen, head):
 
 def head_of(body):
     """The lines under the title, of the parts of a page."""
-    return {key: body[key] for key in ("headline", "counted_line")}
+    return {key: body[key] for key in ("headline", "counted_line", "outlook")}
 
 
 def write_lists(folder, site, cons, setup, electors, seen):
@@ -506,7 +506,7 @@ def write_lists(folder, site, cons, setup, electors, seen):
             found = re.fullmatch(r"list-(.+)|lists-(.+)-\d+", page.stem)
             if found and not {found[1], found[2]} & codes:
                 remove(into, page.name)
-        write_parts(into, "elected", elected_pages(one, cons))
+        write_parts(into, "elected", elected_pages(one, country, cons))
     put(folder, "elected.csv", elected_csv(cons))
     seen.lists = dict(cons)
 

@@ -7,8 +7,9 @@ from fractions import Fraction
 from press_country import loser, seats_before, shares_before
 from press_data import OPEN
 from press_figures import bars, half_circle
-from press_head import (Standing, con_outlook, counted_line, has_won, leads, lot_said,
-                        reason_said, reopened_counted)
+from press_head import Standing, con_outlook, con_state, counted_line, has_won, leads
+from press_lots import lot_drawn, lot_said
+from press_open import reason_said, reopened_counted
 from press_parts import (COUNTED, NOTHING, TABLE_ROOM, Head, Part, by_votes, changed, changing,
                          details_links, divided, list_link, list_name, numbers, pieces,
                          progress_bar, room_beside, rounded, row_of, sections, sections_on,
@@ -76,29 +77,6 @@ def why_none(site, con):
     return "none_withdrawn" if con["past"] else "none_open", why
 
 
-def lot_drawn(site, con):
-    """Which lists were level for the last seats and which of them a lot gave these, where quotients
-    show it; and last the order that was drawn. None of these where no lot was."""
-    order = con["view"]["lot"]
-    if not order:
-        return []
-    said = [site.said("lot", lists=site.say("lot_then").join(order))]
-    if con.get("awards"):
-        unit, divisor = RULES[con["rule"]["method"]]
-        votes = {row["code"]: row["votes"] * unit for row in con["tally"]["lists"]}
-        quotients = [(one["list"], Fraction(votes[one["list"]], divisor(one["of_list"])))
-                     for one in con["awards"]]
-        last = quotients[-1][1]
-        winners = [code for code, quotient in quotients if quotient == last]
-        losers = [code for code, row in con["quotients"]
-                  if Fraction(votes[code], divisor(1 + sum(won for _, won in row))) == last]
-        if losers:
-            lists = [code for code in votes if code in {*winners, *losers}]
-            said.insert(0, site.said("lot_decided", many=len(winners), lists=site.listed(lists),
-                                     winners=site.listed(list(dict.fromkeys(winners)))))
-    return said
-
-
 def last_seat(site, con):
     """Why the last seat went where it did, in sentences; none where no quotient decided it."""
     if not con.get("awards"):
@@ -144,17 +122,19 @@ def provisional_sections(site, con, none, why, room):
     if question:
         rows.append(row_of(site, site.said("row_lot"), site.number(question)))
     of_all = site.number(total)
-    rows.append(row_of(site, site.said("total"), of_all if question else word(of_all)))
+    rows.append(row_of(site, site.said("total_all" if question else "total"),
+                       of_all if question else word(of_all)))
     values = {"share": site.per_cent(counted_share(tally["closed"], tally["stations"])),
               "closed": site.number(tally["closed"]), "stations": site.number(tally["stations"])}
     whole = tally["closed"] == tally["stations"]
     heads = (site.said("list"), numbers(site.said("seats_provisional")))
     first, *more = tables(site, site.said("table_provisional", **values), heads, rows, "totalled",
                           room=room)
-    circle = half_circle(site, {}, total, [("seats_by_lot", question)], provisional=given)
+    circle = half_circle(site, {}, total, [("circle_lot", question)], provisional=given)
     # What a lot has to decide where all is counted is said above as what the certificate needs.
     lot = None if whole else lot_said(site, con)
-    words = "provisional_said_all" if whole and not con["past"] else "provisional_said"
+    words = ("provisional_said" if not whole else "provisional_said_again" if con["past"]
+             else "provisional_said_all")
     seats = site.templates.of_con.provisional_seats(
         none, why, site.said(words, many=total - question if whole else total, **values), lot,
         circle, first)
@@ -185,7 +165,7 @@ def votes_sections(site, code, con, entry, room):
     first, *more = tables(site, site.said("table_votes"), heads, rows, "stacked", room=room)
     votes = site.templates.of_con.votes(
         con["tally"]["closed"], con["tally"]["stations"], bars(site, lists, threshold, limit),
-        first, shares, before is not None)
+        first, shares, before is not None, con_state(con) == "withdrawn")
     return [Part(votes, first.heads), *sections_on(site, more)]
 
 
@@ -250,7 +230,8 @@ def counted_section(site, code, con, row, entry, published, has_places):
     returns = table(site, site.said("table_returns"), heads, [counts], "turned")
     counted = site.templates.of_con.counted(
         said, progress_bar(site, said, row["closed"], row["stations"]), returns, turnout,
-        votes_said(site, tally["valid"], tally["blank"], tally["spoiled"]), links,
+        votes_said(site, tally["valid"], tally["blank"], tally["spoiled"])
+        if tally["closed"] else None, links,
         bool(entry) and not published)
     return Part(counted, returns.heads)
 
@@ -414,10 +395,6 @@ def con_bodies(site, code, con, row, entry, returns, electors=None, has_places=F
                      for here, group in enumerate(groups))]
 
 
-def state_of(con, row):
-    return "certified" if row["certified"] else "withdrawn" if con["past"] else "open"
-
-
 def colours(site, con):
     return site.colours_in(one["code"] for one in con["tally"]["lists"])
 
@@ -426,7 +403,7 @@ def con_page(site, con, row, body, moment):
     """The page of a constituency, which has this."""
     return site.templates.page(
         "con.html", here=f"con-{row['con']}.html", name=con["tally"]["name"],
-        state=state_of(con, row), edition=row["edition"], moment=moment,
+        edition=row["edition"], moment=moment,
         colours=colours(site, con), **body)
 
 
@@ -434,5 +411,5 @@ def details_page(site, code, con, row, body, moment):
     """A page on which that of a constituency goes on."""
     return site.templates.page(
         "details.html", here=f"con-{code}.html", code=code,
-        name=con["tally"]["name"], state=state_of(con, row), edition=row["edition"],
-        moment=moment, colours=colours(site, con), **body)
+        name=con["tally"]["name"], edition=row["edition"], moment=moment,
+        colours=colours(site, con), **body)

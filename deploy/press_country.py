@@ -39,6 +39,9 @@ class Country:
     question: int = 0  # seats there that a lot would decide
     uncounted: int = 0  # seats in constituencies in which nothing is counted
     is_provisional: bool = False  # whether a constituency shows provisional seats
+    # Of the constituencies that show some: how many stations are counted, and of how many.
+    provisional_closed: int = 0
+    provisional_stations: int = 0
     cons: int = 0
     certified_cons: int = 0
     withdrawn: list = field(default_factory=list)  # codes of constituencies
@@ -72,19 +75,12 @@ class Country:
         return self.chamber - self.certified - self.provisional - self.question - self.uncounted
 
     @property
-    def kinds(self):
-        """How many seats are of each kind, by the words for it."""
-        return (("seats_kind_certified", self.certified),
-                ("seats_kind_provisional", self.provisional), ("seats_kind_lot", self.question),
-                ("seats_kind_uncounted", self.uncounted), ("seats_kind_open", self.open))
-
-    @property
     def nobodys(self):
-        """How many seats no list has, of each kind, by the words for it in a picture and in a
-        table."""
-        return (("seats_by_lot", "row_lot", self.question),
-                ("seats_uncounted", "row_uncounted", self.uncounted),
-                ("seats_open", "row_open", self.open))
+        """How many seats no list has, of each kind, by the words for it in a sentence, in a picture
+        and in a table."""
+        return (("seats_kind_lot", "circle_lot", "row_lot", self.question),
+                ("seats_kind_uncounted", "circle_uncounted", "row_uncounted", self.uncounted),
+                ("seats_kind_open", "circle_open", "row_open", self.open))
 
     @property
     def is_mixed(self):
@@ -173,7 +169,10 @@ def add_provisional(found, parties, con):
         parties[of_list].provisional += many
         parties[of_list].provisional_cons += 1
         found.provisional += many
-    found.is_provisional = found.is_provisional or bool(given)
+    if given:
+        found.is_provisional = True
+        found.provisional_closed += con["tally"]["closed"]
+        found.provisional_stations += con["tally"]["stations"]
     found.question += lot[1] if (lot := lot_of(con)) else 0
     found.uncounted += 0 if con["tally"]["closed"] else con["rule"]["seats"]
 

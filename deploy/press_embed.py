@@ -1,11 +1,9 @@
 """The parts that other sites may embed: the result of the country, or of a constituency, without a
 script, as small pages whose links open in a window of their own."""
 
-from press_con import lot_drawn, state_of
 from press_figures import half_circle
-from press_head import lot_said, reason_said
-from press_pages import (certified_said, circle_of, country_head, others_cells, provisional_said,
-                         seats_cells, seats_heads, total_cells, votes_cells)
+from press_pages import (circle_of, country_head, others_cells, provisional_said, seats_cells,
+                         seats_heads, total_cells, votes_cells)
 from press_parts import (NOTHING, base_of, by_votes, framed, list_name, numbers, rounded,
                          stacked_row)
 from press_results import by_seats, counted_share, provisional_seats
@@ -24,7 +22,7 @@ def embedded(site, values, heads, rows, circle, codes):
 
     def written(moment):
         return site.templates.page("embed.html", circle=circle, table=table, moment=moment,
-                                   colours=site.colours_in(codes), **values)
+                                   colours=site.colours_in(codes), withdrawn=False, **values)
 
     return written
 
@@ -37,8 +35,8 @@ def country_embedded(site, country, cons):
     if left := country.parties[SHOWN:]:
         rows.append(others_cells(site, country, left))
     values = country_head(site, country, cons) | {
-        "name": None, "page": "index.html", "state": certified_said(site, country),
-        "warnings": [one for one in (provisional_said(site, country, cons),) if one]}
+        "name": None, "page": "index.html",
+        "warnings": [one for one in (provisional_said(site, country),) if one]}
     return embedded(site, values, seats_heads(site, country, None),
                     [*rows, *total_cells(site, country)], circle_of(site, country),
                     [party.code for party in country.parties])
@@ -51,10 +49,9 @@ def con_embedded(site, code, con, head):
     question = con["provisional"]["question"] if more else 0
     circle = None
     if given or more:
-        circle = half_circle(site, given, con["rule"]["seats"], [("seats_by_lot", question)],
+        circle = half_circle(site, given, con["rule"]["seats"], [("circle_lot", question)],
                              provisional=more)
     values = head | {"name": tally["name"], "page": f"con-{code}.html",
-                     "state": site.said(f"con_{state_of(con, con['progress'])}"),
                      "warnings": con_warnings(site, con, more)}
     heads = [numbers(site.said("seats_provisional") if more else site.said("seats").lower())]
     return embedded(site, values, heads, con_rows(site, con, given, more, question), circle,
@@ -62,20 +59,14 @@ def con_embedded(site, code, con, head):
 
 
 def con_warnings(site, con, more):
-    """Sentences on a reopening, on a lot that is needed or decided a seat, and on provisional
-    seats."""
+    """A sentence on what the provisional seats are; none where there are none."""
     tally = con["tally"]
     whole = tally["closed"] == tally["stations"]
     found = []
-    if con["past"] and "seats" not in con:
-        found.append(NOTHING.join([site.said("may_change"), reason_said(site, con)]))
-    if lot := lot_said(site, con):
-        found.append(lot)
-    if con["view"]["certified"]:
-        found += lot_drawn(site, con)[:1]
     if more:
         found.append(site.said(
-            "provisional_said_all" if whole and not con["past"] else "provisional_said",
+            "provisional_said" if not whole else "provisional_said_again" if con["past"]
+            else "provisional_said_all",
             many=con["rule"]["seats"] - (con["provisional"]["question"] if whole else 0),
             closed=site.number(tally["closed"]),
             share=site.per_cent(counted_share(tally["closed"], tally["stations"])),
@@ -106,7 +97,8 @@ def con_rows(site, con, given, more, question):
     if question:
         found.append([site.said("row_lot"), site.number(question), "–", ""])
     total, votes = site.number(con["rule"]["seats"]), sum(row["votes"] for row in lists)
-    found.append([site.said("total"), word(total) if more and not question else total,
+    found.append([site.said("total_all" if question else "total"),
+                  word(total) if more and not question else total,
                   site.number(votes) if con["tally"]["closed"] else "–", ""])
     return found
 
@@ -114,7 +106,7 @@ def con_rows(site, con, given, more, question):
 def withdrawn_embedded(site):
     """The part of a constituency that is none of the election, as a function of its moment."""
     values = {"circle": None, "colours": (), "name": None, "page": "index.html",
-              "state": site.said("page_withdrawn_said"), "table": NOTHING, "warnings": ()}
+              "withdrawn": True, "table": NOTHING, "warnings": ()}
 
     def written(moment):
         return site.templates.page("embed.html", moment=moment, **values)

@@ -63,10 +63,11 @@ def places_of_dots(count):
 def half_circle(site, seats, total, left=(), majority=None, provisional=None):
     """The seats as a half circle of dots, by list in the order of seats, then those that are left,
     each kind with its words; the first lists are named beside their own. Certified seats are full
-    dots, with a bar across each where the colour is much like that of the list before. Provisional
-    seats are hollow dots after those of the list, and their number is after a plus: the word is in
-    the caption."""
+    dots, with a rim around each where the colour is much like that of the list before. Provisional
+    seats are hollow dots after those of the list; where others are certified, their number is after
+    a plus. The word is in the caption."""
     provisional = provisional or {}
+    is_mixed = any(seats.values()) and any(provisional.values())
     sums = {code: (seats.get(code, 0), provisional.get(code, 0))
             for code in dict.fromkeys([*seats, *provisional])}
     groups = sorted(((code, *of) for code, of in sums.items() if any(of)),
@@ -74,23 +75,25 @@ def half_circle(site, seats, total, left=(), majority=None, provisional=None):
     named = [*groups, *((None, many, words) for words, many in left if many)]
     dots, size = places_of_dots(total)
     at = majority_angle(dots, majority) if majority else None
-    drawn, labels, start, barred, before = [], [], 0, False, None
+    drawn, labels, start, rimmed, before = [], [], 0, False, None
     for code, many, more in named:
         words, more = (more, 0) if code is None else (None, more)
         own, start = dots[start:start + many + more], start + many + more
-        barred = bool(code and before and not barred
+        rimmed = bool(code and before and not rimmed
                       and like(site.colours_of(before), site.colours_of(code)))
-        drawn += [group_of_dots(code, own[:many], size, barred)] if many else []
+        drawn += [group_of_dots(code, own[:many], size, rimmed)] if many else []
         drawn += [group_of_dots(code, own[many:], size, hollow=True)] if more else []
         before = code
-        middle = (own[0][0] + own[-1][0]) / 2
-        said = f"{many}+{more}" if more else f"{many}"
+        middle, edge = anchor_of(own, size)
+        said = f"{many or ''}+{more}" if more and is_mixed else f"{many + more}"
         if code is None or len(labels) < NAMED_LISTS:
-            labels.append((clear_of(at, middle), f"{code or site.say(words)} {said}"))
+            labels.append((clear_of(at, middle), edge, f"{code or site.say(words)} {said}"))
     sides, lines, width, top, bottom = placed_labels(labels, 100 + size)
     return {
         "said": ", ".join(dots_said(site, *group) for group in named),
-        "hollow": any(provisional.values()), "barred": any(group["bars"] for group in drawn),
+        "hollow": (None if not any(provisional.values()) else "hollow_dots" if is_mixed
+                   else "hollow_alone"),
+        "grey": any(many for _, many in left), "rimmed": any(group["rim"] for group in drawn),
         "named": NAMED_LISTS if len(groups) > NAMED_LISTS else None, "many": len(groups),
         "box": f"{-width:.0f} {top:.0f} {2 * width:.0f} {bottom - top:.0f}",
         "stroke": f"{2 * size:.1f}", "groups": drawn, "sides": sides, "lines": lines,
@@ -106,15 +109,24 @@ def dots_said(site, code, many, more):
         site.say("circle_both", said=said, many=more))
 
 
-def group_of_dots(code, dots, size, barred=False, hollow=False):
+def anchor_of(dots, size):
+    """Where the line of a label ends: the angle, and the edge of a dot there. That is in the middle
+    of the dots of the outer row, or at the outermost dot."""
+    radius = max(radius for _, radius in dots)
+    angles = [angle for angle, of in dots if of == radius]
+    return (angles[0] + angles[-1]) / 2, radius + size
+
+
+def group_of_dots(code, dots, size, rimmed=False, hollow=False):
     """The dots of a list, as lines of no length with round ends, as wide as the picture says; of
-    the open seats where there is no list. A bar goes across the dot, from edge to edge."""
+    the open seats where there is no list, which are small. A rim is what is left of a dot around a
+    smaller one."""
     places = [(radius * math.cos(angle), -radius * math.sin(angle)) for angle, radius in dots]
     path = "".join(f"M{x:.1f} {y:.1f}h0" for x, y in places)
-    hole = 1.45 * size if hollow else 0 if code else 2 * size - 1.6
-    bars = "".join(f"M{x - size:.1f} {y:.1f}h{2 * size:.1f}" for x, y in places if barred)
+    hole = 1.45 * size if hollow else 0
     return {"code": code, "path": path, "hole": f"{hole:.1f}" if hole else None,
-            "bars": bars, "bar": f"{0.5 * size:.1f}"}
+            "rim": f"{1.45 * size:.1f}" if rimmed else None,
+            "width": None if code else f"{0.8 * size:.1f}"}
 
 
 def majority_angle(dots, majority):
@@ -136,19 +148,21 @@ def majority_line(angle, outer):
 
 def placed_labels(labels, outer):
     """Labels beside a half circle, each at its angle or as near as the others leave room, with
-    lines to them; and what they take: half of the width, the top and the bottom."""
+    lines to those that are moved or whose dot is within; and what they take: half of the width, the
+    top and the bottom."""
     sides, lines, width, top, bottom = [], "", outer + 3, -outer - 8, 8.0
     for side in (-1, 1):
-        own = sorted(((-(outer + 7) * math.sin(angle) + 3, angle, text) for angle, text in labels
+        own = sorted(((-(outer + 7) * math.sin(angle) + 3, angle, edge, text)
+                      for angle, edge, text in labels
                       if (math.cos(angle) > 0) == (side > 0)), key=lambda label: label[0])
         words = []
-        for height, (wanted, angle, text) in zip(spread([one[0] for one in own]), own):
+        for height, (wanted, angle, edge, text) in zip(spread([one[0] for one in own]), own):
             reach = outer + 7
             beside = math.sqrt(max(reach ** 2 - (height - 3) ** 2, 0)) if height < 3 else reach
             x = side * max(abs(reach * math.cos(angle)), beside)
-            if abs(height - wanted) > 4:
-                lines += (f"M{(outer + 1) * math.cos(angle):.1f} "
-                          f"{-(outer + 1) * math.sin(angle):.1f}L{x:.1f} {height - 3:.1f}")
+            if abs(height - wanted) > 4 or edge < outer:
+                lines += (f"M{(edge + 1) * math.cos(angle):.1f} "
+                          f"{-(edge + 1) * math.sin(angle):.1f}L{x:.1f} {height - 3:.1f}")
             words.append((f"{x + 2 * side:.1f}", f"{height:.1f}", text))
             width = max(width, abs(x) + 4 + LETTER_WIDTH * len(text))
             top, bottom = min(top, height - 12), max(bottom, height + 4)

@@ -1,16 +1,18 @@
-"""The lines under the title of each page: how much is counted, with the turnout of that; who has
-how many seats so far and what they are; what is missing; and who leads or has won."""
+"""The lines under the title of each page: whether the result is final; how much is counted, with the
+turnout of that; who has how many certified and how many provisional seats; what is missing; and who
+leads or has won."""
 
 from typing import NamedTuple
 
-from press_country import by_name, is_withdrawn
+from press_lots import lot_drawn, lot_line, lot_said, lots_decided
 from press_names import isolated
+from press_open import country_open, reopened_counted, reopened_said
 from press_parts import rounded
 from press_results import by_seats, counted_share, lot_of, provisional_seats
 
-# Lists that are named one by one, where they have as many votes; lists whose seats are in the line
-# of the seats; and constituencies that are named one by one, where each lacks something.
-NAMED, SHOWN_SEATS, SHOWN_CONS = 3, 8, 3
+# Lists that are named one by one, where they have as many votes; and lists whose seats are in the
+# line of the seats.
+NAMED, SHOWN_SEATS = 3, 8
 
 
 class Standing(NamedTuple):
@@ -83,7 +85,7 @@ def has_won(site, standings, total, majority=None):
 
 def by(standings, what):
     """The first two, with the most votes or seats; None in their place where there are fewer."""
-    ordered = sorted(standings, key=lambda one: -getattr(one, what))
+    ordered = sorted(standings, key=lambda one: (-getattr(one, what), -one.votes))
     return [*ordered, None, None][:2]
 
 
@@ -94,129 +96,114 @@ def name(standing):
 # ---- the seats, and what is missing
 
 
-def seats_line(site, words, given, open_lists=(), is_open=False, certified=None):
+def seats_line(site, kind, words, given):
     """The seats of each list, those with most first, after these words; then the lists beyond
-    those that are shown, together. None where there is none. Each is with whether some of its
-    seats are provisional, as they are of the open lists, and with those of its seats that are
-    certified, where they are given; the line is open where not all are certified."""
+    those that are shown, together. None where there is none. All are of one kind: certified, or
+    provisional."""
     ordered = sorted((one for one in given.items() if one[1]), key=lambda one: -one[1])
     if not ordered:
         return None
-
-    def said(place, codes):
-        many = site.number(sum(given[code] for code in codes))
-        if certified is None:
-            return many
-        # The word is with the first, and then only the numbers: there may be eight of them.
-        return site.say("seats_of_which" if place else "seats_of_which_first", seats=many,
-                        many=sum(certified[code] for code in codes))
-
-    shown, left = ([code for code, _ in part] for part in (ordered[:SHOWN_SEATS],
-                                                           ordered[SHOWN_SEATS:]))
-    return {"words": words, "is_open": is_open,
-            "seats": [(code, said(place, [code]), code in open_lists)
-                      for place, code in enumerate(shown)],
-            "others_open": any(code in open_lists for code in left),
-            "others": site.say("seats_others", many=len(left),
-                               seats=said(SHOWN_SEATS, left)) if left else None}
-
-
-def lot_line(site, by_lot, whole, codes=()):
-    """How many seats wait for a lot, and between which lists; None where none does. While votes
-    are missing, they would wait for it."""
-    if not by_lot:
-        return None
-    said = site.said("lot_waits" if whole else "lot_waits_so_far", many=by_lot)
-    return f"{said}: {site.one_of(codes)}" if codes else said
-
-
-def parts_said(site, seats, parts):
-    """How many of the seats are certified, provisional and so on, where some are."""
-    said = [site.say(words, many=many) for words, many in parts if many]
-    return site.say("seats_are", many=seats, parts=site.listed(said)) if said else None
+    shown, left = ordered[:SHOWN_SEATS], ordered[SHOWN_SEATS:]
+    others = site.say("seats_others", many=len(left),
+                      seats=site.number(sum(many for _, many in left)))
+    return {"words": words, "kind": kind, "others": others if left else None,
+            "seats": [(code, site.number(many)) for code, many in shown]}
 
 
 def con_outlook(site, con):
-    """Of a constituency the seats so far, what they are, and what is missing."""
+    """Of a constituency what its result is, the seats so far, and what is missing."""
     tally, number, given = con["tally"], con["rule"]["seats"], provisional_seats(con)
+    kind = con_state(con)
+    found = {"final": False, "state": (kind, site.said(f"con_{kind}")), "warnings": [], "said": [],
+             "lot": None, "majority": None, "open": None}
     if "seats" in con:
-        return {"final": True, "warnings": [], "said": [], "lot": None, "majority": None,
-                "line": seats_line(site, site.say("line_certified"),
-                                   by_seats(con, con["seats"]["seats"]))}
+        line = seats_line(site, kind, site.say("line_certified"),
+                          by_seats(con, con["seats"]["seats"]))
+        return found | {"final": True, "lines": [line], "said": lot_drawn(site, con)[:1]}
     whole = tally["closed"] == tally["stations"]
-    warnings = [reopened_said(site, con)] if con["past"] else []
+    if con["past"]:
+        found["warnings"].append(reopened_said(site, con))
     codes, by_lot = lot_of(con) or ((), 0)
     if by_lot:
-        warnings.append(lot_said(site, con))
+        found["warnings"].append(lot_said(site, con))
     if con["past"]:
         said = site.said("may_change") if whole else reopened_counted(site, con)
     elif given and whole:
         said = site.said("all_counted", many=number - by_lot)
     else:
         said = site.said("seats_count_goes_on" if given else "seats_none_given", many=number)
-    return {"final": False, "warnings": warnings, "said": [said], "majority": None,
-            "lot": lot_line(site, by_lot, whole, codes),
-            "line": seats_line(site, site.say("line_provisional_all" if whole
-                                              else "line_provisional"), given, given, True)}
+    line = seats_line(site, "provisional", site.say("line_provisional"), given)
+    return found | {"said": [said], "lot": lot_line(site, by_lot, whole, codes),
+                    "lines": [line] if line else []}
 
 
-def lot_said(site, con):
-    """Between which lists a lot must be drawn, or would have to be while votes are missing; None
-    where none is needed."""
-    tally, lot = con["tally"], lot_of(con)
-    if not lot:
-        return None
-    words = "lot_needed" if tally["closed"] == tally["stations"] else "lot_would"
-    return site.said(words, many=lot[1], lists=site.listed(lot[0]))
+def con_state(con):
+    """The state of a constituency: a word of the style and of the texts."""
+    return "certified" if con["view"]["certified"] else "withdrawn" if con["past"] else "open"
 
 
-def reopened_said(site, con):
-    """That a constituency was certified and is reopened, with the reason."""
-    words = "reopened" if provisional_seats(con) else "reopened_open"
-    said = site.said(words, many=con["rule"]["seats"],
-                     con=site.templates.name(con["tally"]["name"]))
-    return said + reason_said(site, con)
-
-
-def reason_said(site, con):
-    """Why a constituency was reopened, after another sentence; nothing where no note says so."""
-    note = con["view"]["note"]
-    return " " + site.said("reopened_why", note=site.templates.name(note)) if note else ""
-
-
-def reopened_counted(site, con, words="reopened_counted"):
-    """How much of a reopened constituency is counted, where that is not all."""
-    closed, stations = con["tally"]["closed"], con["tally"]["stations"]
-    return site.said(words, closed=site.number(closed), many=stations,
-                     share=site.per_cent(counted_share(closed, stations)))
+# ---- the country
 
 
 def country_outlook(site, country, cons):
-    """Of the country the seats so far, what they are, who has the majority, and what is missing."""
-    given = {party.code: party.seats + party.provisional for party in country.parties}
+    """Of the country what its result is, the seats so far, who has the majority, and what is
+    missing."""
+    return {"final": country.whole, "state": country_state(site, country), "warnings": [],
+            "lines": country_lines(site, country), "lot": nobodys_line(site, country),
+            "majority": majority_said(site, country), "said": lots_decided(site, cons),
+            "open": country_open(site, country, cons)}
+
+
+def country_state(site, country):
+    """Whether the result of the country is final, and how many seats are not certified."""
     if country.whole:
-        return {"final": True, "warnings": [], "said": [], "lot": None,
-                "majority": majority_said(site, country),
-                "line": seats_line(site, site.say("line_certified"), given)}
-    said = [parts_said(site, country.chamber, country.kinds)]
-    if country.provisional and country.closed == country.stations:
-        words = "may_change" if country.withdrawn else "all_counted"
-        said.append(site.say(words, many=country.provisional))
-    lots = [con["tally"] for con in cons.values() if lot_of(con)]
-    return {"final": False, "said": [one for one in said if one],
-            "warnings": country_warnings(site, cons), "majority": majority_said(site, country),
-            "lot": lot_line(site, country.question,
-                            all(tally["closed"] == tally["stations"] for tally in lots)),
-            "line": seats_line(site, country_words(site, country), given,
-                               {party.code for party in country.parties if party.provisional},
-                               bool(country.provisional), certified_seats(country))}
+        return "certified", site.said("country_certified", many=country.chamber)
+    words = "country_part" if country.certified else "country_none"
+    return "open", site.said(words, many=country.chamber,
+                             open=site.number(country.chamber - country.certified))
 
 
-def certified_seats(country):
-    """The certified seats of each list, where other seats are provisional; else None."""
-    if not country.certified or not country.provisional:
+def state_alone(site, country):
+    """Whether the result of the country is final, on a page that has other lines of its own."""
+    return {"final": country.whole, "state": country_state(site, country), "warnings": [],
+            "lines": [], "lot": None, "majority": None, "said": [], "open": None}
+
+
+def list_outlook(site, country, party):
+    """Of a list its certified and its provisional seats, and whether the seats of all are final."""
+    words = "lists_certified" if country.whole else "lists_open"
+    state = site.said(words, many=country.chamber,
+                      open=site.number(country.chamber - country.certified))
+    lines = [seats_line(site, "certified", site.say("line_certified"), {party.code: party.seats}),
+             seats_line(site, "provisional", site.say("line_provisional"),
+                        {party.code: party.provisional})]
+    return state_alone(site, country) | {
+        "state": (country_state(site, country)[0], state),
+        "lines": [line for line in lines if line]}
+
+
+def country_lines(site, country):
+    """The certified seats, and then the provisional ones: each line with how many of all these
+    are."""
+    certified = {party.code: party.seats for party in country.parties}
+    if country.whole:
+        return [seats_line(site, "certified", site.say("line_certified"), certified)]
+    provisional = {party.code: party.provisional for party in country.parties}
+    lines = [seats_line(site, kind, site.say(f"line_{kind}_part", many=country.chamber,
+                                             seats=site.number(sum(given.values()))), given)
+             for kind, given in (("certified", certified), ("provisional", provisional))]
+    return [line for line in lines if line]
+
+
+def nobodys_line(site, country):
+    """How many seats no list has yet, and what they wait for, beside those that some have; None
+    where there is none."""
+    parts = [(words, many) for words, _, _, many in country.nobodys if many]
+    if not parts or not country.certified + country.provisional:
         return None
-    return {party.code: party.seats for party in country.parties}
+    words = site.say("line_nobody", many=country.chamber,
+                     seats=site.number(sum(many for _, many in parts)))
+    return words, site.listed([site.say(words, many=many) for words, many in parts])
 
 
 def majority_said(site, country):
@@ -235,34 +222,3 @@ def majority_said(site, country):
             continue
         values["list"] = site.templates.name(party.name)
     return site.said(words, **values)
-
-
-def country_words(site, country):
-    """The words before the seats of a country that is not certified whole."""
-    if not country.provisional:
-        return site.say("line_certified_so_far")
-    if country.certified:
-        return site.say("line_together")
-    return site.say("line_provisional_all" if country.closed == country.stations
-                    else "line_provisional")
-
-
-def country_warnings(site, cons):
-    """The reopened constituencies and those that need a lot, a sentence each; of many how many."""
-    found = []
-    ordered = [con for _, con in by_name(cons)]
-    reopened = [con for con in ordered if is_withdrawn(con)]
-    for con in reopened[:SHOWN_CONS]:
-        part = con["tally"]["closed"] != con["tally"]["stations"]
-        found.append(reopened_said(site, con)
-                     + (" " + reopened_counted(site, con, "counted_there") if part else ""))
-    if more := len(reopened[SHOWN_CONS:]):
-        found.append(site.said("reopened_more", many=more))
-    lots = [(con, lot) for con in ordered if (lot := lot_of(con))
-            and con["tally"]["closed"] == con["tally"]["stations"]]
-    found += [site.said("lot_needed_in", con=site.templates.name(con["tally"]["name"]),
-                        many=many, lists=site.listed(codes))
-              for con, (codes, many) in lots[:SHOWN_CONS]]
-    if more := len(lots[SHOWN_CONS:]):
-        found.append(site.said("lot_needed_more", many=more))
-    return found

@@ -6,12 +6,13 @@ from functools import partial
 
 from press_country import by_name
 from press_data import ELECTED, csv_text, in_a_cell
-from press_head import counted_line
+from press_head import counted_line, list_outlook, state_alone
 from press_names import label
 from press_parts import (NOTHING, Head, base_of, by_votes, details_links, divided, framed,
                          list_name, numbers, room_beside, rounded, searched, sections, stacked_row,
                          tables)
-from press_results import counted_share, provisional_seats
+from press_pages import counted_of_provisional
+from press_results import provisional_seats
 
 
 def of_list(cons, code):
@@ -35,10 +36,8 @@ def said_of(site, country, party):
         found.append(site.said(words, many=country.chamber, seats=site.number(party.seats),
                                certified=site.number(country.certified)))
     if party.provisional_cons:
-        share = site.per_cent(counted_share(country.closed, country.stations))
-        words = "list_together" if party.certified_cons else "list_provisional"
-        found.append(site.said(words, many=party.provisional, share=share,
-                               together=site.number(party.seats + party.provisional)))
+        found.append(site.said("list_provisional", many=party.provisional,
+                               **counted_of_provisional(site, country)))
     return found
 
 
@@ -89,12 +88,14 @@ def list_pages(site, country, party, cons):
     """The page of a list, and those on which it goes on, each as a function of its moment."""
     rows = of_list(cons, party.code)
     tally = [con["tally"] for _, con, _ in rows]
-    head = {"headline": None, "counted_line": counted_line(
-        site, *(sum(one[key] for one in tally) for key in ("closed", "stations")))}
+    head = {"headline": None, "outlook": list_outlook(site, country, party),
+            "counted_line": counted_line(site, *(sum(one[key] for one in tally)
+                                                 for key in ("closed", "stations")))}
     parts = sections(site, site.said("list_cons"),
                      votes_tables(site, rows, bool(party.provisional_cons)))
     if of_elected := elected_tables(site, rows):
-        parts += sections(site, site.said("elected"), of_elected)
+        words = "elected" if country.whole else "elected_part"
+        parts += sections(site, site.said(words), of_elected)
 
     def written(group, links, first, moment):
         return site.templates.page(
@@ -127,7 +128,7 @@ def elected_rows(cons):
             yield code, con, holder
 
 
-def elected_pages(site, cons):
+def elected_pages(site, country, cons):
     """The pages of those who hold a seat, each as a function of its moment; none where no
     constituency is certified."""
     rows, labels, lists = [], [], {}
@@ -149,9 +150,10 @@ def elected_pages(site, cons):
     def written(rows, links, moment):
         table = framed(site, site.said("table_elected"), heads, rows, "searched stacked")
         return site.templates.page(
-            "elected.html", here="elected-1.html", title=site.said("elected"), said=said,
-            links=links, table=table, moment=moment, colours=site.colours_in(lists),
-            counted_line=counted)
+            "elected.html", here="elected-1.html", said=said, links=links, table=table,
+            title=site.said("elected" if country.whole else "elected_part"), moment=moment,
+            colours=site.colours_in(lists), counted_line=counted,
+            outlook=state_alone(site, country))
 
     empty = written([], NOTHING, datetime.now().astimezone())
     groups, links = searched(site, "elected", rows, labels, empty)

@@ -28,8 +28,6 @@ __all__ = ["aged", "con_bodies", "con_page", "count_pages", "details_page", "ind
 DASH = ">–<"
 # Lists without a seat that the page of the country shows.
 SHOWN_WITHOUT_SEAT = 20
-# Constituencies that are named one by one, where they wait for the same.
-NAMED_CONS = 5
 # Bytes of rows that the table of lists may have on the page of the country, and how many of the
 # closest seats.
 TABLES_OF_COUNTRY = ((math.inf, 10), (16_000, 10), (12_000, 10), (8_000, 10), (6_000, 5),
@@ -49,49 +47,20 @@ def certified_said(site, country):
                      open=site.number(country.chamber - country.certified))
 
 
-def provisional_said(site, country, cons):
-    """How many seats are provisional, with how much is counted; and what the constituencies
-    without a certificate wait for, with all their seats. None where none is provisional."""
+def provisional_said(site, country):
+    """How many seats are provisional, with how much is counted where they are; None where none
+    is."""
     if not country.is_provisional:
         return None
-    said = [site.said("provisional_country", many=country.provisional,
-                      share=site.per_cent(counted_share(country.closed, country.stations)))]
-    for words, codes in waiting(cons).items():
-        lots = [lot_of(cons[code]) for code in codes]
-        said.append(site.said(
-            words, many=sum(cons[code]["rule"]["seats"] for code in codes),
-            cons=cons_named(site, cons, codes),
-            lots=site.number(sum(lot[1] for lot in lots if lot))))
-    return Markup(" ").join(said)
+    return site.said("provisional_country", many=country.provisional,
+                     **counted_of_provisional(site, country))
 
 
-def waiting(cons):
-    """The constituencies without a certificate, by the words for what they wait for, each in the
-    order of names."""
-    found = {"open_counting": [], "open_again": [], "open_board": [], "open_lot": [],
-             "open_uncounted": []}
-    for code, con in by_name(cons):
-        closed, stations = con["tally"]["closed"], con["tally"]["stations"]
-        if not con["view"]["certified"]:
-            found["open_uncounted" if not closed else "open_counting" if closed < stations
-                  else "open_lot" if lot_of(con) else "open_again" if is_withdrawn(con)
-                  else "open_board"].append(code)
-    return {words: codes for words, codes in found.items() if codes}
-
-
-def cons_named(site, cons, codes):
-    """In which constituencies: their names as links where they are few, else how many."""
-    if len(codes) > NAMED_CONS:
-        return site.said("of_cons", many=len(codes))
-    links = [site.templates.parts.con_link(code, cons[code]["tally"]["name"]) for code in codes]
-    return site.said("of_these_cons", cons=Markup(", ").join(links))
-
-
-def withdrawn_said(site, country, cons):
-    """As what the seats of reopened constituencies are counted."""
-    given = sum(sum(provisional_seats(cons[code]).values()) for code in country.withdrawn)
-    seats = sum(cons[code]["rule"]["seats"] for code in country.withdrawn)
-    return site.said("withdrawn_provisional" if given else "withdrawn_why", many=given or seats)
+def counted_of_provisional(site, country):
+    """How much is counted in the constituencies that have provisional seats, as values of texts."""
+    closed, stations = country.provisional_closed, country.provisional_stations
+    return {"closed": site.number(closed), "stations": site.number(stations),
+            "share": site.per_cent(counted_share(closed, stations))}
 
 
 def circle_of(site, country):
@@ -101,7 +70,7 @@ def circle_of(site, country):
     total, labels = country.chamber, sum(any(of) for of in zip(seats.values(), more.values()))
     if not 0 < total <= MOST_DOTS or not 0 < labels <= MOST_LABELS:
         return None
-    left = [(words, many) for words, _, many in country.nobodys]
+    left = [(words, many) for _, words, _, many in country.nobodys]
     return half_circle(site, seats, total, left, country.majority, more)
 
 
@@ -161,21 +130,23 @@ def seats_cells(site, country, party, said):
         return [provisional if country.is_provisional else certified]
     given = party.certified_cons + party.provisional_cons
     together = site.number(party.seats + party.provisional) if given else "–"
-    return [certified, provisional, together]
+    return [certified, provisional, site.templates.parts.sum(together)]
 
 
 def total_cells(site, country):
     """The rows of the seats that no list has, a kind each, and that of all seats: in each column
     those above add up to it. It is provisional where all seats are."""
     more = ["–"] * 2 if country.is_mixed else []
-    for _, words, many in country.nobodys:
+    for _, _, words, many in country.nobodys:
         if many:
             yield [site.said(words), *more, site.number(many), "–", ""]
     word, total = site.templates.parts.provisional, site.number(country.chamber)
     if country.is_mixed:
         more = [site.number(country.certified), word(site.number(country.provisional))]
     votes = site.number(sum(party.votes for party in country.parties)) if country.closed else "–"
-    yield [site.said("total"), *more,
+    is_all = country.is_mixed or not country.is_provisional
+    is_all = is_all or country.provisional == country.chamber
+    yield [site.said("total" if is_all else "total_all"), *more,
            word(total) if country.provisional == country.chamber else total, votes, ""]
 
 
@@ -240,21 +211,21 @@ def country_values(site, country, cons):
     return {
         "title": title_of(site), "certified": certified_said(site, country),
         "certified_cons": country.certified_cons,
-        "provisional": provisional_said(site, country, cons),
-        "withdrawn": [(code, names[code]) for code in country.withdrawn],
-        "withdrawn_why": withdrawn_said(site, country, cons),
+        "provisional": provisional_said(site, country),
         "circle": circle_of(site, country), "chart": chart_of(site, country),
         "base": site.say(f"base_{'lists' if country.bases == {'lists'} else 'valid'}"),
         "counted": site.said("counted", closed=site.number(country.closed), many=country.stations,
                              share=site.per_cent(share)),
         "done": f"{share / 100:.2f}",
         "turnout": turnout_said(site, country),
-        "votes": votes_said(site, country.valid, country.blank, country.spoiled),
+        "votes": (votes_said(site, country.valid, country.blank, country.spoiled)
+                  if country.closed else None),
         "closest": [{"votes": short, "code": code, "con": con, "name": names[con], "loser": of}
                     for short, code, con, of in country.closest],
         "without_short": country.without_short, "whole": country.whole,
         "cons_in_all": country.cons,
-        "map": map_shape(site.map, cons) if site.map else None, "map_key": map_key(cons)}
+        "map": map_shape(site.map, cons) if site.map else None, "map_key": map_key(cons),
+        "map_faded": not country.whole}
 
 
 def index_pages(site, cons, setup, moment, changed, electors):
@@ -296,8 +267,7 @@ def shown_codes(values, parties, firsts):
 
 def outlook_codes(head):
     """The lists that are in the line of the seats, under the title."""
-    line = head["outlook"]["line"]
-    return [code for code, *_ in line["seats"]] if line else []
+    return [code for line in head["outlook"]["lines"] for code, _ in line["seats"]]
 
 
 # ---- the constituencies
@@ -379,11 +349,8 @@ def count_sections(site, cons):
     rows = []
     for code, con in by_name(cons):
         row, state = con["progress"], state_of(con)
-        said = site.said(state)
-        if state == "state_certified":
-            said = site.said("state_certified_in", edition=row["edition"])
         rows.append(stacked_row(
-            site, site.templates.parts.con_link(code, con["tally"]["name"]), said,
+            site, site.templates.parts.con_link(code, con["tally"]["name"]), site.said(state),
             *(site.number(row[key]) for key in COUNTED)))
     certified = sum(con["view"]["certified"] for con in cons.values())
     said = site.said("certified_cons", certified=site.number(certified),

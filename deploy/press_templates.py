@@ -4,17 +4,19 @@ A template sees `site`, `about` (the keys of site.toml, None where one is missin
 the language with its places filled in), `number` and `per_cent`. All that it prints is escaped
 unless a template made it: names by the filters `name`, in an element, and `plain_name`, in a title
 or a label. One of a board may begin with `{% extends "office/NAME" %}`, and then
-changes only the blocks that it names.
+changes only the blocks that it names. It cannot run anything, nor read a file.
 """
 
 import re
 import sys
 from functools import cached_property
-from pathlib import Path
+from pathlib import Path, PurePath
+from types import ModuleType
 
 try:
-    from jinja2 import (ChoiceLoader, Environment, FileSystemLoader, PrefixLoader, StrictUndefined,
-                        TemplateError)
+    from jinja2 import (BaseLoader, ChoiceLoader, Environment, FileSystemLoader, PrefixLoader,
+                        StrictUndefined, TemplateError)
+    from jinja2.sandbox import SandboxedEnvironment
     from markupsafe import Markup
 except ModuleNotFoundError as missing:
     sys.exit(f"failed: Python lacks the module {missing.name}: apt-get install python3-jinja2")
@@ -32,14 +34,25 @@ NEEDLESS = re.compile(r"(?<=[:;{}]) | (?=\{)|;(?= \})")
 __all__ = ["Markup", "TemplateError", "Templates"]
 
 
+class Closed(SandboxedEnvironment):
+    """A template of a board is a text and no program: root prints papers from it. It reaches no
+    file, and nothing that reads or writes templates."""
+
+    def is_safe_attribute(self, obj, attr, value):
+        is_closed = isinstance(obj, (Environment, BaseLoader, PurePath, ModuleType))
+        return not is_closed and super().is_safe_attribute(obj, attr, value)
+
+
 class Templates:
     """The templates of a site, with those of a folder before the others, and its own style after
     that of all. `words` are what every template sees."""
 
     def __init__(self, folder, own_style, **words):
         self.own, self.own_style = FileSystemLoader(folder), own_style
-        self.environment = Environment(
-            loader=ChoiceLoader([self.own, OWN, PrefixLoader({"office": OWN})]), autoescape=True,
+        # (without a template of the board none of it is looked for later: ours are quicker alone)
+        own = [self.own] if self.own.list_templates() else []
+        self.environment = (Closed if own else Environment)(
+            loader=ChoiceLoader([*own, OWN, PrefixLoader({"office": OWN})]), autoescape=True,
             undefined=StrictUndefined, trim_blocks=True, lstrip_blocks=True,
             keep_trailing_newline=True)
         self.environment.globals.update(words)

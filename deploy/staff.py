@@ -10,7 +10,7 @@ from typing import NamedTuple
 
 LINE = re.compile(
     r'^(?P<before>[ \t]*)(?P<name>[^\s#;"]+)(?P<space>[ \t]+)'
-    r'(?:(?P<role>\w+)|"(?P<bound_role>\w+)(?P<cons>(?: [A-Za-z0-9_-]+)*) *")(?P<after>[ \t]*;.*)$',
+    r'(?:(?P<role>\w+)|"(?P<bound_role>\w+)(?P<cons>(?: [A-Za-z0-9_-]+)* *)")(?P<after>[ \t]*;.*)$',
     re.M,
 )
 
@@ -24,7 +24,7 @@ class Post(NamedTuple):
     @property
     def value(self):
         """As staff.conf has it."""
-        return self.role if self.cons is None else f'"{" ".join((self.role, *self.cons))}"'
+        return self.role if self.cons is None else f'"{self.role} {" ".join(self.cons)}"'
 
     @property
     def words(self):
@@ -32,14 +32,26 @@ class Post(NamedTuple):
 
 
 def post_of(found):
-    if found["role"]:
-        return Post(found["role"])
+    # (the proxy reads a role in quotes, with nothing after it, as one without them)
+    if not found["cons"]:
+        return Post(found["role"] or found["bound_role"])
     return Post(found["bound_role"], tuple(found["cons"].split()))
 
 
 def posts(text):
     """Each name with its post."""
     return {found["name"]: post_of(found) for found in LINE.finditer(text)}
+
+
+def unread(text):
+    """The lines in which the proxy may find a name that is not among the posts, by their numbers."""
+    found = {}
+    for number, line in enumerate(text.splitlines(), 1):
+        read = LINE.fullmatch(line)
+        rest = read["after"].strip(" \t").removeprefix(";") if read else line
+        if rest.strip() and not rest.lstrip().startswith("#"):
+            found[number] = line
+    return found
 
 
 def with_post(text, name, post):

@@ -127,7 +127,11 @@ def look_at_backup(folder, most, of, seen):
         copies = sorted(Path(folder).glob("office-*.db"))
         if not copies:
             return Found("backup", False, f"{folder} has no copy", of)
-        age = time.time() - copies[-1].stat().st_mtime
+        # (its user could have root wait for a pipe, or read another's file)
+        found = copies[-1].lstat()
+        if not stat.S_ISREG(found.st_mode):
+            raise OSError(f"{copies[-1]} is no file")
+        age = time.time() - found.st_mtime
         agrees = does_agree(copies[-1], seen)
     except OSError as error:
         return Found("backup", False, f"the newest copy cannot be read: {error}", of)
@@ -181,7 +185,8 @@ def look_at_certificate(file, least):
 
 
 def look_at_record(file, head, seen):
-    """Whether the record is whole: each line follows from the one before, since the last look."""
+    """Whether the record is whole: what was there at the last look is there as it was, and each
+    line after it follows from the one before."""
     shown = None
     if head:
         # (where the recorder is away it is named itself)
@@ -208,14 +213,21 @@ def is_head(shown):
 
 
 def followed(file, before, head):
-    """The last line of a record: its number, its hash and its place. A Broken names the first line
-    that does not follow from the one before it, from the line on that was the last one before."""
+    """The last line of a record: its number, its hash and its place, and the hash of all to its
+    end. A Broken names the first line that does not follow from the one before it, from the line on
+    that was the last one before."""
     with open(file, "rb") as lines:
-        lines.seek(before["at"])
+        whole = hashlib.sha256()
+        for part in parts_of(lines, before["at"]):
+            whole.update(part)
         first = lines.readline() if before["n"] else b""
         if before["n"] and hash_of(first) != before["hash"]:
             raise Broken(f"line {before['n']} is not the one that was seen before, or is gone")
-        now, of_head = followed_on(lines, before, before["at"] + len(first), head)
+        whole.update(first)
+        # (the looks of an older version did not keep it)
+        if before.get("all", whole.hexdigest()) != whole.hexdigest():
+            raise Broken(f"a line before line {before['n']} is not the one that was seen before")
+        now, of_head = followed_on(lines, before, before["at"] + len(first), head, whole)
     if head and head["n"] > now["n"]:
         raise Broken(f"it has {now['n']} lines, and the recorder wrote {head['n']}")
     if head and of_head not in (None, head["hash"]):
@@ -223,9 +235,16 @@ def followed(file, before, head):
     return now
 
 
-def followed_on(lines, before, end, head):
+def parts_of(file, size):
+    """The next bytes of a file, this many where it has them."""
+    while size and (part := file.read(min(size, MEGABYTE))):
+        size -= len(part)
+        yield part
+
+
+def followed_on(lines, before, end, head, whole):
     """The last of the lines that follow, and the hash of the one that the head names, if it is
-    among them."""
+    among them. `whole` is the hash of all lines before them, to which they are added."""
     number, last, at, entry = before["n"], before["hash"], before["at"], {}
     of_head = last if head and head["n"] == number else None
     for line in lines:
@@ -233,6 +252,7 @@ def followed_on(lines, before, end, head):
             # It is being written.
             break
         number, at, end = number + 1, end, end + len(line)
+        whole.update(line)
         entry = entry_of(line)
         # A line that was cut is read by the one after it, which has its hash.
         if entry is not None and (entry.get("n"), entry.get("before")) != (number, last):
@@ -241,7 +261,7 @@ def followed_on(lines, before, end, head):
         of_head = last if head and head["n"] == number else of_head
     if entry is None:
         raise Broken(f"line {number} cannot be read")
-    return {"n": number, "hash": last, "at": at}, of_head
+    return {"n": number, "hash": last, "at": at, "all": whole.hexdigest()}, of_head
 
 
 def entry_of(line):

@@ -1,18 +1,22 @@
 #!/usr/bin/env python3
-"""Runs the suites of tests, as many side by side as there are processors, and says what passed.
+"""Runs the suites of tests side by side, and says what passed.
 
     python3 tests/run.py [--store] [NAME..]
     python3 tests/run.py import deploy/test_limits launcher
 
 A name is that of a suite, such as `import` for tests/program/test_import.py, or of a folder. With
-names only those suites run. Without names `rt ci` runs first, and at last parts of bench/ that
-refuse the program memory. With --store the seconds of each suite are stored in tests/seconds.txt,
-by which the longest begin first.
+names only those suites run. Without names `rt ci` runs first, and parts of bench/ that refuse the
+program memory run beside the suites.
 
-A suite that says `ALONE = True` measures time or needs much of the machine: it runs after the
-others, by itself. A suite that fails runs once more, by itself, since other work on the machine can
-spoil what it measures, and the second result counts. Of a suite that fails all that it printed is
-shown, both times.
+The longest begin first. Many suites wait most of their time, for a server or a clock. So another
+one begins as soon as those that run leave a part of a processor free, up to two for each processor.
+What a suite takes, by the clock and of the processors, is in tests/seconds.txt. With --store it is
+written there, by a run with one suite for each processor at most.
+
+A suite that says `ALONE = True` measures what other work spoils, or spoils what others measure: it
+runs after the others, by itself. A suite that fails runs once more, by itself, since other work on
+the machine can spoil what it measures, and the second result counts. Of a suite that fails all that
+it printed is shown, both times.
 The last line is `N passed, M failed, K skipped`. The status is 0 where nothing failed and nothing
 was skipped of tests/program and tests/documents, which need no more than Python and a C compiler.
 Where TEST_MINUTES is set and over, another part that has not begun counts as skipped.
@@ -57,9 +61,16 @@ class Part:
 
     name: str
     words: list
+    # What it takes by the clock, and of the processors.
     seconds: float = 0
+    worked: float = 0
     needed: bool = False
     alone: bool = False
+
+    @property
+    def busy(self):
+        """How many processors it keeps busy."""
+        return self.worked / self.seconds if self.seconds else 1
 
 
 @dataclass
@@ -71,29 +82,37 @@ class Result:
     text: str = ""
     notes: tuple = ()
     seconds: float = 0
+    worked: float = 0
 
 
 def stored_seconds():
-    """How long each suite took when that was stored."""
+    """The seconds of each part when they were stored: by the clock, and of the processors."""
     if not SECONDS.exists():
         return {}
     rows = (line.split() for line in SECONDS.read_text().splitlines() if not line.startswith("#"))
-    return {name: float(seconds) for name, seconds in rows}
+    return {name: (float(seconds), float(worked)) for name, seconds, worked in rows}
 
 
 def suites():
     """The suites, each with its seconds; of one that is new they are guessed from its size."""
-    seconds = stored_seconds()
+    stored = stored_seconds()
     for path in sorted(ROOT.glob("tests/*/test_*.py")):
         name = f"{path.parent.name}/{path.stem}"
         text = path.read_text(encoding="utf-8")
         yield Part(
             name,
             [sys.executable, "-m", "unittest", "-v", f"tests.{path.parent.name}.{path.stem}"],
-            seconds.get(name, len(text) / 1000),
+            *stored.get(name, [len(text) / 1000] * 2),
             path.parent.name in NEEDED,
             re.search(r"^ALONE = True$", text, re.M) is not None,
         )
+
+
+def programs():
+    """The parts that are no suites."""
+    stored = stored_seconds()
+    for words in MEMORY:
+        yield Part(words[0], [sys.executable, *words], *stored.get(words[0], (300, 300)))
 
 
 def named(parts, name):
@@ -141,37 +160,53 @@ def result_of_last_line(part, status, text):
 class Runner:
     """Starts parts, and ends those that still run when it is ended itself."""
 
-    def __init__(self, places, minutes):
-        self.places, self.minutes = places, minutes
-        self.running, self.lock = set(), threading.RLock()
-        self.free = list(range(places))
+    def __init__(self, processors, places, minutes):
+        self.processors, self.places, self.minutes = processors, places, minutes
+        self.lock = threading.RLock()
+        self.changed = threading.Condition(self.lock)
+        # The places that nobody has, the parts that have one, and the processes of these.
+        self.free, self.under_way, self.running = list(range(places)), [], set()
         self.ended = False
 
     def is_late(self):
         return self.minutes is not None and time.monotonic() - BEGAN >= self.minutes * 60
 
+    def has_room(self):
+        """Whether one more may begin: those under way leave a part of a processor free."""
+        return bool(self.free) and sum(part.busy for part in self.under_way) < self.processors
+
     def run(self, part):
-        """Runs one part and prints a line of it."""
+        """Runs one part as soon as there is room for it, and prints a line of it."""
+        with self.changed:
+            self.changed.wait_for(self.has_room)
+            place = self.free.pop()
+            self.under_way.append(part)
+        result = self.result_of(part, place)
+        with self.changed:
+            self.under_way.remove(part)
+            self.free.append(place)
+            self.changed.notify_all()
+        return result
+
+    def result_of(self, part, place):
         if self.ended:
             return Result(part, failed=1)
         if self.is_late() and not part.needed:
             print(f"test: {part.name}: not run, since {self.minutes} minutes are over", flush=True)
             return Result(part, skipped=1)
-        with self.lock:
-            place = self.free.pop()
         began = time.monotonic()
-        status, text = self.output_of(part, place)
-        with self.lock:
-            self.free.append(place)
+        status, worked, text = self.output_of(part, place)
         of_unittest = "unittest" in part.words
         result = (result_of_unittest if of_unittest else result_of_last_line)(part, status, text)
-        result.seconds = time.monotonic() - began
+        result.seconds, result.worked = time.monotonic() - began, worked
         with self.lock:
             self.report(result)
         return result
 
     def output_of(self, part, place):
-        """The status of a part and what it prints. It listens on ports that no other part has."""
+        """The status of a part, its seconds of the processors, and what it prints. It listens on
+        ports that no other part has.
+        """
         count = len(PORTS) // self.places
         first = PORTS[place * count]
         environment = {**os.environ, "TEST_PORTS": f"{first}-{first + count - 1}"}
@@ -188,12 +223,15 @@ class Runner:
                 stderr=subprocess.STDOUT,
             )
             with self.lock:
-                self.running.add(ran)
-            status = ran.wait()
+                self.running.add(ran.pid)
+            os.waitid(os.P_PID, ran.pid, os.WEXITED | os.WNOWAIT)
             with self.lock:
-                self.running.remove(ran)
+                self.running.remove(ran.pid)
+                _, status, used = os.wait4(ran.pid, 0)
+            ran.returncode = os.waitstatus_to_exitcode(status)
             said.seek(0)
-            return status, said.read().decode(errors="replace")
+            text = said.read().decode(errors="replace")
+            return ran.returncode, used.ru_utime + used.ru_stime, text
 
     def report(self, result):
         if result.failed:
@@ -227,9 +265,8 @@ class Runner:
         """Asks what runs to end, and waits for it."""
         self.ended = True
         with self.lock:
-            running = list(self.running)
-        for ran in running:
-            ran.terminate()
+            for process in self.running:
+                os.kill(process, signal.SIGTERM)
 
 
 def checks_at_once():
@@ -262,13 +299,16 @@ def gate():
 
 
 def store(results):
-    """Stores the seconds of the suites that ran."""
-    seconds = stored_seconds()
-    for result in results:
-        if "unittest" in result.part.words and result.seconds and not result.failed:
-            seconds[result.part.name] = round(result.seconds, 1)
-    lines = [f"{name} {took}\n" for name, took in sorted(seconds.items())]
-    title = "# The seconds of each suite, by which ./test begins with the longest.\n"
+    """Stores what the parts took that ran, beside what is stored of the others."""
+    took = {
+        result.part.name: (round(result.seconds, 1), round(result.worked, 1))
+        for result in results
+        if result.seconds and not result.failed
+    }
+    stored = stored_seconds() | took
+    names = sorted(part.name for part in (*suites(), *programs()) if part.name in stored)
+    lines = [f"{name} {stored[name][0]} {stored[name][1]}\n" for name in names]
+    title = "# What each part of ./test took: seconds by the clock, and of the processors.\n"
     beside = SECONDS.with_suffix(".new")
     beside.write_text(title + "".join(lines))
     beside.replace(SECONDS)
@@ -296,10 +336,12 @@ def main():
         parts = [part for part in parts if part.name in chosen]
         results = []
     else:
-        parts += [Part(words[0], [sys.executable, *words], 300) for words in MEMORY]
+        parts += programs()
         results = [gate()]
     minutes = os.environ.get("TEST_MINUTES")
-    runner = Runner(len(os.sched_getaffinity(0)), int(minutes) if minutes else None)
+    processors = len(os.sched_getaffinity(0))
+    places = processors if asked.store else 2 * processors
+    runner = Runner(processors, places, int(minutes) if minutes else None)
     for number in (signal.SIGINT, signal.SIGTERM, signal.SIGHUP):
         signal.signal(number, lambda *_: runner.end())
     results += runner.run_all(parts)

@@ -12,8 +12,8 @@ addresses of its own (127.0.0.0/8).
   test_names_alike, test_other_sites, test_requests, test_limits, test_readers, test_floods,
   test_hour, test_hours_at_random, test_offices.
 - The record of commands: test_record, test_recorder, test_replay, test_entries, test_history,
-  test_acts_and_record, test_known_setup, test_record_at_its_edges, test_two_of_the_board,
-  test_files_in_turn.
+  test_acts_and_record, test_copy_and_record, test_known_setup, test_record_at_its_edges,
+  test_two_of_the_board, test_files_in_turn.
 - The machine: test_backup, test_room_for_copies, test_copies_elsewhere, test_services,
   test_ports_and_units, test_status.
 - An office on one computer: test_desk, test_desk_roles.

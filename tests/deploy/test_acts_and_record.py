@@ -3,6 +3,7 @@ would obey."""
 
 import base64
 import json
+import os
 import subprocess
 from datetime import datetime
 from pathlib import Path
@@ -162,6 +163,15 @@ class Entries(SiteCase):
             ]
         )
         self.assertEqual((entries(again)[0], entries(again, "--shown", "record.csv")[0]), (0, 2))
+        # Root reads what the user of the pages has shown: a pipe is not waited for, and is no
+        # record in which nothing was shown.
+        os.mkfifo("pipe.csv")
+        for words in (["entries", "setup.toml"], ["replay", "--check"]):
+            with self.subTest(words=words):
+                done = subprocess.run([DEPLOY / words[0], *words[1:], "--shown", "pipe.csv"],
+                                      input=record, capture_output=True, timeout=PATIENCE)
+                self.assertEqual((done.returncode, done.stdout), (2, b""))
+                self.assertIn(b"it is no file", done.stderr)
 
 
 class Shown(Safeguards):

@@ -34,10 +34,6 @@ def office_table(rows):
     return it
 
 
-# It measures time.
-ALONE = True
-
-
 class Backup(SiteCase):
     def test_a_backup(self):
         """While the office serves, after it was killed, and once it was ended: the copies are of

@@ -24,7 +24,8 @@ TOWNS = PROFILE + "".join(
     for con, stations in (("c1", ("s1", "t1")), ("c2", ("S1", "s2")), ("c1c1", ("s3",)))
 )
 NAMES = (
-    'clara clerk;\nbruno "clerk c1";\ncarla "clerk c2 c1c1";\nnora "clerk ";\nberta board;\n'
+    'clara clerk;\nbruno "clerk c1";\ncarla "clerk c2 c1c1";\nnora "clerk ";\nnadia "clerk";\n'
+    'berta board;\n'
     'bea "board c1";\nsara second;\nsonia "second c1";\n'
 )
 # The constituencies in which each may act.
@@ -33,6 +34,7 @@ OWN = {
     "bruno": ("c1",),
     "carla": ("c2", "c1c1"),
     "nora": (),
+    "nadia": ("c1", "c2", "c1c1"),
     "berta": ("c1", "c2", "c1c1"),
     "bea": ("c1",),
     "sara": ("c1", "c2", "c1c1"),
@@ -53,10 +55,7 @@ TABLE = b"STATIONS c1 Town\nstations 1\ns1         300 received     1 p1      19
 def front_of(desk, setup=TOWNS, names=NAMES):
     Path("setup.toml").write_text(setup, encoding="utf-8")
     front = WithSetup(desk)
-    front.configure()
-    front.put("staff.conf", names)
-    for name in staff.posts(names):
-        front.name("staff", name)
+    front.configure(names)
     try:
         front.start()
         yield front
@@ -141,7 +140,7 @@ class Proxy(Safeguards):
                 with self.subTest(name=name):
                     head = front.ask("HEAD", "/clerk.html", name=name).head
                     bound = head["X-Office-Bound-To"]
-                    if name in ("clara", "berta", "sara"):
+                    if name in ("clara", "berta", "sara", "nadia"):
                         self.assertIsNone(bound)
                     else:
                         self.assertEqual(tuple((bound or "").split()), own)
@@ -219,6 +218,19 @@ class Names(Safeguards):
         self.assertEqual(sorted(os.listdir("names")),
                          [".staff.lock", "staff.conf", "staff.htpasswd"])
 
+    def test_names_in_lines_that_are_not_read(self):
+        """The proxy reads a second name of a line, one in quotes or one of two lines. Such a line
+        is named to whoever asks who may act."""
+        text = self.file.read_text()
+        self.assertEqual(self.password("names")[0], 0)
+        for line in ("carl clerk; bea board;", '"bea" board;', "bea", "bea 'board';",
+                     "include more.conf;"):
+            with self.subTest(line=line):
+                self.file.write_text(f"{text}{line}\n", encoding="utf-8")
+                status, out, errors = self.password("names")
+                self.assertEqual((status, out.count("board"), repr(line) in errors), (1, 1, True))
+                self.assertIn("line 5 of names/staff.conf", errors)
+
     def test_what_cannot_be_bound(self):
         before = self.file.read_text()
         for words, status, why in (
@@ -263,5 +275,9 @@ class Names(Safeguards):
         self.assertEqual(posts["clara"], ("clerk", None))
         self.assertEqual(posts["carla"], ("clerk", ("c2", "c1c1")))
         self.assertEqual((posts["nora"].cons, posts["nora"].words), ((), "clerk, nowhere"))
+        self.assertEqual(posts["nadia"].words, "clerk, everywhere")
+        for name, post in posts.items():
+            said = staff.with_post(f"{name} clerk;\n", name, post)
+            self.assertEqual(staff.posts(said), {name: post})
         self.assertEqual(set(staff.posts((DEPLOY / "nginx/staff.conf").read_text())),
                          {"clerk-1", "clerk-2", "second-1", "board-1"})

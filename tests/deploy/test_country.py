@@ -83,10 +83,6 @@ def seats_on_pages(folder):
     return found
 
 
-# It measures time.
-ALONE = True
-
-
 class Country(SiteCase):
     @contextlib.contextmanager
     def closed_country(self, setup, files, sums, db="office.db"):

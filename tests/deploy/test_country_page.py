@@ -29,7 +29,8 @@ def htmls(folder="pages"):
 
 def drawn(name="index.html"):
     """The groups of dots of a half circle: of whom, how many, and whether they are hollow."""
-    groups = re.findall(r'<g class="([\w-]+)"><path d="([^"]*)"/>(<path class="hole")?', read(name))
+    groups = re.findall(r'<g class="([\w-]+)"><path d="([^"]*)"[^>]*/>(<path class="hole")?',
+                        read(name))
     return [(of, path.count("h0"), bool(hole)) for of, path, hole in groups]
 
 
@@ -43,12 +44,12 @@ class CountryPage(SiteCase):
             page, text = page_of("index.html"), shown_text(read("index.html"))
             for sentence in (
                 "Certified: 5 of 10 seats, in 2 of 4 constituencies. Not certified: 5.",
-                "Certificate withdrawn: Sur. The 2 seats there are counted here as provisional.",
+                "2 seats: Sur was certified and is reopened; they may still change,",
                 # In Sur A 10 (5), B 20 (10); in Oeste D 90 (45, 30), A 7, B 3.
-                "Provisional, with 83.33% of the polling stations counted: 5 seats. They are not "
-                "the result. The count goes on in Óeste &lt;3&gt;: 3 seats there, as if the "
-                "votes counted so far were all the votes; they may still change. The result in "
-                "Sur is open again: 2 seats there, which may still change.",
+                # One of two stations of Óeste is counted, and that of Sur.
+                "Provisional: 5 seats, in constituencies with 2 of 3 polling stations counted "
+                "(66.67%). They are not the result.",
+                "3 seats: the count goes on in Óeste &lt;3&gt; (50.00% counted).",
                 "The line marks the majority: 6 of 10 seats.",
                 "5 of 6 polling stations are counted, 83.33 per cent",
                 # Norte 203 of 1,000, Este 120 of 400, Sur 30 of 300, and of Oeste 100 of 400.
@@ -69,7 +70,7 @@ class CountryPage(SiteCase):
             self.assertEqual(drawn(), [("list-B", 3, False), ("list-B", 2, True),
                                        ("list-D", 3, True), ("list-A", 2, False)])
             self.assertEqual(sorted(re.findall("<text [^>]*>([^<]*)</text>", read("index.html"))),
-                             ["10", "A 2", "B 3+2", "D 0+3"])
+                             ["10", "A 2", "B 3+2", "D +3"])
             self.assertIn("Hollow dots, and the numbers after a plus, are provisional seats, which "
                           "are not the result.", text)
             self.assertEqual([shown_text(item) for item
@@ -149,9 +150,9 @@ class CountryPage(SiteCase):
                     ["A Alpha", "1 provisional and perhaps 1 more by lot"],
                     ["B Beta", "1 provisional and perhaps 1 more by lot"],
                     ["C Gamma", "0 provisional"], ["Seats waiting for a lot", "1"],
-                    ["Total", "3"]])
+                    ["Total (all seats)", "3"]])
             self.assertEqual(drawn("con-norte.html"), [
-                ("list-A", 1, True), ("list-B", 1, True), ("open-seats", 1, True)])
+                ("list-A", 1, True), ("list-B", 1, True), ("open-seats", 1, False)])
             self.assertIn("Seats waiting for a lot1", shown_text(read("index.html")))
             self.assertEqual(read("con-norte.csv").splitlines()[1], "A,Alpha,1,50.00,yes,,1")
             self.assertEqual(json.loads(read("con-norte.json"))["provisional"], {

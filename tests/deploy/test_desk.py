@@ -93,8 +93,10 @@ def seconds(words):
 
 
 def free_ports(many):
-    """The first of some ports that are free, one after the other."""
-    for first in range(20_000, 30_000, 50):
+    """The first of some ports that are free, one after the other: of those that tests/run.py gives
+    this suite, where it does."""
+    least, most = map(int, os.environ.get("TEST_PORTS", "20000-29999").split("-"))
+    for first in range(least, most - many, 50):
         with contextlib.suppress(OSError), contextlib.ExitStack() as held:
             for port in range(first, first + many):
                 held.enter_context(socket.create_server(("127.0.0.1", port)))
@@ -365,8 +367,19 @@ class AnOpenDesk(unittest.TestCase):
     def test_the_press_pages_have_the_policy_of_the_proxy(self):
         text = (ROOT / "deploy/nginx/policy.conf").read_text(encoding="utf-8")
         wanted = re.search(r'Content-Security-Policy "(.*?)"', text)
-        found = self.desk.ask("clerk-1", "GET", "/index.html")
-        self.assertEqual(found.heads["Content-Security-Policy"], wanted[1])
+        drawing = self.desk.db.with_suffix(".pages") / "drawing.svg"
+        drawing.write_text("<svg xmlns='http://www.w3.org/2000/svg'><script/></svg>", "utf-8")
+        for target in ("/index.html", "/results.csv", "/drawing.svg"):
+            with self.subTest(target=target):
+                found = self.desk.ask("clerk-1", "GET", target)
+                self.assertEqual((found.status, found.heads["Content-Security-Policy"]),
+                                 (200, wanted[1]))
+
+    def test_other_users_read_no_file_of_it(self):
+        """The database, which has slips, the record and the folder of the pages."""
+        files = [self.desk.db, *(self.desk.db.with_suffix(f".{name}")
+                                 for name in ("commands.log", "pages"))]
+        self.assertEqual([file.stat().st_mode & 0o077 for file in files], [0, 0, 0])
 
     def test_no_answer_is_kept_or_shown_within_another_site(self):
         for target in ("/progress", "/clerk.html", "/setup.json", "/not/there"):

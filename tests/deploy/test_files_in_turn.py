@@ -19,8 +19,6 @@ SECONDS = 0.2
 # The share of what a clerk lodges without files that is lodged among them at least. It is 0.8 here
 # and 0.75 by what is left to others; where nothing is left to them, it is less than 0.05.
 SHARE = 0.2
-# It measures time.
-ALONE = True
 
 
 class SlowForFiles:

@@ -33,8 +33,9 @@ class FirstScreen(SiteCase):
         self.assertEqual((sorted(places), min(places) >= 0), (places, True), (parts, text))
 
     def test_while_the_count_goes_on(self):
-        """First comes how much is counted, then that a certificate is withdrawn, with the reason;
-        then the seats of each list in one number, what they are, and the votes. The table of the
+        """First comes that the result is not final, and how much is counted; then the certified
+        seats and the provisional ones, each in a line of their own, and what each seat waits for
+        that is not certified, with the reason of a reopening; then the votes. The table of the
         seats comes before the bars."""
         with four() as (office, port):
             press(port, "--setup", "setup.toml")
@@ -44,56 +45,63 @@ class FirstScreen(SiteCase):
             done(office, "/station/o2/close", {"rev": 1})
             press(port, "--setup", "setup.toml", folder="all")
         self.in_order(header("index.html", "all"), "All 6 polling stations are counted.",
-                      "Sur was certified", "Reopened: votes and seats may still change.")
+                      "Sur was certified", "all votes are counted in Óeste")
         # Not of Sur, whose certificate is withdrawn.
         self.assertEqual(
             re.findall("(?i)[^.]*(?:all votes are counted|until the board)[^.]*[.]",
                        shown_text(read("index.html", "all"))),
-            [" All votes are counted in Óeste &lt;3&gt;: 3 seats there wait for the board’s "
-             "certificate alone."])
-        self.assertIn("The result in Sur is open again: 2 seats there, which may still change.",
-                      shown_text(read("index.html", "all")))
-        self.in_order(header("index.html"), "83.33% of the polling stations are counted, 5 of 6.",
-                      "Sur was certified and is reopened: its 2 seats are provisional again. "
-                      "Reason: a recount.",
-                      "Certified and provisional seats together: B 5 (3 certified) D 3 (0) A 2 (2)",
-                      "Of 10 seats: 5 certified and 5 provisional.",
+            [" 3 seats: all votes are counted in Óeste &lt;3&gt;; the board has not certified "
+             "yet."])
+        self.in_order(header("index.html"), "Not final: 5 of 10 seats not certified yet",
+                      "83.33% of the polling stations are counted, 5 of 6.",
+                      "Certified, 5 of 10 seats: B 3 A 2", "Provisional, 5 of 10 seats: D 3 B 2",
+                      "6 of 10 seats are a majority: nobody has it yet.",
+                      "Not certified, 5 of 10 seats:",
+                      "2 seats: Sur was certified and is reopened; they may still change, and "
+                      "then the board certifies again. Reason: a recount.",
+                      "3 seats: the count goes on in Óeste &lt;3&gt; (50.00% counted).",
                       "\u2068Beta\u2069 leads with 42.89% of the votes counted")
-        self.in_order(header("con-sur.html"), "The only polling station is counted.",
+        self.in_order(header("con-sur.html"), "Not final: certificate withdrawn",
+                      "The only polling station is counted.",
                       "Sur was certified and is reopened: its 2 seats are provisional again.",
                       "Provisional seats: B 2", "Reopened: votes and seats may still "
-                      "change.", "has the most votes")
+                      "change, and then the board certifies again.", "has the most votes")
         for name, sentence in (
                 ("pages/con-sur", "Certificate withdrawn. Reopened: votes and seats may still "
-                                  "change."),
-                ("pages/embed-sur", "Reopened: votes and seats may still change."),
-                ("es/con-sur", "Reabierta: votos y escaños aún pueden cambiar.")):
+                 "change, and then the board certifies again."),
+                ("pages/embed-sur", "Reopened: votes and seats may still change, and then the "
+                 "board certifies again."),
+                ("es/con-sur", "Reabierta: votos y escaños aún pueden cambiar; después la Junta "
+                 "volverá a proclamar el resultado.")):
             with self.subTest(name=name):
                 text = shown_text(read(f"{name}.html", "."))
                 self.assertIn(sentence, text)
                 self.assertEqual(re.findall("(?i)until the board|has not certified|hasta que la "
                                             "Junta|all votes are counted", text), [])
-        self.in_order(header("con-oeste.html"), "50.00% of the polling stations are counted, 1 of "
-                      "2.", "Seats so far, provisional: D 3",
+        self.in_order(header("con-oeste.html"), "Not final: no certificate yet",
+                      "50.00% of the polling stations are counted, 1 of 2.",
+                      "Provisional seats: D 3",
                       "3 seats; the count goes on, and none is certified.", "leads with")
-        self.in_order(header("con-norte.html"), "has won 2 of 3 seats", "are counted",
+        self.in_order(header("con-norte.html"), "Final: certified", "has won 2 of 3 seats",
+                      "are counted",
                       "Certified seats: A 2 B 1")
         self.assertNotIn("rovisional", header("con-norte.html"))
-        self.in_order(header("index.html", "es"), "Escrutado el 83,33 % de las mesas",
-                      "Sur tenía el resultado proclamado y se ha reabierto el escrutinio: sus 2 "
-                      "escaños vuelven a ser provisionales. Motivo: a recount.",
-                      "Escaños proclamados y provisionales, sumados: B 5 (3 proclamados) D 3 (0) "
-                      "A 2 (2)",
-                      "De 10 escaños: 5 proclamados y 5 provisionales.")
-        # Those of A are certified, and those of Sur all provisional. A line that has provisional
-        # seats is marked as one of these alone is.
-        for name, so_far, lists in (("index", 1, ["B", "D"]), ("con-sur", 1, ["B"]),
-                                    ("con-norte", 0, [])):
+        self.in_order(header("index.html", "es"), "No definitivo: 5 de 10 escaños sin proclamar",
+                      "Escrutado el 83,33 % de las mesas",
+                      "Proclamados, 5 de 10 escaños: B 3 A 2",
+                      "Provisionales, 5 de 10 escaños: D 3 B 2", "Sin proclamar, 5 de 10 escaños:",
+                      "2 escaños: Sur tenía el resultado proclamado y se ha reabierto; aún pueden "
+                      "cambiar, y después la Junta volverá a proclamarlos. Motivo: a recount.",
+                      "3 escaños: sigue el escrutinio en Óeste &lt;3&gt; (50,00 % escrutado).")
+        # No line has seats of two kinds, and each is marked as what it is.
+        for name, lines in (("index", {"certified": ["B", "A"], "so-far": ["D", "B"]}),
+                            ("embed", {"certified": ["B", "A"], "so-far": ["D", "B"]}),
+                            ("con-sur", {"so-far": ["B"]}),
+                            ("con-norte", {"certified": ["A", "B"]})):
             with self.subTest(name=name):
-                text = read(f"{name}.html")
-                self.assertEqual(text.count('<p class="outlook so-far">'), so_far)
-                self.assertEqual(re.findall('<span class="piece not-yet">.*?list-([A-Z])',
-                                            text), lists)
+                found = re.findall('<p class="outlook ([a-z-]+)">(.*)</p>', read(f"{name}.html"))
+                self.assertEqual({kind: re.findall("code list-([A-Z])", line)
+                                  for kind, line in found}, lines)
         text = read("index.html")
         self.assertLess(text.index("<caption>Seats and votes of each list"),
                         text.index('<figure class="bars"'))
@@ -110,7 +118,7 @@ class FirstScreen(SiteCase):
             press(port, "--setup", "setup.toml", *site_folder(site=SPANISH), folder="es")
         self.in_order(header("con-c1.html", "half"), "If the votes counted so far were all, a lot "
                       "between B and C would decide 1 seat.",
-                      "Seats so far, provisional: A 1 So far 1 seat would wait for a lot: B or C")
+                      "Provisional seats: A 1 So far 1 seat would wait for a lot: B or C")
         self.in_order(header("con-c1.html"), "All 2 polling stations are counted.",
                       "A lot must be drawn between B and C for 1 seat.",
                       "Provisional seats: A 1 1 seat waits for a lot: B or C",
@@ -123,14 +131,15 @@ class FirstScreen(SiteCase):
         self.assertEqual([row[1] for row in page_of("con-c1.html").tables[caption][1:]], [
             "1 provisional", "0 provisional and perhaps 1 more by lot",
             "0 provisional and perhaps 1 more by lot", "0 provisional", "1", "2"])
-        self.assertIn(">lot pending 1</text>", read("con-c1.html"))
-        self.assertIn('<p class="outlook lot">1 seat waits for a lot: B or C</p>',
+        self.assertIn(">lot 1</text>", read("con-c1.html"))
+        self.assertIn('<p class="outlook lot"><b>1 seat waits for a lot:</b> B or C</p>',
                       read("con-c1.html"))
-        self.in_order(header("index.html"),
-                      "Soria: a lot must be drawn between B and C for 1 seat.",
-                      "Provisional seats: A 1 1 seat waits for a lot 2 of 2",
+        self.in_order(header("index.html"), "Not final: none of the 2 seats is certified yet",
+                      "Provisional, 1 of 2 seats: A 1",
+                      "With nobody yet, 1 of 2 seats: 1 waiting for a lot",
                       "2 of 2 seats are a majority: nobody has it yet.",
-                      "Of 2 seats: 1 provisional and 1 waiting for a lot.")
+                      "Not certified, 2 of 2 seats: 2 seats: all votes are counted in Soria; a lot "
+                      "between B and C must decide 1 of them, and then the board can certify.")
         self.assertEqual(
             page_of("index.html").tables["Constituencies in the order of their names"][1],
             ["Soria no certificate yet, 100.00% counted", "A", "provisional: A 1 lot pending 1"])
@@ -160,14 +169,18 @@ class FirstScreen(SiteCase):
                 ("es", "B y C empataban por el último escaño; el sorteo se lo dio a C.")):
             self.assertIn(said, shown_text(read("con-c1.html", folder)))
             self.assertIn(said.split(". ")[0], shown_text(read("embed-c1.html", folder)))
-        for name in ("index.html", "con-c1.html"):
+            # Which seats a lot decided is said of the country too.
+            self.in_order(header("index.html", folder), f"Soria: {said.split('. ')[0]}")
+        for name, seats, waits in (
+                ("index.html", "Provisional, 2 of 2 seats: A 1 C 1", "2 seats: all votes are "
+                 "counted in Soria; the board has not certified yet."),
+                ("con-c1.html", "Provisional seats: A 1 C 1", "All votes are counted; 2 seats are "
+                 "provisional until the board certifies.")):
             with self.subTest(name=name):
                 text = shown_text(read(name))
                 self.assertEqual(re.findall("leads|so far were|may still change", text), [])
-                self.in_order(header(name), "All 2 polling stations are counted.",
-                              "Provisional seats: A 1 C 1",
-                              "All votes are counted; 2 seats are provisional until the board "
-                              "certifies.", "has the most votes")
+                self.in_order(header(name), "All 2 polling stations are counted.", seats, waits,
+                              "has the most votes")
 
     def test_before_the_count(self):
         """The number of seats is there, and which have no count; no list is said to take no part,
@@ -176,7 +189,7 @@ class FirstScreen(SiteCase):
         with modelled(setup_of_four()) as (_, port):
             press(port, "--setup", "setup.toml")
         self.in_order(header("index.html"), "No polling station is counted yet.",
-                      "Of 10 seats: 10 with no count yet.")
+                      "Not certified, 10 of 10 seats: 10 seats: nothing is counted yet in ")
         self.in_order(header("con-norte.html"), "No polling station is counted yet.",
                       "3 seats, which nobody has yet.")
         page, text = page_of("con-norte.html"), read("con-norte.html")
@@ -198,16 +211,18 @@ class FirstScreen(SiteCase):
             press(port, "--setup", "setup.toml", *site_folder(site="provisional = false\n"),
                   folder="none")
         self.assertEqual(sorted(re.findall("<text [^>]*>([^<]*)</text>", read("index.html"))),
-                         ["5", "A 0+1", "lot pending 1", "no count yet 3"])
+                         ["5", "A 1", "lot 1", "no count 3"])
         text = shown_text(read("index.html"))
-        for sentence in ("Of 5 seats: 1 provisional, 1 waiting for a lot and 3 with no count yet.",
-                         "Not certified: 5.", "The count goes on in Soria: 2 seats there",
-                         "Nothing is counted yet in Ávila: 3 seats there."):
+        for sentence in ("Provisional, 1 of 5 seats: A 1", "With nobody yet, 4 of 5 seats: 1 "
+                         "waiting for a lot and 3 with no count yet",
+                         "Not certified, 5 of 5 seats:", "Not certified: 5.",
+                         "2 seats: the count goes on in Soria (50.00% counted).",
+                         "3 seats: nothing is counted yet in Ávila.", "Small grey ones are"):
             with self.subTest(sentence=sentence):
                 self.assertIn(sentence, text)
         self.assertEqual(re.findall(r"(?i)\bopen\b", text), [])
-        self.assertIn("Of 5 seats: 3 with no count yet and 2 not certified.",
-                      header("index.html", "none"))
+        self.in_order(header("index.html", "none"), "Not certified, 5 of 5 seats:",
+                      "2 seats: the count goes on in Soria", "3 seats: nothing is counted yet")
 
     def test_lists_with_as_many_seats(self):
         """Of lists with as many seats, provisional or certified, that with more votes is first:

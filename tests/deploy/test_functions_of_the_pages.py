@@ -32,15 +32,23 @@ class HalfCircles(Case):
     def test_where_labels_are(self):
         """Left and right of the half circle, at 7 beyond its edge: 107 times the sine and the
         cosine of the angle, with 3 below and 2 more outwards."""
-        sides, lines, width, *_ = figures.placed_labels([(0.1, "B 2"), (3.0, "A 3")], 100)
+        sides, lines, width, *_ = figures.placed_labels([(0.1, 100, "B 2"), (3.0, 100, "A 3")], 100)
         self.assertEqual(sides, [("end", [("-107.9", "-12.1", "A 3")]),
                                  ("start", [("108.5", "-7.7", "B 2")])])
         # Both are as wide as three letters.
         self.assertEqual((lines, round(width, 1)), ("", round(106.466 + 4 + 3 * 7.4, 1)))
 
     def test_a_label_that_was_moved_has_a_line(self):
-        lines = figures.placed_labels([(3.0, "A 3"), (3.05, "B 2")], 100)[1]
+        lines = figures.placed_labels([(3.0, 100, "A 3"), (3.05, 100, "B 2")], 100)[1]
         self.assertEqual(lines.count("M"), 1)
+
+    def test_a_label_of_a_dot_within_has_a_line_to_it(self):
+        """It ends at 1 beyond the edge of the dot, 80 from the middle: straight up, at -81."""
+        lines = figures.placed_labels([(math.pi / 2, 80, "A 3")], 100)[1]
+        self.assertTrue(lines.startswith("M0.0 -81.0L"), lines)
+        self.assertEqual(figures.anchor_of([(3.0, 60), (2.0, 100), (1.0, 100), (0.5, 60)], 5),
+                         (1.5, 105))
+        self.assertEqual(figures.anchor_of([(3.0, 60), (2.0, 80)], 5), (2.0, 85))
 
     def test_dots_are_from_left_to_right(self):
         dots, _ = figures.places_of_dots(3)
@@ -60,7 +68,7 @@ class HalfCircles(Case):
     def test_provisional_seats_are_beside_the_others(self):
         found = figures.half_circle(site.Site(), {"A": 2, "B": 1}, 5, provisional={"B": 1, "C": 1})
         self.assertEqual(sorted(text for _, words in found["sides"] for *_, text in words),
-                         ["A 2", "B 1+1", "C 0+1"])
+                         ["A 2", "B 1+1", "C +1"])
         self.assertEqual([(one["code"], one["path"].count("M")) for one in found["groups"]],
                          [("A", 2), ("B", 1), ("B", 1), ("C", 1)])
 

@@ -93,6 +93,12 @@ class OtherSites(SiteCase):
             ["List", "certified seats", "provisional seats", "together", "votes", "share"],
             ["B Beta", "3", "2 provisional", "5", "193", "42.89%"],
             ["D Delta", "–", "3 provisional", "3", "90", "20.00%"]])
+        for name, state in (("embed", "Not final: 5 of 10 seats not certified yet"),
+                            ("embed-oeste", "Not final: no certificate yet"),
+                            ("embed-sur", "Not final: certificate withdrawn"),
+                            ("embed-norte", "Final: certified")):
+            with self.subTest(name=name):
+                self.assertIn(f">{state}</p>", read(f"{name}.html"))
         text = shown_text(read("embed-oeste.html"))
         self.assertIn("They are not the result, and may still change.", text)
         self.assertIn("50.00% of the polling stations are counted, 1 of 2.", text)

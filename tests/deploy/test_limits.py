@@ -47,10 +47,6 @@ def address(words):
     return socket.inet_ntoa(struct.pack("=I", int(words[:8], 16))), int(words[9:], 16)
 
 
-# It measures time.
-ALONE = True
-
-
 class Limits(SiteCase):
     @needs("nginx", "openssl")
     def test_who_asks_too_often(self):
@@ -168,6 +164,66 @@ class Limits(SiteCase):
             for _ in range(3):
                 late = late and all_of(late, 2.5)
             self.assertEqual(late, ())
+
+    @needs("nginx", "openssl")
+    def test_tables_of_stations_from_many_addresses(self):
+        """Strangers do not get them, and the desk hears nothing of them; other tables they get as
+        fast as their own limits say."""
+        with recording_desk(b"{}\n") as (port, messages), proxy(port) as front:
+            def took(target, net, status=b"200"):
+                began = time.monotonic()
+                with concurrent.futures.ThreadPoolExecutor(4) as strangers:
+                    self.assertEqual(list(strangers.map(
+                        lambda n: pipelined(front, f"GET {target}", 300, f"127.0.{net}.{n}"),
+                        range(1, 5))), [{status: 300}] * 4)
+                return time.monotonic() - began
+
+            took("/station/s1", 21, b"401")
+            self.assertEqual(messages, [])
+            nets = iter((22, 23, 24))
+
+            def not_limited():
+                seconds = took("/con/c1/tally", next(nets))
+                print(f"300 requests from four addresses: {seconds:.1f} s")
+                # (with the limits of a table of stations it would be more than two minutes)
+                self.assertLess(seconds, 8)
+
+            tries(not_limited)
+
+    @needs("nginx", "openssl")
+    def test_a_network_of_addresses(self):
+        """An address of IPv6 shares the limits of its /64, and one of IPv4 has its own."""
+        given = ("real_ip_header X-Address; set_real_ip_from 127.0.0.0/8; include "
+                 "office/headers.conf;")
+        with recording_desk() as (port, messages), proxy(
+            port, more={"        include office/headers.conf;\n\n        limit_conn": (
+                f"        {given}\n\n        limit_conn")}) as front:
+            def guesses(addresses):
+                fields = [f"X-Address: {address}\r\n" for address in addresses]
+                began = time.monotonic()
+                self.assertEqual(
+                    pipelined(front, "POST /con/c1/certify", len(addresses), "127.0.0.1", fields),
+                    {b"401": len(addresses)})
+                return time.monotonic() - began
+
+            # 100 at once, and 20 a second: those that share a limit take ten seconds.
+            for addresses in ([f"2001:db8:1:2:{n:x}::{n:x}" for n in range(1, 301)],
+                              [f"2001:db8::{n:x}" for n in range(1, 301)]):
+                with self.subTest(addresses=addresses):
+                    took = guesses(addresses)
+                    self.assertGreater(took, 9.5)
+
+            def not_limited(address, net):
+                took = guesses([address.format(net=net, n=n, of=n // 200, last=n % 200 + 1)
+                                for n in range(1, 301)])
+                print(f"300 guesses from 300 addresses: {took:.1f} s")
+                self.assertLess(took, 8)
+
+            for address in ("2001:db8:{net}:{n:x}::1", "192.{of}.{net}.{last}"):
+                with self.subTest(address=address):
+                    nets = iter((2, 3, 4))
+                    tries(lambda: not_limited(address, next(nets)))
+            self.assertEqual(messages, [])
 
     def opened(self, front, held, number, net):
         """An address of a net, and its connections, opened within four seconds.

@@ -7,11 +7,12 @@ import re
 import shutil
 import socket
 import subprocess
+import time
 from contextlib import suppress
 from importlib.util import find_spec
 from pathlib import Path
 
-from tests.support.case import Case, needs
+from tests.support.case import ROOT, Case, needs
 from tests.support.office import with_stations
 from tests.support.packages import (
     NoMachine,
@@ -179,7 +180,8 @@ class InAFolder(Case):
         self.assertEqual((status, tree(root)), (1, before), said)
         page = root / f"var/www/office/{ONE}/index.html"
         page.write_text("a page", encoding="utf-8")
-        self.assertEqual(office_site(root, "--begin-again", ONE, "other.toml")[0], 0)
+        status, _, said = office_site(root, "--begin-again", ONE, "other.toml")
+        self.assertEqual((status, "is public" in said), (0, False), said)
         self.assertEqual((root / f"etc/office/{ONE}/setup.toml").read_text(), with_stations(3))
         self.assertFalse(page.exists())
         [aside] = (root / f"var/lib/office/{ONE}").glob("trial-*/office.db")
@@ -188,6 +190,15 @@ class InAFolder(Case):
         self.assertEqual(aside.read_text(), SETUP)
         [new] = json.loads((root / f"var/lib/office-site/{ONE}/setup.json").read_text())
         self.assertEqual(len(new["stations"]), 3)
+        # The hour of a trial is past by then: the new count would be public from its first return.
+        subprocess.run([ROOT / "deploy/embargo", "2020-11-29T20:00:00+01:00", embargo, "--past"],
+                       check=True, capture_output=True)
+        # (a folder of what is put aside has its second in its name)
+        time.sleep(1)
+        for words, warned in ((["--begin-again", ONE], True), ([ONE], False)):
+            with self.subTest(words=words):
+                status, _, said = office_site(root, *words)
+                self.assertEqual((status, "everything is public at once" in said), (0, warned))
 
     @needs("dpkg-deb", "git", "openssl")
     def test_an_nginx_that_serves_something_else(self):

@@ -251,8 +251,11 @@ class Lists(SiteCase):
             ["B1", "1", "Norte"]])
         for sentence in ("193 votes, 42.89% of the valid votes, including blank votes.",
                          "Certified: 3 seats of 5 that are certified, of 10 in all.",
-                         "Provisional, with 83.33% of the polling stations counted: 2 more seats, "
-                         "5 together. They are not the result, and may still change."):
+                         # One of two stations of Óeste, and that of Sur.
+                         "Provisional: 2 seats, in constituencies with 2 of 3 polling stations "
+                         "counted (66.67%). They are not the result, and may still change.",
+                         "Not final: of the 10 seats of all lists, 5 not certified yet",
+                         "Certified seats: B 3 Provisional seats: B 2"):
             with self.subTest(sentence=sentence):
                 self.assertIn(sentence, text)
         self.assertNotIn("Holders of seats", page_of("list-D.html").tables)

@@ -151,7 +151,8 @@ class PressPages(SiteCase):
                 with answering_desk(desk) as (port, _):
                     press(port)
                 page, text = page_of("con-c1.html"), read("con-c1.html")
-                self.assertIn(f">{state}</p>\n<h1><bdi>Twin Town</bdi></h1>", text)
+                self.assertIn("<h1><bdi>Twin Town</bdi></h1>\n<p class=\"state state-", text)
+                self.assertIn(f">Not final: {state[0].lower()}{state[1:]}</p>", text)
                 self.assertIn(f"<b>{state}.</b>", text)
                 self.assertNotIn("Seats of each list", page.tables)
                 self.assertEqual((page.figures, text.count('class="hole"')), (2, 2))
@@ -161,8 +162,8 @@ class PressPages(SiteCase):
                 self.assertEqual(
                     page_of("index.html").tables["Constituencies in the order of their names"][1],
                     [f"Twin Town {state.lower()}, 100.00% counted", "–", "provisional: B 2 A 1"])
-                withdrawn = ('<b>Certificate withdrawn:</b> '
-                             '<a href="con-c1.html"><bdi>Twin Town</bdi></a>.')
+                withdrawn = ('<a href="con-c1.html"><bdi>Twin Town</bdi></a> was certified and is '
+                             'reopened')
                 self.assertEqual(withdrawn in read("index.html"), desk is REOPENED)
                 if desk is REOPENED:
                     self.assertIn("a &lt;recount&gt;", text)

@@ -1,10 +1,11 @@
-"""Many readers at once, and an office that is killed behind the proxy."""
+"""Many readers at once, and an office that ends behind the proxy, or is killed."""
 
 import collections
 import contextlib
 import http.server
 import itertools
 import json
+import shutil
 import signal
 import statistics
 import subprocess
@@ -13,9 +14,10 @@ import threading
 import time
 
 from tests.support.case import ROOT, needs
-from tests.support.desks import answering_desk, recording_desk
+from tests.support.desks import answer_of, answering_desk, desk_with, recording_desk
 from tests.support.office import with_stations
 from tests.support.proxy import office_and_proxy, proxy
+from tests.support.record import LODGED, recorded_200
 from tests.support.running import PATIENCE, tries, until
 from tests.support.scripts import PROGRAMS
 from tests.support.site import NAME, SiteCase, ran, rows
@@ -40,10 +42,6 @@ def of_hundred(took, place):
 # How much longer 99 of 100 lodges may take among many readers than the same lodges alone, or than
 # ten usual ones: the readers are on this machine too, and take its processors from the proxy.
 SLOWER = 10
-
-
-# It measures time.
-ALONE = True
 
 
 class Readers(SiteCase):
@@ -179,3 +177,59 @@ class Readers(SiteCase):
             self.assertEqual(len(found), 120)
             self.assertEqual(ran(sys.executable, ROOT / "examples/recount.py", "office.db"),
                              "c1 agrees\n")
+
+    @needs("nginx", "openssl")
+    def test_a_desk_that_starts_again(self):
+        """It has served its count, or was killed: who asks meanwhile waits, and nobody is
+        refused."""
+        with office_and_proxy(with_stations(4000)) as (desk, front):
+            answers, stop = [], threading.Event()
+
+            def ask(method, name, source):
+                n = 0
+                while not stop.is_set():
+                    n += 1
+                    target = "/con/c1/tally" if name is None else "/now/progress"
+                    target = f"/station/s{n}/lodge" if method == "POST" else target
+                    answers.append((method,
+                                    front.ask(method, target, LODGED if method == "POST" else None,
+                                              name, source=source).status))
+
+            threads = [threading.Thread(target=ask, args=words)
+                       for words in (("POST", "clara", "127.0.9.1"), ("GET", None, "127.0.9.2"),
+                                     ("GET", "berta", "127.0.9.3"))]
+            for thread in threads:
+                thread.start()
+            for number in (signal.SIGTERM, signal.SIGKILL, signal.SIGTERM):
+                with self.subTest(number=number):
+                    before = len(answers)
+                    until(lambda: len(answers) > before + 20)
+                    desk.end(number)
+                    time.sleep(1.5)
+                    desk.start()
+            before = len(answers)
+            until(lambda: len(answers) > before + 20)
+            stop.set()
+            for thread in threads:
+                thread.join(timeout=PATIENCE)
+            self.assertEqual({(method, status) for method, status in answers},
+                             {("POST", 200), ("GET", 200)})
+            lodged = sum(method == "POST" for method, _ in answers)
+            self.assertEqual(front.ask("GET", "/now/progress", name="clara").body.split()[3],
+                             b"%d" % lodged)
+            self.assertEqual(len(recorded_200(front)), lodged)
+
+    @needs("nginx", "openssl")
+    def test_a_desk_that_ends_in_the_middle(self):
+        """A command whose desk ended without an answer is sent once more: nothing is done twice,
+        and a refusal then says nothing."""
+        for second, status, recorded in ((answer_of('{"ok":"same","rev":1}'), 200, 200),
+                                         (answer_of((409, '{"word":"stale"}')), 502, None),
+                                         (b"", 502, None)):
+            with self.subTest(second=second, status=status, recorded=recorded):
+                answers = iter([b"", second])
+                with desk_with(lambda *_: next(answers, b"")) as port, proxy(port) as front:
+                    self.assertEqual(front.ask("POST", "/station/s1/lodge", LODGED, "clara").status,
+                                     status)
+                    self.assertEqual([line["status"] for line in front.record(1)], [recorded])
+                shutil.rmtree("proxy")

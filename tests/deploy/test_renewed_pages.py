@@ -67,7 +67,7 @@ class RenewedPages(SiteCase):
                 done(office, "/con/oeste/certify", {"edition": 1})
                 press(port, "--setup", "setup.toml")
                 it.run("document.dispatchEvent(new Event('visibilitychange'))")
-                self.assertIn("No certificate yet", it.text("header .state"))
+                self.assertIn("no certificate yet", it.text("header .state"))
                 it.open(f"{site}/pages/con-norte.html")
                 self.assertFalse(it.run("return document.querySelector('.renew input').checked"))
                 it.open(f"{site}/pages/con-oeste.html")

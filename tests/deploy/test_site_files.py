@@ -106,7 +106,7 @@ class SiteFiles(SiteCase):
 
     def test_the_colours_of_lists(self):
         """Each has a contrast of 3 with every ground, light and dark, those of a file too;
-        certified neighbours in a half circle have one of 1.5, or one of them has a bar across
+        certified neighbours in a half circle have one of 1.5, or one of them has a rim around
         each dot. No certified dot is hollow. A list has the same colour on each page."""
         self.assertEqual(
             (round(contrast("#000000", "#ffffff"), 2), round(contrast("#777777", "#ffffff"), 2)),
@@ -126,11 +126,11 @@ class SiteFiles(SiteCase):
                     self.refused_site(port, words, colours=wrong)
         with answering_desk(sixty_lists()) as (port, _):
             press(port, folder="sixty")
-        # A red and a green that differ by 1.07 only: B beside A has a bar across each dot.
-        for folder, name, barred in (("pages", "con-norte", ["B"]), ("own", "con-norte", []),
+        # A red and a green that differ by 1.07 only: B beside A has a rim around each dot.
+        for folder, name, rimmed in (("pages", "con-norte", ["B"]), ("own", "con-norte", []),
                                     ("pages", "index", []), ("own", "index", []),
                                     ("sixty", "con-c1", None)):
-            with self.subTest(folder=folder, name=name, barred=barred):
+            with self.subTest(folder=folder, name=name, rimmed=rimmed):
                 text = read(f"{name}.html", folder)
                 given = {code: colours for code, *colours
                          in re.findall(r"\.list-([\w-]+)\{--light:(#\w{6});--dark:(#\w{6})\}",
@@ -145,20 +145,20 @@ class SiteFiles(SiteCase):
                 drawn = []
                 for code, inner in re.findall(r'<g class="list-([\w-]+)">(.*?)</g>', text):
                     kinds = re.findall('<path class="([^"]+)"', inner)
-                    drawn.append((code, "across" in kinds, "hole" in kinds))
-                    self.assertIn(kinds, ([], ["across"], ["hole"]))
-                    if "across" in kinds:  # lines as long as a dot is wide, of its whole row
-                        dots, bars = (re.findall(rf"M(\S+) (\S+?)h{length}(?=M|$)", path)
-                                      for path, length in zip(re.findall(r' d="([^"]+)"', inner),
-                                                              ("0", f"{width:.1f}")))
-                        self.assertEqual([y for _, y in bars], [y for _, y in dots])
+                    drawn.append((code, "rim" in kinds, "hole" in kinds))
+                    self.assertIn(kinds, ([], ["rim", "within"], ["hole"]))
+                    if "rim" in kinds:  # the dots again, smaller, in the colour of the list
+                        dots, within = re.findall(r' d="([^"]+)"', inner)
+                        self.assertEqual(within, dots)
+                        [smaller] = re.findall('class="within"[^>]* stroke-width="([^"]+)"', inner)
+                        self.assertTrue(0.6 * width < float(smaller) < 0.8 * width, smaller)
                 self.assertGreater(len(drawn), 1)
-                for (one, bar, hollow), (other, next_bar, next_hollow) in zip(drawn, drawn[1:]):
-                    self.assertTrue(bar != next_bar or hollow or next_hollow
+                for (one, rim, hollow), (other, next_rim, next_hollow) in zip(drawn, drawn[1:]):
+                    self.assertTrue(rim != next_rim or hollow or next_hollow
                                     or all(contrast(a, b) >= 1.5
                                            for a, b in zip(given[one], given[other])), (one, other))
-                if barred is not None:
-                    self.assertEqual([code for code, bar, _ in drawn if bar], barred)
+                if rimmed is not None:
+                    self.assertEqual([code for code, rim, _ in drawn if rim], rimmed)
                 # Hollow are provisional seats alone: on these pages, those of B and D in all.
                 self.assertEqual([code for code, _, hollow in drawn if hollow],
                                  ["B", "D"] if name == "index" else [])

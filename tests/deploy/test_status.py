@@ -327,6 +327,13 @@ seconds = 1800
         self.assert_wrong("backup", "has no copy")
         self.copy.mkdir()
         self.assert_wrong("backup", "the newest copy cannot be read: ")
+        self.copy.rmdir()
+        # The user of the office writes the copies, and root reads them.
+        for made in (lambda: os.mkfifo(self.copy), lambda: self.copy.symlink_to("/dev/zero"),
+                     lambda: self.copy.symlink_to(ROOT / "examples/montehondo.db")):
+            self.copy.unlink(missing_ok=True)
+            made()
+            self.assert_wrong("backup", f"the newest copy cannot be read: {self.copy} is no file")
 
     def test_a_backup_that_finds_nothing_new_makes_its_copy_new(self):
         database, folder = self.folder / "office.db", self.folder / "backups"
@@ -419,6 +426,26 @@ seconds = 1800
                     self.assert_wrong("record", "line 3 is not the one that was seen before")
         self.record.unlink()
         self.assert_wrong("record", "No such file")
+
+    def test_a_line_that_is_changed_in_its_place(self):
+        """The lines after the last look follow from the last one all the same, whatever was changed
+        before it."""
+        self.write(1)
+        self.parts(0)
+        whole, first = list(self.lines), self.lines[0]
+        self.lines[0] = first.replace(b"clara", b"bruno")
+        self.assertEqual((len(self.lines[0]), self.lines[0] == first), (len(first), False))
+        for _ in range(2):
+            self.write(1)
+            self.assert_wrong("record", "a line before line 4 is not the one that was seen before")
+        self.lines = [*whole, *self.lines[4:]]
+        self.put_lines()
+        self.assertEqual(self.parts(0)["record"]["says"], "its 6 lines are whole, 2 of them new")
+        # What an older version kept of a look is less: then all is as it says.
+        seen = json.loads(self.seen.read_text(encoding="utf-8"))
+        del seen["record"]["all"]
+        self.seen.write_text(json.dumps(seen), encoding="utf-8")
+        self.assertEqual(self.parts(0)["record"]["says"], "its 6 lines are whole, 0 of them new")
 
     def test_a_record_with_which_the_recorder_does_no_command(self):
         """It answers, and the lines are whole; its head has the fault."""

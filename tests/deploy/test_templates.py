@@ -10,6 +10,7 @@ import subprocess
 import sys
 from pathlib import Path
 
+from tests.support.case import ROOT
 from tests.support.pages import PAGE_BYTES, REOPENED, TWIN, Page
 from tests.support.rounds import DEPLOY, OfPages, copy_of_deploy
 
@@ -97,6 +98,27 @@ class Faults(OfPages):
                 lines = self.publish(TWIN, {name: text}, status=1).splitlines()
                 self.assertEqual((len(lines), lines[0][:8], said in lines[0]),
                                  (1, "failed: ", True), lines)
+
+    def test_a_template_runs_nothing(self):
+        """Whoever may give a page its look runs no program, and reads and writes no file: not as
+        the user of the pages, nor as root, who prints the papers."""
+        for text, attribute in (
+                ('{{ cycler.__init__.__globals__.os.mkdir("run") }}', "__init__"),
+                ("{{ say.__globals__ }}", "__globals__"), ("{{ site.__class__ }}", "__class__"),
+                ('{{ "{0.__class__}".format(site) }}', "__class__"),
+                ('{{ site.templates.environment.compile_templates("run", zip=none) }}',
+                 "compile_templates"),
+                ('{{ site.templates.own.get_source(none, "foot.html") }}', "get_source")):
+            with self.subTest(text=text):
+                said = self.publish(TWIN, {"templates/foot.html": text}, status=1)
+                self.assertRegex(said, f"^failed: templates: .*'{attribute}'.* unsafe")
+                self.site_of({"templates/act_count.html": text})
+                done = subprocess.run(
+                    [sys.executable, DEPLOY / "papers", "count", ROOT / "examples/montehondo.db",
+                     "acts", "--site", "site"],
+                    capture_output=True, text=True, timeout=120, check=False)
+                self.assertEqual((done.returncode, done.stdout), (2, ""), done)
+                self.assertFalse(Path("run").exists() or Path("acts").exists())
 
     def test_a_fault_leaves_the_pages_as_they_are(self):
         self.publish(TWIN)

@@ -423,10 +423,7 @@ class OfBoard(WithSetup):
 @contextlib.contextmanager
 def site_of_board(port):
     front = OfBoard(port)
-    front.configure()
-    front.put("staff.conf", 'clara clerk;\nberta board;\nsimon board;\nbea "board c2";\n')
-    for name in ("clara", "berta", "simon", "bea"):
-        front.name("staff", name)
+    front.configure('clara clerk;\nberta board;\nsimon board;\nbea "board c2";\n')
     try:
         front.start()
         yield front

@@ -83,7 +83,7 @@ class Weights(SiteCase):
                 self.assertEqual(re.findall(r'href="(details-.*?)"', text),
                                  [other for other in names[1:] if other != name])
                 self.assertEqual(('<a href="con-c1.html"><bdi>Twin Town</bdi></a>' in text,
-                                  ">Certified</p>" in text), (here > 0, True))
+                                  ">Final: certified</p>" in text), (here > 0, True))
         rows = {caption: len(cells) - 1 for caption, cells in found.items()}
         quotients = [f"Quotients of each list, seats {first} to {min(first + 7, 42)}"
                      for first in range(1, 43, 8)]

@@ -10,8 +10,6 @@ from tests.support.launcher import COMMANDS, LauncherCase
 
 # What the launcher starts before a program that is current.
 STARTED = ["find", "sha256sum"]
-# It measures time.
-ALONE = True
 
 
 class Speed(LauncherCase):

@@ -204,10 +204,6 @@ def published_and_read_back(towns):
         same(found.stdout, f"c1 {won} ({it.count} of {it.count} stations)\n")
 
 
-# It measures time.
-ALONE = True
-
-
 class LargeConstituency(ProgramCase):
     def test_twenty_thousand_stations_cost_no_more_each_than_a_thousand(self):
         """Made, imported in several files, corrected, closed, certified, published, read back,

@@ -241,10 +241,6 @@ def requests_on_most_votes(n, con):
     yield from [get(f"/con/{con.code}"), *reports_of(con)[:-2]]
 
 
-# It measures time.
-ALONE = True
-
-
 class MostReturns(ProgramCase):
     def test_sixty_thousand_returns(self):
         """Each station has a return, by imports over HTTP; the longest one has 1,048,576 bytes, and

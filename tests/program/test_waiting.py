@@ -166,10 +166,6 @@ def kept_waiting(past):
     assert stayed <= 8, stayed
 
 
-# It measures time.
-ALONE = True
-
-
 class Waiting(ProgramCase):
     def test_clients_that_keep_the_office_waiting(self):
         """Ten seconds for a read, thirty for a message in all: a client that sends nothing is given

@@ -3,6 +3,7 @@
 import base64
 import collections
 import contextlib
+import functools
 import http.server
 import json
 import os
@@ -13,6 +14,7 @@ import socket
 import ssl
 import subprocess
 import sys
+import tempfile
 import time
 from pathlib import Path
 
@@ -31,6 +33,61 @@ def filled(text, pairs):
     return text
 
 
+# Who has a role, where a test says nothing else.
+STAFF = "clara clerk;\nbruno clerk;\nberta board;\n"
+
+
+def password(folder, *words):
+    """Runs the script that gives passwords, for the names of a folder."""
+    return subprocess.run(
+        [DEPLOY / "password", *words], capture_output=True, text=True, timeout=3 * PATIENCE,
+        env={**os.environ, "PASSWORDS": str(folder), "SETUP": "names.toml"})
+
+
+def new_password(folder, *words):
+    """A name's password, by that script."""
+    said = password(folder, *words)
+    same((said.returncode, said.stderr), (0, ""))
+    return said.stdout.split()[-1]
+
+
+@functools.cache
+def certificate():
+    """A certificate and its key, made once for all proxies of a suite: the bytes of each file."""
+    with tempfile.TemporaryDirectory() as made:
+        key, file = Path(made) / "key.pem", Path(made) / "certificate.pem"
+        ran("openssl", "req", "-x509", "-nodes", "-days", "2",
+            "-newkey", "ec", "-pkeyopt", "ec_paramgen_curve:prime256v1",
+            "-keyout", key, "-out", file,
+            "-subj", f"/CN={NAME}", "-addext", f"subjectAltName=DNS:{NAME}")
+        return {"key.pem": key.read_bytes(), "certificate.pem": file.read_bytes()}
+
+
+@functools.cache
+def staff_with_passwords(staff):
+    """The files of a staff that has its passwords, given once for all proxies of a suite, and the
+    passwords."""
+    with tempfile.TemporaryDirectory() as made:
+        folder = Path(made)
+        (folder / "staff.conf").write_text(staff, encoding="utf-8")
+        passwords = {name: new_password(folder, "staff", name)
+                     for name in re.findall(r"^\w+", staff, re.M)}
+        return {name: (folder / name).read_bytes()
+                for name in ("staff.conf", "staff.htpasswd")}, passwords
+
+
+@functools.cache
+def of_setup(text):
+    """The files that an office's script writes of a setup, once for each in a suite: codes.conf,
+    and the bytes of each published one."""
+    with tempfile.TemporaryDirectory() as made:
+        setup, share = Path(made) / "setup.toml", Path(made) / "share"
+        setup.write_bytes(text)
+        share.mkdir()
+        codes = printed(DEPLOY / "setup-json", setup, share)
+        return codes, {file.name: file.read_bytes() for file in share.iterdir()}
+
+
 class Proxy:
     """nginx, the recorder and the reader with the files of deploy/, their places filled in, in a
     folder of its own."""
@@ -43,7 +100,7 @@ class Proxy:
         # Further places of nginx.conf to fill in, and the room that the recorder leaves.
         self.more, self.room = {}, 0
 
-    def configure(self):
+    def configure(self, staff=STAFF):
         for name in ("office", "log", "temporary", "pages", "share", "recorder", "reader"):
             (self.folder / name).mkdir(parents=True, exist_ok=True)
         places = {"/var/log/nginx/": f"{self.folder}/log/",
@@ -53,7 +110,6 @@ class Proxy:
                   "/etc/nginx/office/": f"{self.folder}/office/"}
         for part in (DEPLOY / "nginx").glob("*.conf"):
             self.put(part.name, part.read_text(encoding="utf-8"), places)
-        self.put("staff.conf", "clara clerk;\nbruno clerk;\nberta board;\n")
         (self.folder / "nginx.conf").write_text(
             filled((DEPLOY / "nginx.conf").read_text(encoding="utf-8"), {
                 "user www-data;": "user root;" if os.geteuid() == 0 else "",
@@ -66,13 +122,18 @@ class Proxy:
         shutil.copy(DEPLOY / "www/clerk.html", self.folder / "share")
         if Path("setup.toml").exists():
             self.publish_setup("setup.toml")
-        self.certify()
-        for name in ("clara", "bruno", "berta"):
-            self.name("staff", name)
+        files, passwords = staff_with_passwords(staff)
+        for name, text in {**files, **certificate()}.items():
+            (self.folder / "office" / name).write_bytes(text)
+        self.passwords.update(passwords)
+        self.tls = ssl.create_default_context(cafile=self.folder / "office/certificate.pem")
 
     def publish_setup(self, file):
         """Writes setup.json, by the script that an office uses."""
-        self.put("codes.conf", printed(DEPLOY / "setup-json", file, self.folder / "share"))
+        codes, files = of_setup(Path(file).read_bytes())
+        self.put("codes.conf", codes)
+        for name, text in files.items():
+            (self.folder / "share" / name).write_bytes(text)
 
     def put(self, name, text, places=None):
         """Writes a file of the configuration."""
@@ -82,28 +143,16 @@ class Proxy:
             text = text.replace(old, new)
         (self.folder / "office" / name).write_text(text, encoding="utf-8")
 
-    def certify(self):
-        ran("openssl", "req", "-x509", "-nodes", "-days", "2",
-            "-newkey", "ec", "-pkeyopt", "ec_paramgen_curve:prime256v1",
-            "-keyout", self.folder / "office/key.pem",
-            "-out", self.folder / "office/certificate.pem",
-            "-subj", f"/CN={NAME}", "-addext", f"subjectAltName=DNS:{NAME}")
-        self.tls = ssl.create_default_context(cafile=self.folder / "office/certificate.pem")
-
     def password(self, *words):
         """Runs the script that gives passwords."""
-        return subprocess.run(
-            [DEPLOY / "password", *words], capture_output=True, text=True, timeout=3 * PATIENCE,
-            env={**os.environ, "PASSWORDS": str(self.folder / "office"), "SETUP": "names.toml"})
+        return password(self.folder / "office", *words)
 
     def name(self, file, name):
         """Gives a name its password, by the script that an office uses; of a station, of a setup
         that has it."""
         Path("names.toml").write_text(
             f'[[constituency]]\n[[constituency.station]]\ncode = "{name}"\n', encoding="utf-8")
-        said = self.password(file, name)
-        same((said.returncode, said.stderr), (0, ""))
-        self.passwords[name] = said.stdout.split()[-1]
+        self.passwords[name] = new_password(self.folder / "office", file, name)
 
     def start_recorder(self):
         desks = [word for desk in self.desks for word in ("--desk", f"127.0.0.1:{desk}")]
@@ -269,10 +318,7 @@ def children(front):
 @contextlib.contextmanager
 def with_a_second(port):
     front = Proxy(port)
-    front.configure()
-    with (front.folder / "office/staff.conf").open("a") as staff:
-        staff.write("sara second;\n")
-    front.name("staff", "sara")
+    front.configure(STAFF + "sara second;\n")
     try:
         front.start()
         yield front

@@ -9,7 +9,7 @@ from pathlib import Path
 
 from tests.support.case import Case
 from tests.support.office import DOUBLE, LISTS, PROFILE, constituency, station
-from tests.support.proxy import Proxy
+from tests.support.proxy import STAFF, Proxy
 from tests.support.running import PATIENCE, until
 from tests.support.site import DEPLOY, plain, serving
 
@@ -65,10 +65,7 @@ class WithSetup(Proxy):
 def site(desk, stations=("s1",), embargo=None):
     """The proxy with sara, who enters slips a second time, and with some stations."""
     front = WithSetup(desk)
-    front.configure()
-    names = "clara clerk;\nbruno clerk;\nberta board;\nsara second;\n"
-    front.put("staff.conf", names)
-    front.name("staff", "sara")
+    front.configure(STAFF + "sara second;\n")
     for name in stations:
         front.name("stations", name)
     if embargo:

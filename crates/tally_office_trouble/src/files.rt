@@ -2,9 +2,9 @@
 
 ghost use Rattle.std.specs.Prelude.{◌≡◌, ℕ, List, Option, Err, IfErr, IfOk, IfSome, OnOk, true};
 ghost use Rattle.tally_import_records.specs.Watch.{NotesNothing, has_failed};
-ghost use Rattle.tally_office_trouble.specs.SetupFile.{IsTextOf};
-ghost use Rattle.tally_office_trouble.specs.Troubles.{IsTroubleOfFile, IsTroubleOfReading};
-ghost use Rattle.tally_office_trouble.specs.Troubles.{IsTroubleOfSetupText};
+ghost use Rattle.tally_office_trouble.specs.SetupFile.{GivesTooLong, IsTextOf, IsTooLong};
+ghost use Rattle.tally_office_trouble.specs.Troubles.{IsOverLimit, IsTroubleOfFile};
+ghost use Rattle.tally_office_trouble.specs.Troubles.{IsTroubleOfReading, IsTroubleOfSetupText};
 
 use crate::trouble::{Trouble, is_memory};
 use std::alloc::Global;
@@ -51,7 +51,8 @@ impl NamedFiles for MachineFiles {
 }
 
 /// Reads the text of a setup from a file: all that the file gave. With a text, the watch noted no
-/// failed read; with the trouble `Read`, it has noted one.
+/// failed read; with the trouble `Read`, it has noted one. With the fault `OverLimit`, the text
+/// exceeds the limit.
 pub fn read_setup_text<F: NamedFiles>(
     rt: &HostRuntime,
     files: &F,
@@ -61,6 +62,8 @@ pub fn read_setup_text<F: NamedFiles>(
     ensures text { IfOk result (λ text. IsTextOf (F.Gives files.now path.now) text.items) }
     ensures all_read { OnOk result (NotesNothing watch.old watch.new) }
     ensures read { result ≡ Err Trouble.Read → has_failed watch.new ≡ true }
+    ensures over_limit { IfErr result (λ t. IsOverLimit t →
+        GivesTooLong (F.Gives files.now path.now)) }
     ensures named { IfErr result IsTroubleOfReading }
 {
     match files.open_file(rt, path) {
@@ -70,8 +73,8 @@ pub fn read_setup_text<F: NamedFiles>(
 }
 
 /// Reads the text of a setup to the end of the reader. With a text, the watch noted no failed read;
-/// with the trouble `Read`, it has noted one. A text that exceeds the limit is no setup
-/// (`OverLimit`).
+/// with the trouble `Read`, it has noted one. A text that exceeds the limit is no setup, and only
+/// such a text has the fault `OverLimit`.
 pub fn setup_text<R: Read>(
     alloc: Global,
     reader: &mut R,
@@ -81,6 +84,8 @@ pub fn setup_text<R: Read>(
         IfSome (R.remaining reader.old) (λ all. text.items ≡ all)) }
     ensures all_read { OnOk result (NotesNothing watch.old watch.new) }
     ensures read { result ≡ Err Trouble.Read → has_failed watch.new ≡ true }
+    ensures over_limit { IfErr result (λ t. IsOverLimit t →
+        IfSome (R.remaining reader.old) IsTooLong) }
     ensures named { IfErr result IsTroubleOfSetupText }
 {
     let Ok(whole) = read_whole(alloc, reader, watch, SETUP_BYTES) else {

@@ -1,0 +1,186 @@
+"""A copy of an office's database, and the record of its commands: lots, vacancies, a setup, and a
+part of the copy that somebody put back."""
+
+import json
+import subprocess
+import sys
+from pathlib import Path
+
+from tests.support.case import ROOT
+from tests.support.papers import (
+    COPY, DRAWN, OfPapers, copy_of, done, paper, papers, recorded, setup_with,
+)
+from tests.support.record import chained
+from tests.support.running import PATIENCE
+from tests.support.site import DEPLOY, EXAMPLES
+
+CON = "/con/montehondo"
+NEVER = "and no acts of this record left it so"
+# The same votes, with the lot the other way round: ROBLE has the seat in question.
+TURNED = [*DRAWN, "UPDATE lots SET list = 3 - list", "UPDATE seats SET n = 4 WHERE list = 1",
+          "UPDATE seats SET n = 3 WHERE list = 2"]
+
+
+def recorded_instead(*acts):
+    """A record of the copy with these acts in the place of its certificate."""
+    lines = [json.loads(line) for line in Path(recorded()).read_bytes().splitlines()[:-2]]
+    entries = [{key: one[key] for key in one if key not in ("n", "before", "time")}
+               for one in lines] + [one for act in acts for one in act]
+    Path("commands.log").write_bytes(chained(*(
+        one | {"to": number} if "status" in one else one for number, one in enumerate(entries))))
+
+
+def berta(act, **body):
+    return done("berta", f"{CON}/{act}", body)
+
+
+class CopyAndRecord(OfPapers):
+    def setUp(self):
+        super().setUp()
+        Path("setup.toml").write_text(EXAMPLES, encoding="utf-8")
+
+    def entries(self, said=()):
+        """`entries` says these lines of the copy and the record, and one that counts them."""
+        with open("commands.log", "rb") as record:
+            ran = subprocess.run([DEPLOY / "entries", "setup.toml", "--office", COPY],
+                                 stdin=record, capture_output=True, text=True, timeout=PATIENCE)
+        *lines, last = ran.stdout.splitlines() or [""]
+        self.assertEqual((lines, ran.stderr), (list(said), ""))
+        self.assertIn(f"to look at {len(lines)}", last)
+        self.assertEqual(ran.returncode, bool(lines))
+
+    def assert_counted_again(self):
+        """The seats of the copy are those of its votes and its lot: the recount finds no fault."""
+        ran = subprocess.run([sys.executable, ROOT / "examples/recount.py", COPY],
+                             capture_output=True, text=True, timeout=PATIENCE)
+        self.assertEqual(ran.stdout, "montehondo agrees\n")
+
+    def test_a_lot_that_nobody_recorded(self):
+        drawn = berta("draw", edition=1, order=["ENCINA", "ROBLE"])
+        copy_of(*DRAWN)
+        recorded_instead(drawn, berta("certify", edition=2))
+        self.entries()
+        papers("acts", COPY, "acts", "--record", "commands.log")
+        # A copy of the moment before the draw, and of that before the certificate, is an older one.
+        for edition in (1, 2):
+            copy_of(*DRAWN, f"UPDATE cons SET edition = {edition}, certified = 0",
+                    "DELETE FROM seats", *["DELETE FROM lots"] * (edition == 1))
+            self.entries()
+        copy_of(*TURNED)
+        self.assert_counted_again()
+        self.entries([f"montehondo: the office has the lot ROBLE, ENCINA, {NEVER}"])
+        self.refuses("the record says something else of montehondo than the copy", "acts",
+                     "--record", "commands.log")
+        copy_of(*DRAWN, "UPDATE cons SET edition = 2, certified = 0", "DELETE FROM seats",
+                "DELETE FROM lots")
+        self.entries([f"montehondo: the office has no lot, {NEVER}"])
+
+    def test_a_query_removes_the_lot(self):
+        """After it the constituency has none, until there is another draw."""
+        query = done("clara", "/station/01-001-A/query", {"rev": 2, "note": "smudged"})
+        after = ["DELETE FROM seats", "UPDATE cons SET edition = 2, certified = 0",
+                 "UPDATE returns SET rev = 3, status = 2 WHERE station = '01-001-A'"]
+        copy_of(*DRAWN)
+        recorded_instead(berta("draw", edition=1, order=["ENCINA", "ROBLE"]), query)
+        copy_of(*DRAWN, *after, "DELETE FROM lots")
+        self.entries()
+        copy_of(*DRAWN, *after)
+        self.entries([f"montehondo: the office has the lot ENCINA, ROBLE, {NEVER}"])
+
+    def test_a_part_that_was_put_back(self):
+        """Each part is as some acts left it. Together they were never so: a return is as it was
+        before it was corrected, under the certificate that came after."""
+        station, other = "04-002-A", {"slip": "r214", "votes": [30, 40, 30, 0, 0], "blank": 0,
+                                      "spoiled": 0}
+        copy_of()
+        recorded_instead(
+            berta("certify", edition=1), berta("reopen", edition=2, note="recount"),
+            done("clara", f"/station/{station}/query", {"rev": 2, "note": "HAYA?"}),
+            done("clara", f"/station/{station}/correct", {"rev": 3, **other}),
+            done("bruno", f"/station/{station}/close", {"rev": 4}),
+            berta("certify", edition=3))
+        past = "INSERT INTO past SELECT con, 2, list, n FROM seats"
+        for edition, certified in ((1, 0), (2, 1), (3, 0)):
+            with self.subTest(edition=edition):
+                copy_of(*[past] * (edition > 2), "UPDATE cons SET edition = "
+                        f"{edition}, certified = {certified}")
+                self.entries()
+        copy_of(past, "UPDATE cons SET edition = 4")
+        self.assert_counted_again()
+        # 15 returns have four lines each. Then the query is answered in line 66, and the second
+        # certificate in line 72.
+        self.entries([f"the office has {station} at revision 2, as it was before line 66 of the "
+                      "record, and montehondo at edition 4, as it was from line 72 on: it never "
+                      "had both"])
+        # A return that is gone was there before every certificate.
+        copy_of("DELETE FROM returns WHERE station = '04-001-B'")
+        lines = Path("commands.log").read_bytes().splitlines()
+        lodged = next(number for number, line in enumerate(lines, 1)
+                      if b"/04-001-B/lodge" in line) + 1
+        self.entries([f"the office has no return of 04-001-B, as it was before line {lodged} of "
+                      "the record, and montehondo at edition 2, as it was from line 62 on: it "
+                      "never had both"])
+
+    def test_who_is_gone(self):
+        """By the list that the command names, the last one too."""
+        def gone(place, code):
+            copy_of(f"INSERT INTO gone VALUES ('montehondo', {place}, 1, 'died')")
+            recorded(also=[berta("vacate", list=code, place=1, note="died")])
+
+        for place, code in ((3, "HAYA"), (5, "OLIVO")):
+            with self.subTest(code=code):
+                gone(place, code)
+                self.entries()
+        gone(4, "HAYA")
+        self.entries(["montehondo: a holder is gone, list SAUCE, place 1, by no act of this "
+                      "record"])
+        # The vacancy is in the record, and an act after it is in the copy: only its row is not.
+        copy_of("INSERT INTO past SELECT con, 2, list, n FROM seats",
+                "UPDATE cons SET edition = 3, certified = 0", "DELETE FROM seats")
+        recorded(also=[berta("vacate", list="HAYA", place=1, note="died"),
+                       berta("reopen", edition=2, note="recount")])
+        self.entries(["the office has montehondo, list HAYA, place 1, not gone, as it was before "
+                      "line 64 of the record, and montehondo at edition 3, as it was from line 66 "
+                      "on: it never had both"])
+
+    def test_an_office_of_another_setup(self):
+        """A comment is no other setup; a rule, the seats, a candidate, a station are."""
+        for old, new in (("seats = 9", "seats = 8"), ("threshold = 300", "threshold = 500"),
+                         ("Aurora Peral", "Celia Monte"), ('base = "valid"', 'base = "lists"')):
+            with self.subTest(new=new):
+                self.assertIn(old, EXAMPLES)
+                copy_of(setup_with(old, new))
+                recorded()
+                self.entries(["montehondo: the office has another rule, or other seats, lists or "
+                              "stations, than the setup"])
+        copy_of(setup_with("seats = 9", "seats = 9  # as decreed"))
+        self.entries()
+
+    def test_acts_of_the_board_that_the_record_lacks(self):
+        """The papers say so: here of the certificate, of a return that was corrected, and of a
+        vacancy, by which another candidate is among the elected."""
+        copy_of("INSERT INTO past SELECT con, 2, list, n FROM seats",
+                "INSERT INTO gone VALUES ('montehondo', 3, 1, 'died')",
+                "UPDATE cons SET edition = 4",
+                "UPDATE returns SET rev = 5 WHERE station = '04-002-A'")
+        recorded()
+        for language, said in (
+                ("en", ["Stations whose acts are not all in the record of commands: 04-002-A.",
+                        "The act of the board that led to edition 4 of the result is not in the "
+                        "record of commands.",
+                        "Vacancies that are not in the record of commands, by list and place: "
+                        "HAYA 1."]),
+                ("es", ["Mesas cuyas operaciones no constan todas en el registro: 04-002-A.",
+                        "El acto de la junta del que resulta la versión 4 del resultado no consta "
+                        "en el registro.",
+                        "Vacantes que no constan en el registro, por candidatura y puesto: HAYA "
+                        "1."])):
+            papers("acts", COPY, "out", "--record", "commands.log", "--language", language)
+            for kind in ("count", "proclamation"):
+                with self.subTest(kind=kind, language=language):
+                    text = paper("out", f"act-{kind}-*-{language}*.html").text
+                    self.assertEqual([one for one in said if one not in text], [])
+        copy_of()
+        papers("acts", COPY, "whole", "--record", "commands.log")
+        for kind in ("count", "proclamation"):
+            self.assertNotIn("record of commands.", paper("whole", f"act-{kind}-*").text)
