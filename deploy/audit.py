@@ -61,6 +61,11 @@ def need(holds, words):
 # ---- reading
 
 
+def is_whole(value, least, most):
+    """Whether a value is a whole number between these; true and false are none."""
+    return type(value) is int and least <= value <= most
+
+
 @dataclass
 class Constituency:
     code: str
@@ -90,7 +95,10 @@ def read_setup(file):
         entries = [rules[con["profile"]] | con for con in setup["constituency"]]
     for con in entries:
         need(con["method"] in RULES and con["base"] in BASES, f"{file}: the rule of {con['code']} is not known")
-        need(con["seats"] in range(1, MOST_SEATS + 1), f"{file}: {con['code']} has {con['seats']!r} seats, and not 1 to {MOST_SEATS}")
+        need(is_whole(con["seats"], 1, MOST_SEATS), f"{file}: {con['code']} has {con['seats']!r} seats, and not 1 to {MOST_SEATS}")
+        need(is_whole(con["threshold"], 0, 10_000), f"{file}: the threshold of {con['code']} is {con['threshold']!r}, and not 0 to 10000")
+        need(all(is_whole(row[key], 0, 10**6) for row in con[stations] for key in ("electors", "agents") if key in row),
+             f"{file}: the electors of a station of {con['code']} are no number")
     keys = ("code", "name", "seats", "method", "threshold", "base")
     return [Constituency(*(con[key] for key in keys), [row["code"] for row in con[lists]],
                          {row["code"]: row["electors"] for row in con[stations]},

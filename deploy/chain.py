@@ -26,8 +26,11 @@ def read_shown(file):
     with open(os.open(file, os.O_RDONLY | os.O_NONBLOCK), encoding="utf-8", newline="") as rows:
         if not stat.S_ISREG(os.fstat(rows.fileno()).st_mode):
             raise ValueError("it is no file")
-        for row in csv.DictReader(rows):
-            shown.setdefault(int(row["lines"]), set()).add(row["sha256"])
+        try:
+            for row in csv.DictReader(rows):
+                shown.setdefault(int(row["lines"]), set()).add(row["sha256"])
+        except csv.Error as error:
+            raise ValueError(str(error)) from None
     shown.pop(0, None)
     return shown
 

@@ -25,11 +25,9 @@ the last one failed in part. Python 3.11 or later.
 
 import argparse
 import csv
-import gzip
 import hashlib
 import json
 import math
-import os
 import re
 import shutil
 import signal
@@ -48,6 +46,7 @@ from press_data import (ACTS, OF_HASH, OPEN, STATION, adds_up, con_csv, con_json
                         returns_csv, returns_in, schemas)
 from press_country import together
 from press_embed import con_embedded, country_embedded, withdrawn_embedded
+from press_files import put, put_bytes, repair
 from press_image import shared_image
 from press_lists import elected_csv, elected_pages, list_pages
 from press_pages import aged, con_bodies, con_page, count_pages, details_page, index_pages, unaged, withdrawn_page
@@ -141,25 +140,6 @@ def read_setup(file):
 
 # Where a file says its moment. No title or name can say it there: in these places each is escaped.
 MOMENTS = {".json": '"time": "([^"]+)"', ".atom": "<updated>([^<]+)<", ".html": '<time datetime="([^"]+)">'}
-
-
-def put(folder, name, text):
-    """Writes a file, and the same compressed, each beside and renamed. What would be the same stays as it is."""
-    data = text.encode()
-    file, compressed = folder / name, folder / f"{name}.gz"
-    if file.exists() and compressed.exists() and file.read_bytes() == data:
-        return
-    put_bytes(compressed, gzip.compress(data, 6, mtime=0))
-    put_bytes(file, data)
-
-
-def put_bytes(file, data):
-    """Writes a file beside and renames it. What would be the same stays as it is."""
-    if file.exists() and file.read_bytes() == data:
-        return
-    beside = file.with_name(f".{file.name}.new")
-    beside.write_bytes(data)
-    os.replace(beside, file)
 
 
 def put_dated(folder, name, write, moment):
@@ -666,6 +646,7 @@ def main():
     remove_languages(given.folder, site)
     for _, folder in site.editions(given.folder):
         folder.mkdir(exist_ok=True)
+        repair(folder)
     signal.signal(signal.SIGTERM, lambda *_: sys.exit(0))
     offices, entries, seen, asked = [Office(address) for address in given.office], {entry["code"]: entry for entry in setup}, Seen(), 0
     while True:

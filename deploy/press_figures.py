@@ -85,7 +85,7 @@ def half_circle(site, seats, total, left=(), majority=None, provisional=None):
         drawn += [group_of_dots(code, own[many:], size, hollow=True)] if more else []
         before = code
         middle, edge = anchor_of(own, size)
-        said = f"{many or ''}+{more}" if more and is_mixed else f"{many + more}"
+        said = f"{many}+{more}" if more and is_mixed else f"{many + more}"
         if code is None or len(labels) < NAMED_LISTS:
             labels.append((clear_of(at, middle), edge, f"{code or site.say(words)} {said}"))
     sides, lines, width, top, bottom = placed_labels(labels, 100 + size)

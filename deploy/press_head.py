@@ -174,9 +174,9 @@ def list_outlook(site, country, party):
     words = "lists_certified" if country.whole else "lists_open"
     state = site.said(words, many=country.chamber,
                       open=site.number(country.chamber - country.certified))
+    more = "line_provisional_more" if party.seats else "line_provisional"
     lines = [seats_line(site, "certified", site.say("line_certified"), {party.code: party.seats}),
-             seats_line(site, "provisional", site.say("line_provisional"),
-                        {party.code: party.provisional})]
+             seats_line(site, "provisional", site.say(more), {party.code: party.provisional})]
     return state_alone(site, country) | {
         "state": (country_state(site, country)[0], state),
         "lines": [line for line in lines if line]}
@@ -186,12 +186,13 @@ def country_lines(site, country):
     """The certified seats, and then the provisional ones: each line with how many of all these
     are."""
     certified = {party.code: party.seats for party in country.parties}
-    if country.whole:
-        return [seats_line(site, "certified", site.say("line_certified"), certified)]
     provisional = {party.code: party.provisional for party in country.parties}
-    lines = [seats_line(site, kind, site.say(f"line_{kind}_part", many=country.chamber,
+    first = "line_certified" if country.whole else "line_certified_part"
+    more = "line_provisional_further" if country.certified else "line_provisional_part"
+    lines = [seats_line(site, kind, site.say(words, many=country.chamber,
                                              seats=site.number(sum(given.values()))), given)
-             for kind, given in (("certified", certified), ("provisional", provisional))]
+             for kind, words, given in (("certified", first, certified),
+                                        ("provisional", more, provisional))]
     return [line for line in lines if line]
 
 
@@ -208,11 +209,16 @@ def nobodys_line(site, country):
 
 def majority_said(site, country):
     """How many seats are a majority, and who has it: in certified seats, and where nobody has, in
-    these and the provisional ones. None where there is one seat, or none."""
+    these and the provisional ones; that nobody has it in these either, once all is counted and no
+    other seat could give it. None where there is one seat, or none."""
     if country.chamber < 2:
         return None
     values = {"majority": site.number(country.majority), "chamber": site.number(country.chamber)}
     words = "majority_nobody" if country.whole else "majority_not_yet"
+    most = max((party.seats + party.provisional for party in country.parties), default=0)
+    left = country.chamber - country.certified - country.provisional
+    if not country.whole and country.closed == country.stations and most + left < country.majority:
+        words = "majority_nobody_even"
     for party in country.parties:
         if party.seats >= country.majority:
             words = "majority_has"

@@ -118,7 +118,7 @@ def rows_of(file, *columns):
 def read_about(file):
     try:
         about = tomllib.loads(text_of(file))
-    except tomllib.TOMLDecodeError as error:
+    except (tomllib.TOMLDecodeError, RecursionError) as error:
         raise Wrong(f"{file}: {error}") from error
     if "date" in about:
         about["date"] = day_of(about["date"])

@@ -21,8 +21,8 @@ the command; each has in `before` the SHA-256 of the line before it. So no line 
 without changing the hash of the last, which is in FOLDER/head with its number. Hashes are published; `salt`, which nobody can
 guess, keeps them from bearing out a guess of what a slip says. Each line goes to standard output too.
 
-With --two-of-board a lot, a certificate and a reopening need two names of the board: the first request is recorded and answered
-202, `waits_for_second_name`, and the same request from another name within an hour is sent to the office. It is another request
+With --two-of-board a lot, a certificate, a reopening and a vacancy need two names of the board: the first request is recorded and
+answered 202, `waits_for_second_name`, and the same request from another name within an hour is sent to the office. It is another request
 where its body differs, as where it names another edition.
 
 Files are imported and tried one at a time, each after the commands that wait. While others give commands, the desk is left to
@@ -618,7 +618,7 @@ def main():
     command.add_argument("--room", type=int, default=256 << 20, metavar="BYTES", help="what has to be left on the disk of the record")
     command.add_argument("--setup", type=Path, metavar="FILE", help="setup.json, as setup-json writes it")
     command.add_argument("--shown", type=Path, metavar="FILE", help="what the press pages have shown of the record: record.csv")
-    command.add_argument("--two-of-board", action="store_true", help="a lot, a certificate and a reopening need two names")
+    command.add_argument("--two-of-board", action="store_true", help="a lot, a certificate, a reopening and a vacancy need two names")
     given = command.parse_args()
     try:
         file = given.setup
@@ -638,6 +638,9 @@ def main():
     record, limit = Record(given.record, given.room, setup, shown), Limit()
     if record.fault:
         print(f"no command is done: {record.fault}", file=sys.stderr, flush=True)
+    elif given.shown and record.number and not shown:
+        print(f"{given.shown} has no line that was shown: nobody knows whether {given.record}, of {record.number} lines, is as it "
+              "was", file=sys.stderr, flush=True)
     for office, (listener, address) in enumerate(zip(listeners, desks), 1):
         desk = Desk(address)
         for _ in range(THREADS):

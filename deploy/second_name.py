@@ -7,7 +7,7 @@ that the recorder knows after a start what it knew before, and `entries` reads t
 
 from datetime import datetime, timedelta
 
-ACTS = ("draw", "certify", "reopen")
+ACTS = ("draw", "certify", "reopen", "vacate")
 PATIENCE = timedelta(hours=1)
 # The status of a request that waits for a second name.
 WAITS = 202

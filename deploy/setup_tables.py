@@ -373,7 +373,7 @@ def read_columns(folder, faults, language=None):
         return {}
     try:
         found = tomllib.loads(file.read_bytes().decode("utf-8-sig"))
-    except ValueError as error:
+    except (ValueError, RecursionError) as error:
         faults.add("columns.toml", None, "not_toml", error=error)
         raise Stopped from None
     if not language and found.get("language") in LANGUAGES:

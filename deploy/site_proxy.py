@@ -8,6 +8,8 @@ import re
 from site_places import at_site
 
 NAME = "office.example"
+# In the place of the name of a site while a text is made.
+HERE = "\0"
 MARK = "# Written by office-site, and again at each run: /usr/share/doc/office/deploy/README.md."
 # The names that make a directive that of a site.
 OWN = re.compile(r"include office/|office\.example|/var/www/office|/etc/nginx/office")
@@ -67,12 +69,13 @@ def variables_of(found):
 
 def named(text, own, site, desk):
     """A text of the proxy with the variables, upstreams, places and name of a site."""
+    # (in a site's own name nothing is replaced: it is put in last)
+    text = text.replace(NAME, HERE).replace("refused.log", f"refused-{HERE}.log")
     text = re.sub(r"\$(\w+)", lambda it: f"${it[1]}_{desk}" if it[1] in own else it[0], text)
     text = re.sub(r"(http://|upstream )(office|recorder)(?=[$1-9])", rf"\1\2_{desk}_", text)
-    text = re.sub(r"(?<![/\w])office/(?=[\w.-]+\.(conf|pem))", f"office/{site}/",
-                  at_site(text, site, "", ""))
-    text = text.replace("refused.log", f"refused-{site}.log")
-    return text.replace("FILL IN the name", "The name").replace(NAME, site)
+    text = re.sub(r"(?<![/\w])office/(?=[\w.-]+\.(conf|pem))", f"office/{HERE}/",
+                  at_site(text, HERE, "", ""))
+    return text.replace("FILL IN the name", "The name").replace(HERE, site)
 
 
 def whole(text, parts, sites, with_ipv6):

@@ -8,8 +8,8 @@ Of a database it says for each constituency whether the totals agree with the cl
 it is certified, the seats with the votes. From returns it prints the seats: FOLDER has CODE.csv for
 each constituency, as 'office show --report returns' prints it, with all stations closed. Lots are
 lines 'CODE A B', the first list first; a lot has to name the lists that it decides among, and no
-other. The exit status is 0; 1 if something differs or a lot is missing or of other lists; 2 if a
-file cannot be used. Nothing is written to any file. Python 3.11 or later.
+other. The exit status is 0; 1 if something differs, if a station is not in the returns, or if a lot
+is missing or of other lists; 2 if a file cannot be used. Nothing is written to any file. Python 3.11 or later.
 """
 import argparse
 import csv
@@ -150,6 +150,7 @@ def count_returns(cons, folder, lots):
         codes = [one["code"] for one in con["list"]]
         named = [codes.index(code) + 1 if code in codes else 0 for code in lots[con["code"]]]
         _, seats, wrong = judged(con, cast, named)
+        wrong = ["stations are missing"] * (cast.keys() < con["most"].keys()) + wrong
         said = "; ".join([f"{len(cast)} of {len(con['most'])} stations", *wrong])
         print(con["code"], *(f"{code} {n}" for code, n in zip(codes, seats.values())), f"({said})")
         status |= any(words != "no list takes part" for words in wrong)
@@ -194,7 +195,7 @@ def read_setup(text):
         con["rule"] = rule = rules[con["profile"]]
         if rule["method"] not in METHODS or rule["base"] not in ("valid", "lists"):
             raise ValueError(f"{con['code']}: an unknown rule")
-        if con["seats"] not in range(1, 501):
+        if con["seats"] is True or con["seats"] not in range(1, 501):
             raise ValueError(f"{con['code']}: not 1 to 500 seats")
         con["most"] = {it["code"]: it["electors"] + it.get("agents", 0) for it in con["station"]}
         if len(con["station"]) > (20_000 if con.get("size") == "large" else 5_000):

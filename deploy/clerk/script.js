@@ -275,7 +275,7 @@ function lotOf({ others }) {
 
 // Until when a request waits for a second name, and what others asked for in its place.
 function waitsFor({ until, others }) {
-  const titles = { draw: T.draw_title, certify: T.certify_title, reopen: T.reopen_title };
+  const titles = { draw: T.draw_title, certify: T.certify_title, reopen: T.reopen_title, vacate: T.vacate_title };
   const more = others.map(({ name, act, body }) => T.other_waits({ name, act: titles[act], said: saidOf(read(body)) }));
   return [T.waits_for_name({ until: moment(new Date(until)) }), ...more].join(" ");
 }
@@ -936,12 +936,13 @@ const isNumber = (one) => Number.isSafeInteger(one) && one >= 0;
 
 // What a command said of a return. Also of one that was refused, or waits and was not looked at
 // yet, codes and numbers alone are shown: else its sender could write any sentence into this line.
-function saidOf({ slip, votes, blank, spoiled, note, order }) {
+function saidOf({ slip, votes, blank, spoiled, note, order, list, place }) {
   const codeOf = (place) => (constituency().lists[place] || { code: "?" }).code;
   const lists = Array.isArray(votes) ? votes.slice(0, 60).map((many, place) => `${codeOf(place)} ${isNumber(many) ? many : "?"}`) : [];
   const others = isNumber(blank) && isNumber(spoiled) ? [T.said_blank({ number: blank }), T.said_spoiled({ number: spoiled })] : [];
   const drawn = Array.isArray(order) ? order.slice(0, 60).filter(isCode) : [];
-  const parts = [...(isCode(slip) ? [T.said_slip({ slip })] : []), ...lists, ...others, ...drawn,
+  const gone = isCode(list) && isNumber(place) ? [`${list} ${place}`] : [];
+  const parts = [...(isCode(slip) ? [T.said_slip({ slip })] : []), ...lists, ...others, ...drawn, ...gone,
     ...(note ? [T.said_note({ note: isolated(String(note).slice(0, 200)) })] : [])];
   return parts.length ? `: ${parts.join(", ")}` : "";
 }

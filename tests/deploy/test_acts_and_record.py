@@ -216,8 +216,11 @@ class Shown(Safeguards):
             )
             log.write_bytes(longer)
             shown.unlink()
+            words = f"{shown} has no line that was shown: nobody knows whether {log}, of 20 lines, "
+            self.assertNotIn(words, (front.folder / "log/recorder").read_text())
             front.start_recorder()
             self.assertEqual(ask(), 200)
+            self.assertIn(words, (front.folder / "log/recorder").read_text())
 
     def test_the_page_of_the_count_says_so(self):
         site_of = press_site.Site()

@@ -91,9 +91,26 @@ class Rules(Case):
                 ran = audit(*"plan --setup setup.toml --returns returns.csv --risk 5".split())
                 self.assertEqual((ran.status, ran.out, ran.err.count("\n")), (2, "", 1))
 
+    def test_a_setup_whose_numbers_are_none(self):
+        """The office takes no such setup: nothing is computed of it."""
+        write("returns.csv", RETURNS)
+        for key, value, status in (
+                ("threshold = 0", "threshold = 100", 0), ("threshold = 0", "threshold = -1", 2),
+                ("threshold = 0", "threshold = 10001", 2),
+                ("threshold = 0", "threshold = true", 2), ("threshold = 0", "threshold = 1.5", 2),
+                ("electors = 100", "electors = 100.0", 2), ("electors = 100", "electors = true", 2),
+                ("electors = 100", "electors = inf", 2), ("electors = 100", "electors = -1", 2),
+                ("electors = 100", "electors = 1000000", 0),
+                ("electors = 100", "electors = 1000001", 2)):
+            with self.subTest(value=value):
+                write("setup.toml", SETUP.replace(key, value))
+                ran = audit(*"plan --setup setup.toml --returns returns.csv --risk 5".split())
+                self.assertEqual((ran.status, ran.err.count("\n")), (status, status // 2), ran)
+
     def test_a_setup_with_more_seats_than_the_office_takes(self):
         write("returns.csv", RETURNS)
-        for seats, status in ((0, 2), (500, 0), (501, 2), (10**9, 2), ('"3"', 2)):
+        for seats, status in ((0, 2), (500, 0), (501, 2), (10**9, 2), ('"3"', 2), ("true", 2),
+                              (3.0, 2)):
             with self.subTest(seats=seats):
                 write("setup.toml", SETUP.replace("seats = 3", f"seats = {seats}"))
                 ran = audit(*"plan --setup setup.toml --returns returns.csv --risk 5".split())

@@ -48,7 +48,7 @@ class CountryPage(SiteCase):
                 # In Sur A 10 (5), B 20 (10); in Oeste D 90 (45, 30), A 7, B 3.
                 # One of two stations of Óeste is counted, and that of Sur.
                 "Provisional: 5 seats, in constituencies with 2 of 3 polling stations counted "
-                "(66.67%). They are not the result.",
+                "(66.67%). These seats are not the result.",
                 "3 seats: the count goes on in Óeste &lt;3&gt; (50.00% counted).",
                 "The line marks the majority: 6 of 10 seats.",
                 "5 of 6 polling stations are counted, 83.33 per cent",
@@ -70,7 +70,7 @@ class CountryPage(SiteCase):
             self.assertEqual(drawn(), [("list-B", 3, False), ("list-B", 2, True),
                                        ("list-D", 3, True), ("list-A", 2, False)])
             self.assertEqual(sorted(re.findall("<text [^>]*>([^<]*)</text>", read("index.html"))),
-                             ["10", "A 2", "B 3+2", "D +3"])
+                             ["10", "A 2", "B 3+2", "D 0+3"])
             self.assertIn("Hollow dots, and the numbers after a plus, are provisional seats, which "
                           "are not the result.", text)
             self.assertEqual([shown_text(item) for item

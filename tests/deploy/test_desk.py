@@ -447,10 +447,11 @@ class TheLifeOfADesk(unittest.TestCase):
         return it
 
     def wait_for_pages(self, desk):
-        """They may take their time on a computer with much else to do."""
-        end, index = time.monotonic() + PATIENCE, desk.db.with_suffix(".pages") / "index.html"
-        while not index.exists():
-            self.assertLess(time.monotonic(), end, "no press pages")
+        """Until they show a line of the record. They may take their time on a computer with much
+        else to do."""
+        end, record = time.monotonic() + PATIENCE, desk.db.with_suffix(".pages") / "record.csv"
+        while not (record.exists() and re.search(r"^[^,]*,[1-9]", record.read_text(), re.M)):
+            self.assertLess(time.monotonic(), end, "no press pages with a line of the record")
             time.sleep(0.1)
 
     def test_it_ends_with_one_file_that_opens_again_with_the_return(self):

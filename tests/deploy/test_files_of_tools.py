@@ -31,6 +31,39 @@ def tool(name, *words):
     return done.returncode, done.stdout, done.stderr
 
 
+class ValuesOfAnotherKind(Case):
+    prefix = "office-values-"
+
+    def test_a_setup_that_no_office_takes(self):
+        """A code, a name or candidates of another kind: a line says so, and nothing is written."""
+        text = SETUP.read_text(encoding="utf-8")
+        for old, new in (('code = "montehondo"', "code = 5"), ('code = "ROBLE"', 'code = ["x"]'),
+                         ('code = "ROBLE"', "code = {}"), ('name = "Montehondo"', "name = 7"),
+                         ('candidates = ["Nuria Valle"]', "candidates = 3"),
+                         ('candidates = ["Nuria Valle"]', "candidates = [[1]]")):
+            with self.subTest(new=new):
+                self.assertIn(old, text)
+                Path("setup.toml").write_text(text.replace(old, new), encoding="utf-8")
+                status, printed, said = tool("setup-json", "setup.toml", ".")
+                self.assertEqual((status, printed, said.count("\n")), (1, "", 1), said)
+                self.assertTrue(said.startswith("failed: setup.toml: "), said)
+                self.assertEqual(os.listdir("."), ["setup.toml"])
+
+
+    def test_a_file_that_goes_too_deep(self):
+        """Each tool that reads it says so in a line."""
+        Path("deep.toml").write_text("a = " + "[" * 100_000, encoding="utf-8")
+        Path("site").mkdir()
+        shutil.copy("deep.toml", "site/site.toml")
+        for name, words, status in (
+                ("split", ("deep.toml", "2", "parts"), 1), ("status", ("--config", "deep.toml"), 2),
+                ("papers", ("acts", COPY, "out", "--site", "site"), 2),
+                ("setup-json", ("deep.toml", "."), 1)):
+            with self.subTest(name=name):
+                found = tool(name, *words)
+                self.assertEqual((found[0], found[2].count("\n")), (status, 1), found)
+
+
 class MissingFiles(Case):
     prefix = "office-missing-"
 

@@ -54,8 +54,9 @@ class FirstScreen(SiteCase):
              "yet."])
         self.in_order(header("index.html"), "Not final: 5 of 10 seats not certified yet",
                       "83.33% of the polling stations are counted, 5 of 6.",
-                      "Certified, 5 of 10 seats: B 3 A 2", "Provisional, 5 of 10 seats: D 3 B 2",
-                      "6 of 10 seats are a majority: nobody has it yet.",
+                      "Certified, 5 of 10 seats: B 3 A 2",
+                      "Further seats, provisional, 5 of 10: D 3 B 2",
+                      "6 of 10 seats are a majority: nobody has it yet in certified seats.",
                       "Not certified, 5 of 10 seats:",
                       "2 seats: Sur was certified and is reopened; they may still change, and "
                       "then the board certifies again. Reason: a recount.",
@@ -89,7 +90,8 @@ class FirstScreen(SiteCase):
         self.in_order(header("index.html", "es"), "No definitivo: 5 de 10 escaños sin proclamar",
                       "Escrutado el 83,33 % de las mesas",
                       "Proclamados, 5 de 10 escaños: B 3 A 2",
-                      "Provisionales, 5 de 10 escaños: D 3 B 2", "Sin proclamar, 5 de 10 escaños:",
+                      "Otros escaños, provisionales, 5 de 10: D 3 B 2",
+                      "Sin proclamar, 5 de 10 escaños:",
                       "2 escaños: Sur tenía el resultado proclamado y se ha reabierto; aún pueden "
                       "cambiar, y después la Junta volverá a proclamarlos. Motivo: a recount.",
                       "3 escaños: sigue el escrutinio en Óeste &lt;3&gt; (50,00 % escrutado).")
@@ -137,7 +139,7 @@ class FirstScreen(SiteCase):
         self.in_order(header("index.html"), "Not final: none of the 2 seats is certified yet",
                       "Provisional, 1 of 2 seats: A 1",
                       "With nobody yet, 1 of 2 seats: 1 waiting for a lot",
-                      "2 of 2 seats are a majority: nobody has it yet.",
+                      "2 of 2 seats are a majority: nobody has it yet in certified seats.",
                       "Not certified, 2 of 2 seats: 2 seats: all votes are counted in Soria; a lot "
                       "between B and C must decide 1 of them, and then the board can certify.")
         self.assertEqual(
@@ -165,7 +167,7 @@ class FirstScreen(SiteCase):
             press(port, "--setup", "setup.toml", *site_folder(site=SPANISH), folder="es")
         for folder, said in (
                 ("certified", "B and C tied for the last seat; the lot gave it to C. A lot was "
-                              "drawn: first C, then B."),
+                              "drawn, in this order: C, then B."),
                 ("es", "B y C empataban por el último escaño; el sorteo se lo dio a C.")):
             self.assertIn(said, shown_text(read("con-c1.html", folder)))
             self.assertIn(said.split(". ")[0], shown_text(read("embed-c1.html", folder)))

@@ -121,6 +121,13 @@ class Functions(Case):
                 with self.subTest(outcome=status):
                     found = it.run("return outcome(arguments[0], {})", status)
                     self.assertEqual(found, said)
+            # A vacancy that waits for a second name is said with who is gone.
+            waiting = {"until": "2026-11-29T22:00:00+01:00", "others": [
+                {"name": "simon", "act": "vacate",
+                 "body": '{"list":"A","place":2,"note":"resigned"}'}]}
+            found = it.run(f"{KNOWN} return waitsFor(arguments[0])", waiting)
+            self.assertIn("Waiting too, by simon: A holder leaves: A 2, ", found)
+            self.assertIn("resigned", found)
             # The former result counts as long as less than three stations are closed.
             for closed, is_former in ((0, True), (2, True), (3, False), (4, False)):
                 with self.subTest(closed=closed):

@@ -68,7 +68,7 @@ class HalfCircles(Case):
     def test_provisional_seats_are_beside_the_others(self):
         found = figures.half_circle(site.Site(), {"A": 2, "B": 1}, 5, provisional={"B": 1, "C": 1})
         self.assertEqual(sorted(text for _, words in found["sides"] for *_, text in words),
-                         ["A 2", "B 1+1", "C +1"])
+                         ["A 2", "B 1+1", "C 0+1"])
         self.assertEqual([(one["code"], one["path"].count("M")) for one in found["groups"]],
                          [("A", 2), ("B", 1), ("B", 1), ("C", 1)])
 
@@ -216,6 +216,32 @@ class Files(Case):
             self.assertTrue(one.exists())
         press.put(folder, "a.json", "[]\n")
         self.assertEqual(gzip.decompress(compressed.read_bytes()), b"[]\n")
+
+    def test_compressed_files_of_another_moment(self):
+        """After a kill between the two files, or a power cut, each browser gets what is there; what
+        a board compressed itself stays."""
+        folder, was, now = Path(), b"edition 2\n", b"edition 1\n"
+        ours = gzip.compress(was, 6, mtime=0)
+        found = {"old.csv": ours, "cut.csv": ours[:-9], "empty.csv": b"", "zeros.csv": b"\0" * 40,
+                 "right.csv": gzip.compress(now, 6, mtime=0)}
+        for name, data in found.items():
+            Path(name).write_bytes(now)
+            Path(f"{name}.gz").write_bytes(data)
+        board = gzip.compress(was, 6, mtime=1)
+        for name, data in {"gone.csv.gz": ours, "none.csv.gz": b"", "board.csv.gz": board}.items():
+            Path(name).write_bytes(data)
+        os.utime("right.csv.gz", (1, 1))
+        # What is no file, or cannot be read, is passed over.
+        Path("folder.gz").mkdir()
+        os.mkfifo("pipe.gz")
+        Path("nowhere.gz").symlink_to("nonesuch")
+        press.repair(folder)
+        self.assertEqual({name: (Path(name).read_bytes(), gzip.decompress(
+            Path(f"{name}.gz").read_bytes())) for name in found}, dict.fromkeys(found, (now, now)))
+        self.assertEqual(os.stat("right.csv.gz").st_mtime, 1)
+        self.assertEqual(sorted(file.name for file in folder.glob("*.csv.gz")),
+                         sorted(["board.csv.gz", *(f"{name}.gz" for name in found)]))
+        self.assertEqual(Path("board.csv.gz").read_bytes(), board)
 
     def test_kinds_of_tables(self):
         for name, key in (("index.csv", ["con"]), ("results.csv", ["con", "list"]),

@@ -159,16 +159,22 @@ class Replay(SiteCase):
         setup_json(with_stations(2), "one")
         setup_json(OTHER_ORDER, "other")
         record = self.record("one")
-        mine = {"/con/c1/returns": "station,slip,blank,spoiled,A,B\n", "/station/s1/lodge": "{}"}
-        others = mine | {"/con/c1/returns": "station,slip,blank,spoiled,B,A\n"}
+        lists = [{"code": "A", "name": "Alpha"}, {"code": "B", "name": "Beta"}]
+        result = {"name": "Twin Town", "seats": 3, "method": "dhondt", "threshold": 0,
+                  "base": "valid", "lot_rule": "fixed", "lists": lists}
+        mine = {"/con/c1/result": result, "/station/s1/lodge": "{}", "/progress": "c1 2 2\n",
+                "/con/c1/stations": "STATIONS c1\nstations 2\ns1 300 -\ns2 300 -\n"}
+        others = mine | {"/con/c1/result": result | {"lists": lists[::-1]}}
+        more = mine | {"/progress": "c1 2 2\nc2 1 1\n"}
         rows = (
             (mine, ("--setup", "one/setup.json"), 0, ""),
             (
                 others,
                 ("--setup", "one/setup.json"),
                 2,
-                "no office has the constituency c1 with these lists",
+                "the office has the constituency c1 otherwise than the setup: lists or their",
             ),
+            (more, ("--setup", "one/setup.json"), 2, "an office has the constituency c2"),
             (others, ("--setup", "other/setup.json"), 2, "the record is of another setup"),
             (mine, (), 2, "name its setup.json"),
             (mine, ("--setup", "nonesuch.json"), 2, "nonesuch.json"),
@@ -178,6 +184,41 @@ class Replay(SiteCase):
                 status, _, said = replay(record, f"http://127.0.0.1:{port}", *words)
                 self.assertEqual((status, "/station/s1/lodge" in asked), (wanted, wanted == 0))
                 self.assertIn(why, said)
+
+    def test_an_office_that_has_another_return(self):
+        """It has gone on by itself: what the record did over its own return is not done over that
+        one, at the station and in the constituency, and each is named."""
+        setup_json(with_stations(2) + constituency("c2", "Port", 3, "d0")
+                   + party_list("A", "Alpha", "Ana", "Abel") + party_list("B", "Beta", "Bea")
+                   + station("t1"), "one")
+        lists = [{"code": "A", "name": "Alpha"}, {"code": "B", "name": "Beta"}]
+        result = {"name": "Twin Town", "seats": 3, "method": "dhondt", "threshold": 0,
+                  "base": "valid", "lot_rule": "fixed", "lists": lists}
+        differs = 409, '{"refused":7,"rev":1,"word":"differs"}'
+        targets = ("/station/s1/lodge", "/station/s2/lodge", "/station/t1/lodge",
+                   "/station/s1/close", "/station/s2/close", "/station/t1/close",
+                   "/con/c1/certify", "/con/c2/certify", "/con/c1/vacate")
+        answers = dict.fromkeys(targets, "{}") | {
+            "/station/s1/lodge": differs, "/progress": "c1 2 2\nc2 1 1\n",
+            "/con/c1/result": result, "/con/c2/result": result | {"name": "Port"},
+            "/con/c1/stations": "STATIONS\nstations 2\ns1 300 -\ns2 300 -\n",
+            "/con/c2/stations": "STATIONS\nstations 1\nt1 300 -\n"}
+        commands = [entry for place, target in enumerate(targets) for entry in (
+            a_command("{}", target), {"to": 2 * place + 2, "status": 200, "answer": "{}"})]
+        known = {"setup": hash_of_file("one/setup.json")}, *commands
+        unknown = {"n": 1, "to": 0, "status": 409, "answer": ""}, *commands
+        for record, words, left in ((known, ("--setup", "one/setup.json"), [3, 6]),
+                                    (unknown, (), [3, 6, 7])):
+            with self.subTest(words=words), answering_desk(answers) as (port, asked):
+                status, printed, _ = replay(chained(*record), f"http://127.0.0.1:{port}", *words)
+                sent = [target for target in asked if target in targets]
+                self.assertEqual((status, sent), (1, [
+                    target for place, target in enumerate(targets) if place not in left]))
+                self.assertEqual([int(line.split(":")[0].removeprefix("line "))
+                                  for line in printed.splitlines()[:-1]],
+                                 [2, *(2 * place + 2 for place in left)])
+                self.assertEqual(printed.count(
+                    "it was not sent: the office has something else than line 2"), len(left))
 
     def test_a_check_compares_the_setup_where_it_is_named(self):
         setup_json(with_stations(2), "one")

@@ -45,6 +45,15 @@ def numbered_setup(places=13):
     return text, "\n".join(names) + "\n"
 
 
+# What is said of a majority that nobody has in certified seats, and who would have it.
+NOBODY_YET = ("nobody has it yet in certified seats.",
+              "aún no la tiene nadie en escaños proclamados.")
+NOBODY_EVEN = ("nobody has it, with the provisional seats either.",
+               "no la tiene nadie, tampoco con los escaños provisionales.")
+WOULD = (("with its provisional seats", " would have it."),
+         ("con sus escaños provisionales la tendría", "."))
+
+
 class PagesOfAnEvening(SiteCase):
     def test_the_rows_of_seats_add_up_to_all(self):
         """In each state seats that nobody has are rows of their own, on the page of the country and
@@ -105,18 +114,21 @@ class PagesOfAnEvening(SiteCase):
         sites = {language: press_site.Site(Path(site_folder(
             site=f'language = "{language}"\n')[1])) for language in ("en", "es")}
         for seats, more, whole, english, spanish in (
-                ((0, 0), (0, 0), False, "nobody has it yet.", "aún no la tiene nadie."),
-                ((3, 2), (2, 3), False, "nobody has it yet.", "aún no la tiene nadie."),
-                ((3, 1), (3, 3), False, "nobody has it yet; with its provisional seats A would "
-                 "have it.", "aún no la tiene nadie; con sus escaños provisionales la tendría A."),
-                ((1, 3), (1, 5), False, "nobody has it yet; with its provisional seats B would "
-                 "have it.", "aún no la tiene nadie; con sus escaños provisionales la tendría B."),
+                ((0, 0), (0, 0), False, *NOBODY_YET),
+                ((3, 2), (2, 2), False, *NOBODY_YET),
+                ((3, 2), (2, 3), False, *NOBODY_EVEN),
+                ((3, 1), (3, 3), False, *(f"{said[:-1]}; {more} A{end}" for said, (more, end)
+                                          in zip(NOBODY_YET, WOULD))),
+                ((1, 3), (1, 5), False, *(f"{said[:-1]}; {more} B{end}" for said, (more, end)
+                                          in zip(NOBODY_YET, WOULD))),
                 ((6, 1), (0, 3), False, "A has it.", "la tiene A."),
                 ((5, 5), (0, 0), True, "nobody has it.", "no la tiene nadie."),
                 ((6, 4), (0, 0), True, "A has it.", "la tiene A.")):
             parties = [press_country.Party(code, code, seats=of, provisional=so_far)
                        for code, of, so_far in zip("AB", seats, more)]
-            country = press_country.Country(parties, chamber=10, cons=2,
+            # (all is counted: a seat that nobody has waits for a lot)
+            country = press_country.Country(parties, chamber=10, cons=2, certified=sum(seats),
+                                            provisional=sum(more),
                                             certified_cons=2 if whole else 1)
             for language, said in (
                     ("en", f"6 of 10 seats are a majority: {english}"),
@@ -132,8 +144,8 @@ class PagesOfAnEvening(SiteCase):
             press(port, "--setup", "setup.toml")
         for page in ("index.html", "count.html", "embed.html"):
             with self.subTest(page=page):
-                self.assertIn('<p class="of-majority">6 of 10 seats are a majority: nobody has it '
-                              'yet.</p>', read(page))
+                self.assertIn(f'<p class="of-majority">6 of 10 seats are a majority: '
+                              f'{NOBODY_YET[0]}</p>', read(page))
         self.assertNotIn('class="of-majority"', read("con-norte.html"))
 
     def test_of_which_constituencies_the_closest_seats_are(self):

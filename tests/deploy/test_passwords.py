@@ -35,6 +35,21 @@ class Passwords(SiteCase):
                               for name in ("clara", "bruno")], [200, 200])
 
     @needs("nginx", "openssl")
+    def test_a_name_that_is_written_otherwise(self):
+        """The proxy gives it its role whatever the case of its letters: the password of the former
+        one is good no more, so nobody is two names of the board."""
+        with recording_desk() as (port, _), proxy(port) as front:
+            conf = front.folder / "office/staff.conf"
+            conf.write_text(conf.read_text().replace("berta board", "Berta board"))
+            front.end()
+            front.start()
+            self.assertEqual([front.ask("POST", "/con/c1/certify", {}, name).status
+                              for name in ("berta", "Berta")], [200, 401])
+            front.name("staff", "Berta")
+            self.assertEqual([front.ask("POST", "/con/c1/certify", {}, name).status
+                              for name in ("berta", "Berta")], [401, 200])
+
+    @needs("nginx", "openssl")
     def test_passwords_of_names_like_numbers(self):
         """Names that are one number are two names; and a hash is a fast one, since the proxy
         computes it for each request."""

@@ -250,12 +250,12 @@ class Lists(SiteCase):
             ["name", "place", "Constituency"], ["B1", "1", "Este"], ["B2", "2", "Este"],
             ["B1", "1", "Norte"]])
         for sentence in ("193 votes, 42.89% of the valid votes, including blank votes.",
-                         "Certified: 3 seats of 5 that are certified, of 10 in all.",
+                         "Certified: 3 of the 5 seats that are certified so far, of 10 in all.",
                          # One of two stations of Óeste, and that of Sur.
                          "Provisional: 2 seats, in constituencies with 2 of 3 polling stations "
-                         "counted (66.67%). They are not the result, and may still change.",
+                         "counted (66.67%). These seats are not the result, and may still change.",
                          "Not final: of the 10 seats of all lists, 5 not certified yet",
-                         "Certified seats: B 3 Provisional seats: B 2"):
+                         "Certified seats: B 3 Further seats, provisional: B 2"):
             with self.subTest(sentence=sentence):
                 self.assertIn(sentence, text)
         self.assertNotIn("Holders of seats", page_of("list-D.html").tables)

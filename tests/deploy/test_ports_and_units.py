@@ -202,6 +202,20 @@ class Ports(Safeguards):
             self.assertNotIn("server 127.0.0.1", (DEPLOY / name).read_text(encoding="utf-8"))
 
 
+class NamesOfSites(Safeguards):
+    def test_a_site_that_is_called_as_something_of_the_proxy(self):
+        """Each site has the files of its own folder, whatever its name has in it."""
+        proxy, text = module("site_proxy"), (DEPLOY / "nginx.conf").read_text(encoding="utf-8")
+        parts = {file.name: file.read_text(encoding="utf-8")
+                 for file in (DEPLOY / "nginx").glob("*.conf")}
+        plain = proxy.of_site(text, parts, "zz.test", 8080, True)
+        self.assertIn("office/zz.test/certificate.pem", plain["site.conf"])
+        for site in ("office.example.org", "my.office.example", "refused.log", "office", "8080"):
+            with self.subTest(site=site):
+                self.assertEqual(proxy.of_site(text, parts, site, 8080, True),
+                                 {name: of.replace("zz.test", site) for name, of in plain.items()})
+
+
 class Service(Safeguards):
     @needs("systemd-analyze")
     def test_the_proxy_is_kept_up_and_confined(self):

@@ -54,7 +54,7 @@ class PressPages(SiteCase):
         self.assertEqual(page.tables["Returns of the stations"][1:],
                          [["1", "0", "0", "0", "0", "1"]])
         text = read("con-c1.html")
-        self.assertIn("A lot was drawn: first B, then A.", text)
+        self.assertIn("A lot was drawn, in this order: B, then A.", text)
         self.assertIn("No certificate was withdrawn.", text)
         self.assertEqual(text.count("h0"), 3)
         self.assertEqual(read("con-c1.csv"),
@@ -103,9 +103,9 @@ class PressPages(SiteCase):
                     page_of("con-c1.html").tables["Seats of each list"][1:],
                     [["A Alpha", str(seats[0])], ["B Beta", str(seats[1])], ["Total", "3"]])
                 for folder, said, more in (
-                    ("pages", "A lot was drawn: first B, then A.",
+                    ("pages", "A lot was drawn, in this order: B, then A.",
                      " For a list’s second seat, its fourth and so on this order is turned round."),
-                    ("es", "Hubo sorteo: primero B, después A.",
+                    ("es", "Hubo sorteo, con este orden: B, después A.",
                      " Para el segundo escaño de una candidatura, el cuarto y así sucesivamente, "
                      "este orden se invierte.")):
                     with self.subTest(folder=folder, said=said, more=more):

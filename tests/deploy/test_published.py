@@ -1,5 +1,6 @@
 """Files that are published: hashes, files that stay, and what the proxy gives."""
 
+import gzip
 import hashlib
 import json
 import os
@@ -13,7 +14,7 @@ from pathlib import Path
 from tests.support.case import needs
 from tests.support.desks import answering_desk
 from tests.support.office import with_stations
-from tests.support.pages import TWIN, press, read
+from tests.support.pages import TWIN, press, read, site_folder
 from tests.support.proxy import proxy
 from tests.support.published import (
     VACATED, a_head, before_the_hour, beside, of_readers, publish, published_site, rows_of,
@@ -79,6 +80,20 @@ class Published(SiteCase):
         self.assertNotIn("record", json.loads(last))
         publish({}, status=1)
         self.assertEqual(read("manifest.json"), last)
+
+    def test_a_page_that_was_written_in_part(self):
+        """A press.py that was killed after the compressed file and before the other one, in the
+        language of the site and in another: the next one leaves no browser with what is not so."""
+        words = site_folder(site='language = "en"\nlanguages = ["es"]\n')
+        publish(TWIN, *words)
+        files = [Path("pages", name) for name in ("con-c1.csv", "con-c1.html", "es/con-c1.html")]
+        for file in files:
+            Path(f"{file}.gz").write_bytes(gzip.compress(b"half a round", 6, mtime=0))
+        publish(TWIN, *words)
+        for file in files:
+            with self.subTest(file=file):
+                self.assertEqual(gzip.decompress(Path(f"{file}.gz").read_bytes()),
+                                 file.read_bytes())
 
     def rewritten(self, *rounds):
         """The files that each round writes again; a round is of answers, and of a head of the

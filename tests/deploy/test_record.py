@@ -227,7 +227,8 @@ class Record(SiteCase):
                                       encoding="utf-8")
         self.assertEqual(checked(lines, "--shown", "record.csv")[:2], (1, {4}))
         Path("other.csv").write_text("time,lines\n2026,x\n", encoding="utf-8")
-        for file in ("other.csv", "nonesuch.csv"):
+        Path("long.csv").write_text(f"time,lines,sha256\n{'x' * 200_000}\n", encoding="utf-8")
+        for file in ("other.csv", "nonesuch.csv", "long.csv"):
             with self.subTest(file=file):
                 self.assertEqual(subprocess.run([DEPLOY / "replay", "--check", "--shown", file],
                                                 input=b"", capture_output=True,

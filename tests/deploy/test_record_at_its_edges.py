@@ -124,14 +124,18 @@ class Revisions(Case):
             it.executescript("""
                 CREATE TABLE counts (station, item, n); CREATE TABLE cons (con, edition, certified);
                 CREATE TABLE returns (station, rev, status, slip);
-                CREATE TABLE gone (con, list, place);
+                CREATE TABLE gone (con, list, place); CREATE TABLE lots (con, list, place);
+                CREATE TABLE setup (text);
                 INSERT INTO counts VALUES ('s1', 1, 1), ('s1', 2, 2), ('s1', 0, 0), ('s1', 61, 0);
+                INSERT INTO cons VALUES ('c1', 1, 0);
             """)
             it.execute("INSERT INTO returns VALUES ('s1', ?, ?, 'p1')", (len(acts), status))
+            it.execute("INSERT INTO setup VALUES (?)", (SETUP,))
             it.commit()
             with mock.patch.object(entries.sqlite3, "connect", lambda *_, **__: it):
                 office = entries.Office("copy.db")
-        reading, said = entries.Reading(tomllib.loads(SETUP)), io.StringIO()
+        reading = entries.Reading({"constituency": entries.cons_of(SETUP)})
+        said = io.StringIO()
         given = SimpleNamespace(buffer=io.BytesIO(chained(*lines)))
         with mock.patch.object(sys, "stdin", given), contextlib.redirect_stdout(said):
             self.assertEqual(entries.read(reading, {}), [])
@@ -147,21 +151,37 @@ class Revisions(Case):
 
 
 class Offices(Case):
+    LISTS = [{"code": "A", "name": "Alpha"}, {"code": "B", "name": "Beta"}]
+    STATIONS = [{"code": "s1", "electors": 300}, {"code": "s2", "electors": 20}]
+    CON = {"code": "c1", "name": "Twin Town", "seats": 3, "method": "dhondt", "threshold": 300,
+           "base": "valid", "lot": "fixed", "lists": LISTS, "stations": STATIONS}
+
+    def office(self, stations="s1 300 -\ns2 20 closed 1 p1 5 0 0\n", **other):
+        """The answers of an office of this setup, or of one that has something otherwise."""
+        result = {key: value for key, value in self.CON.items() if key not in ("lot", "stations")}
+        result |= {"lot_rule": "fixed", "stations": 2} | other
+        return [(200, json.dumps(result)), (200, f"STATIONS c1\nstations 2\n{stations}")]
+
     def test_the_office_that_has_a_constituency(self):
-        """Of several offices one has it, with its lists in the order of the setup."""
-        con = {"code": "c1", "lists": [{"code": "A"}, {"code": "B"}]}
-        none = 404, '{"word":"no_constituency"}'
-        right, other, short = ((200, f"station,slip,blank,spoiled,{lists}\ns1,p1,0,0,1,2\n")
-                               for lists in ("A,B", "B,A", "A"))
+        """Of several offices one has it, with all of which an office says that it is of this
+        setup."""
+        none = [(404, '{"word":"no_constituency"}')] * 2
+        right, lists = self.office(), self.LISTS
+        others = [self.office(**other) for other in (
+            {"lists": lists[::-1]}, {"lists": lists[:1]}, {"seats": 4}, {"name": "Twin City"},
+            {"lists": [lists[0], {"code": "B", "name": "Gamma"}]}, {"method": "sainte-lague"},
+            {"threshold": 299}, {"base": "lists"}, {"lot_rule": "alternating"},
+            {"stations": "s1 300 -\n"}, {"stations": "s2 20 -\ns1 300 -\n"},
+            {"stations": "s1 301 -\ns2 20 -\n"})]
         for answers, is_taken in (
-                ([right], True), ([none, right], True), ([right, none], True), ([other], False),
-                ([short], False), ([none], False), ([right, right], False), ([(200, "")], False),
-                ([(None, "")], False)):
+                (right, True), (none + right, True), (right + none, True), (none, False),
+                (right + right, False), ([(200, ""), right[1]], False), ([(200, "[]")] * 2, False),
+                ([(None, "")] * 2, False), *((other, False) for other in others)):
             with self.subTest(answers=answers):
                 left = list(answers)
-                desks = {number: "desk" for number, _ in enumerate(answers)}
+                desks = {number: "desk" for number in range(len(answers) // 2)}
                 with mock.patch.object(replay, "send", lambda *_: left.pop(0)):
                     if is_taken:
-                        replay.Setup.compare(con, desks)
+                        replay.Setup.compare(self.CON, desks)
                     else:
-                        self.assertRaises(replay.OtherSetup, replay.Setup.compare, con, desks)
+                        self.assertRaises(replay.OtherSetup, replay.Setup.compare, self.CON, desks)

@@ -164,6 +164,13 @@ class Faults(Case):
             found[-2:], [".. and 50 more", "refused, and no setup was written; faults: 150"]
         )
 
+    def test_a_columns_toml_that_goes_too_deep(self):
+        """It is a fault of this file, in a line."""
+        self.write(columns="a = " + "[" * 100_000)
+        found = self.run_tool("--rule", "loreg", self.folder, status=1)[1]
+        self.assertIn("columns.toml: ", found)
+        self.assertNotIn("Traceback", found)
+
     def test_a_fault_of_columns_toml_in_its_language(self):
         """Spanish by columns.toml itself, on a computer that speaks English."""
         for old, new, said in (

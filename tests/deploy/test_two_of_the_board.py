@@ -26,7 +26,8 @@ from tests.support.site import DEPLOY
 second_name = module("second_name")
 
 ACTS = {"draw": '{"edition":1,"order":["A","B"]}', "certify": '{"edition":1}',
-        "reopen": '{"edition":2,"note":"the count was wrong"}'}
+        "reopen": '{"edition":2,"note":"the count was wrong"}',
+        "vacate": '{"list":"A","place":1,"note":"resigned"}'}
 HOUR = timedelta(hours=1)
 BEGIN = datetime(2026, 11, 29, 21, tzinfo=UTC)
 
@@ -146,8 +147,8 @@ class Requests(Safeguards):
     def test_other_commands_need_one_name(self):
         with two_names() as messages:
             for path, role in (
-                ("/con/c1/vacate", "board"), ("/station/s1/lodge", "clerk"),
-                ("/station/s1/close", "clerk"), ("/station/certify/query", "clerk"),
+                ("/station/s1/lodge", "clerk"), ("/station/s1/close", "clerk"),
+                ("/station/certify/query", "clerk"), ("/station/vacate/query", "second"),
                 ("/con/draw/import", "clerk"), ("/con/c1/import/semicolon", "clerk"),
                 ("/con/reopen/trial", "clerk"),
             ):
@@ -169,9 +170,9 @@ class Requests(Safeguards):
     def test_without_the_setting(self):
         with recording_desk() as (port, messages), recorder_alone(port):
             self.assertEqual([board(f"/con/c1/{act}", body)[0] for act, body in ACTS.items()],
-                             [200] * 3)
+                             [200] * 4)
             self.assertEqual((len(messages), [line for line in record() if "first" in line]),
-                             (3, []))
+                             (4, []))
 
     def test_what_else_waits(self):
         """The answer says what others asked of the same constituency, the newest last."""
@@ -336,10 +337,11 @@ class Tools(Safeguards):
         self.assertEqual(self.entries(of_one), (0, []))
         self.assertEqual(self.entries(of_one, "--two-of-board"),
                          (1, [f"c1: certify by berta alone ({at(10)})"]))
-        # An act that was refused was done by nobody, and a vacancy needs one name.
+        # An act that was refused was done by nobody.
         self.assertEqual(self.entries([*alone, answer(1, 409)], "--two-of-board"), (0, []))
         gone = alone[0] | {"path": "/con/c1/vacate", "body": '{"list":"A","place":1,"note":"x"}'}
-        self.assertEqual(self.entries([gone, answer(1)], "--two-of-board"), (0, []))
+        self.assertEqual(self.entries([gone, answer(1)], "--two-of-board"),
+                         (1, [f"c1: vacate by berta alone ({at(10)})"]))
 
     def test_names_that_the_record_does_not_bear_out(self):
         late = waits("berta", minute=0) | {"time": "2026-11-29T20:10:00.000+00:00"}

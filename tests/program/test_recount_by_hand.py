@@ -255,6 +255,7 @@ class OfReturns(Case):
             setup.replace("electors", "voters"),
             setup.replace("seats = 3", "seats = 501"),
             setup.replace("seats = 3", "seats = 0"),
+            setup.replace("seats = 3", "seats = true"),
         ):
             with self.subTest(setup=wrong):
                 self.cannot_be_counted(self.given(wrong, c1=good))
@@ -293,8 +294,8 @@ class OfReturns(Case):
                 setup = with_stations(stations).replace('profile = "d0"\n', key)
                 ran = self.given(setup, c1=rows)
                 if counts:
-                    said = f"c1 A 2 B 1 (1 of {stations} stations)\n"
-                    self.assertEqual(ran, Ran(0, said, ""))
+                    said = f"c1 A 2 B 1 (1 of {stations} stations; stations are missing)\n"
+                    self.assertEqual(ran, Ran(1, said, ""))
                 else:
                     self.cannot_be_counted(ran)
 
