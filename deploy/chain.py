@@ -11,6 +11,8 @@ import os
 import stat
 
 FIRST = "0" * 64
+# The most bytes of what the pages have shown: a row has some hundred, and ten seconds have one.
+MOST_SHOWN = 64 << 20
 
 
 def printable(said):
@@ -21,11 +23,16 @@ def printable(said):
 def read_shown(file):
     """The hashes that were shown, by the numbers of their lines. Before the first there is none.
 
-    The user of the pages may put a pipe in the place of the file, which root would wait for."""
+    The user of the pages may put something else in the place of the file: a pipe, which root would
+    wait for, a link, which root would follow, or a file without an end."""
     shown = {}
-    with open(os.open(file, os.O_RDONLY | os.O_NONBLOCK), encoding="utf-8", newline="") as rows:
-        if not stat.S_ISREG(os.fstat(rows.fileno()).st_mode):
+    with open(os.open(file, os.O_RDONLY | os.O_NONBLOCK | os.O_NOFOLLOW), encoding="utf-8",
+              newline="") as rows:
+        found = os.fstat(rows.fileno())
+        if not stat.S_ISREG(found.st_mode):
             raise ValueError("it is no file")
+        if found.st_size > MOST_SHOWN:
+            raise ValueError(f"it has more than {MOST_SHOWN} bytes")
         try:
             for row in csv.DictReader(rows):
                 shown.setdefault(int(row["lines"]), set()).add(row["sha256"])

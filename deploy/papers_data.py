@@ -3,8 +3,6 @@ the record of commands says of who entered each return and when."""
 
 import contextlib
 import hashlib
-import importlib.machinery
-import importlib.util
 import json
 import re
 import sqlite3
@@ -14,11 +12,10 @@ from pathlib import Path
 from tempfile import TemporaryDirectory
 
 from chain import Chain
-from press import read_setup
-from press_data import json_text, returns_csv
+from press_data import json_text, read_setup, returns_csv
 from press_parts import hundredths
+from scripts import script
 
-HERE = Path(__file__).resolve().parent
 # As tables have them: the status of a closed return, and the spoiled votes among its numbers.
 CLOSED, SPOILED = 4, 61
 MOST_VOTES, LAST = 1_000_000, 9_999
@@ -35,15 +32,6 @@ class Refused(Exception):
 
 class Unusable(Exception):
     """A file is not what it has to be."""
-
-
-def script(name):
-    """A script beside this one, or in examples/, as a module."""
-    file = next(file for file in (HERE / name, HERE.parent / "examples" / name) if file.exists())
-    loader = importlib.machinery.SourceFileLoader(file.stem, str(file))
-    found = importlib.util.module_from_spec(importlib.util.spec_from_loader(file.stem, loader))
-    loader.exec_module(found)
-    return found
 
 
 recounts, entries = script("recount.py"), script("entries")
@@ -329,7 +317,9 @@ class Record(entries.Reading):
         known = self.editions[con.code]
         if len(known) - 1 > con.edition or self.places_of(con, self.gone) - con.gone.keys():
             raise Refused("copy_is_older", con=con.code, what=con.code)
-        if len(known) - 1 == con.edition and known[-1] != con.certified:
+        if len(known) - 1 == con.edition and (
+                known[-1] != con.certified or any(self.others_past(con.code, con.edition, con.past))
+                or self.other_notes(con)):
             raise Refused("other_record", con=con.code, what=con.code)
         drawn = self.lots[con.code][-1][1]
         lot = tuple(con.lists[place - 1]["code"] for place in con.lot)
@@ -337,6 +327,13 @@ class Record(entries.Reading):
         is_later = bool(self.lost_of(con)) and not lot
         if len(known) - 1 == con.edition and lot != drawn and not is_later:
             raise Refused("other_record", con=con.code, what=con.code)
+
+    def other_notes(self, con):
+        """Those who are gone for another reason than this record has."""
+        known = {(con.lists[place - 1]["code"], order): note
+                 for (place, order), note in con.gone.items()}
+        return [who for code, *who in self.gone_notes if code == con.code
+                and self.gone_notes[code, *who] not in (None, known.get(tuple(who)))]
 
     def lost_of(self, con):
         """The stations of which it lacks an act."""

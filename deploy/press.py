@@ -18,7 +18,7 @@ those of the country and of the count in each round. The stations of a constitue
 one where something of it has changed, and once a minute. With --every a round waits for them for half a second and one answer,
 and the others are asked for in later rounds, those first that waited longest. If that answer takes longer, as that of a large
 constituency, the rounds after it wait less. A file is written beside and renamed, so nobody reads half of one, and once more
-compressed. Where the office does not answer, or not what can be used, the page that was there stays, with a line that says how
+compressed. One that somebody else changed or removed is named on standard error and made again in the next round. Where the office does not answer, or not what can be used, the page that was there stays, with a line that says how
 old it is. With --every it goes on until it is ended. Each round prints a line, with how many GETs it took; the status is 1 where
 the last one failed in part. Python 3.11 or later.
 """
@@ -33,7 +33,6 @@ import shutil
 import signal
 import sys
 import time
-import tomllib
 import urllib.error
 import urllib.request
 from dataclasses import dataclass, field
@@ -42,11 +41,11 @@ from functools import partial
 from pathlib import Path
 
 from press_data import (ACTS, OF_HASH, OPEN, STATION, adds_up, con_csv, con_json, datapackage, feed, goes_on,
-                        index_csv, index_json, json_text, manifest, record_csv, results_csv,
-                        returns_csv, returns_in, schemas)
+                        index_csv, index_json, json_text, manifest, read_setup, record_csv, results_csv,
+                        returns_csv, returns_in, schemas, shown_heads)
 from press_country import together
 from press_embed import con_embedded, country_embedded, withdrawn_embedded
-from press_files import put, put_bytes, repair
+from press_files import changed, is_known, put, put_bytes, remove, repair, text_of_another
 from press_image import shared_image
 from press_lists import elected_csv, elected_pages, list_pages
 from press_pages import aged, con_bodies, con_page, count_pages, details_page, index_pages, unaged, withdrawn_page
@@ -63,6 +62,8 @@ PATIENCE = 60
 ROUTES = Path(__file__).resolve().with_name("openapi.json")
 # Stations that change while they are asked for are asked for again, so often.
 TRIES = 3
+# How many files that somebody else changed a round names.
+MOST_NAMED = 20
 # Where there is no certificate the stations are asked for again after this many seconds, though no
 # number is another one: two changes may leave each as it was. A round of --every asks for stations
 # as long as it waited less than so long for them: the office answers nobody else meanwhile. A round
@@ -119,22 +120,6 @@ class Office:
             raise NoAnswer(f"{target}: not JSON") from error
 
 
-def read_setup(file):
-    """The parts of a setup that the pages and the clerks need: per constituency its names, its rule and its stations."""
-    setup = tomllib.loads(file.read_bytes().decode("utf-8-sig"))
-    profiles = {profile["code"]: profile for profile in setup["profile"]}
-    found = []
-    for con in setup["constituency"]:
-        profile = {"lot": "fixed"} | profiles[con["profile"]]
-        rule = {key: profile[key] for key in ("method", "threshold", "base", "lot")}
-        lists = [{key: row[key] for key in ("code", "name", "candidates")} for row in con["list"]]
-        stations = [{"code": row["code"], "electors": row["electors"]} | ({"agents": row["agents"]} if row.get("agents") else {})
-                    for row in con["station"]]
-        found.append({"code": con["code"], "name": con["name"], "seats": con["seats"], **rule, "lists": lists,
-                      "stations": stations})
-    return found
-
-
 # ---- files
 
 
@@ -159,11 +144,6 @@ def text_of(file):
     return file.read_text(encoding="utf-8") if file.exists() else ""
 
 
-def remove(folder, name):
-    for file in (folder / name, folder / f"{name}.gz"):
-        file.unlink(missing_ok=True)
-
-
 def published(folder, *left):
     """The files of a folder that are for readers, but for those left."""
     return [file for file in sorted(folder.iterdir())
@@ -174,14 +154,17 @@ def put_head(folder, file):
     """Adds the head of the record of commands to those that were shown; the head, or None where there is none."""
     shown = folder / "record.csv"
     try:
-        head = json.loads(file.read_text(encoding="utf-8"))
-        text = record_csv(text_of(shown), head)
+        head = json.loads(text_of_another(file))
+        before, wrong = shown_heads(shown.read_bytes() if shown.exists() else b"")
+        text = record_csv(before, head)
+        if wrong:
+            print(f"failed: {shown}: {wrong} of its lines are no heads of a record, and are left out", file=sys.stderr, flush=True)
         # A recorder that found another record than was shown says so in its head.
-        head["whole"] = goes_on(text_of(shown), head) and not head.get("fault")
+        head["whole"] = goes_on(before, head) and not head.get("fault")
         if not head["whole"]:
             print(f"failed: {file}: line {head['n']} is the last of the record, and {shown} has more, or another", file=sys.stderr, flush=True)
-    except (OSError, ValueError, KeyError, TypeError) as error:
-        print(f"failed: {file}: {error!r}", file=sys.stderr, flush=True)
+    except (OSError, ValueError, KeyError, TypeError, AttributeError, RecursionError) as error:
+        print(f"failed: {getattr(error, 'filename', None) or file}: {error!r}", file=sys.stderr, flush=True)
         return None
     put(folder, "record.csv", text)
     return head
@@ -284,11 +267,12 @@ def stations_of(office, code, before, entry):
     raise NoAnswer(f"/con/{code}/stations: they change while they are asked for")
 
 
-def write_returns(office, folder, code, con, entry, may_ask):
+def write_returns(office, folder, code, con, entry, seen, may_ask):
     """The returns of a certificate's stations, once an edition; the files of certificates that are there, by edition.
 
     A file of an edition that has no certificate is removed, and one whose sums are not those of the certificate is written again:
-    they are of an office that was replaced by a copy from before."""
+    they are of an office that was replaced by a copy from before. One that was there before this program started is compared once
+    with what the office says: two of its stations may have been exchanged."""
     view = con["view"]
     edition = view["edition"] if view["certified"] else None
     names = [re.fullmatch(rf"stations-{re.escape(code)}-(\d+)\.csv", file.name) for file in folder.iterdir()]
@@ -297,13 +281,16 @@ def write_returns(office, folder, code, con, entry, may_ask):
         remove(folder, files.pop(old))
     if edition in files and not adds_up(text_of(folder / files[edition]), view):
         del files[edition]
-    if edition and entry and edition not in files and may_ask:
+    if edition and entry and may_ask and (edition not in files or seen.compared.get(code) != edition):
         name, text = f"stations-{code}-{edition}.csv", certified_returns(office, code, view, entry)
-        if text is None:
-            remove(folder, name)
-        else:
+        if text is not None:
             put(folder, name, text)
-            files[edition] = name
+            files[edition], seen.compared[code] = name, edition
+        elif edition not in files:
+            remove(folder, name)
+    for name in files.values():
+        if not is_known(folder / name):
+            put(folder, name, text_of(folder / name))
     return files
 
 
@@ -391,8 +378,8 @@ class Seen:
     """The state of an election as it was seen: its constituencies, and of each what was written last, and the moment that its page says; of one
     without a certificate its stations, and when they were asked for; of each the electors of the stations that are counted, and the
     places of those with which its pages of stations begin; the constituencies of which the pages of lists were made; in each language, of
-    which beginnings find.json was made; of each what the page of each place shows; the seconds that the last round left for stations,
-    fewer than none where it waited longer."""
+    which beginnings find.json was made; of each what the page of each place shows; the edition of each whose file of returns was
+    compared with the office; the seconds that the last round left for stations, fewer than none where it waited longer."""
     cons: dict = field(default_factory=dict)
     written: dict = field(default_factory=dict)
     moments: dict = field(default_factory=dict)
@@ -402,7 +389,13 @@ class Seen:
     lists: dict = field(default_factory=dict)
     found: dict = field(default_factory=dict)
     places: dict = field(default_factory=dict)
+    compared: dict = field(default_factory=dict)
     left: float = 0.0
+
+    def forget(self):
+        """Each file is made again in the next round."""
+        for known in (self.written, self.stations, self.lists, self.found, self.places, self.compared):
+            known.clear()
 
 
 def electors_counted(folder, con, entry, returns):
@@ -577,7 +570,7 @@ class Round:
         office, entry, may_ask = self.offices[code], self.setup.get(code), self.seconds > 0
         before = office.took
         try:
-            files = write_returns(office, self.folder, code, con, entry, may_ask)
+            files = write_returns(office, self.folder, code, con, entry, self.seen, may_ask)
             files |= write_open(office, self.folder, self.site, code, con, entry, self.seen, may_ask)
             if con["view"]["certified"]:
                 files["acts"] = acts_of(self.folder, code, con["view"]["edition"], files)
@@ -607,8 +600,35 @@ def seconds_of_round(seen):
     return STATIONS + min(0.0, max(seen.left, -MOST_OWED))
 
 
+def look_for_changes(folder, site, setup, seen):
+    """Says which files somebody else changed or removed, and makes them again. A former certificate's file of returns can be made by
+    nobody, and is gone; the feed and the heads that were shown stay, which have moments of before."""
+    found = changed(folder)
+    for file in found[:MOST_NAMED]:
+        print(f"failed: {file}: somebody else changed or removed it", file=sys.stderr, flush=True)
+    if len(found) > MOST_NAMED:
+        print(f"failed: {folder}: somebody else changed or removed {len(found) - MOST_NAMED} more files", file=sys.stderr, flush=True)
+    for file in found:
+        if file.name not in ("feed.atom", "record.csv") and (file.is_symlink() or not file.is_dir()):
+            remove(file.parent, file.name)
+    if found:
+        seen.forget()
+        write_given(folder, site, setup)
+
+
+def write_given(folder, site, setup):
+    """Writes the files of what is given at the start."""
+    if setup:
+        put(folder, "setup.json", json_text(list(setup.values())))
+    if known := site.for_clerks():
+        put(folder, "site.json", json_text(known))
+    else:
+        remove(folder, "site.json")
+
+
 def write_all(offices, folder, site, setup, seen, head=None, seconds=math.inf):
     """One round; how many pages of constituencies and of the country were written, and what failed."""
+    look_for_changes(folder, site, setup, seen)
     it = Round(offices, folder, site, setup, seen, seconds)
     if it.failures:
         it.leave_as_it_is()
@@ -637,18 +657,14 @@ def main():
     except (Wrong, OSError) as error:
         sys.exit(f"failed: {error}")
     site.meet(row["code"] for entry in setup for row in entry["lists"])
-    if setup:
-        put(given.folder, "setup.json", json_text(setup))
-    if known := site.for_clerks():
-        put(given.folder, "site.json", json_text(known))
-    else:
-        remove(given.folder, "site.json")
+    entries = {entry["code"]: entry for entry in setup}
+    write_given(given.folder, site, entries)
     remove_languages(given.folder, site)
     for _, folder in site.editions(given.folder):
         folder.mkdir(exist_ok=True)
         repair(folder)
     signal.signal(signal.SIGTERM, lambda *_: sys.exit(0))
-    offices, entries, seen, asked = [Office(address) for address in given.office], {entry["code"]: entry for entry in setup}, Seen(), 0
+    offices, seen, asked = [Office(address) for address in given.office], Seen(), 0
     while True:
         before, began = asked, time.monotonic()
         try:

@@ -10,10 +10,11 @@ from press_figures import bars, half_circle
 from press_head import Standing, con_outlook, con_state, counted_line, has_won, leads
 from press_lots import lot_drawn, lot_said
 from press_open import reason_said, reopened_counted
-from press_parts import (COUNTED, NOTHING, TABLE_ROOM, Head, Part, by_votes, changed, changing,
-                         details_links, divided, list_link, list_name, numbers, pieces,
-                         progress_bar, room_beside, rounded, row_of, sections, sections_on,
-                         shown_share, size, stacked_row, table, tables, together, votes_said)
+from press_parts import (COUNTED, NOTHING, TABLE_ROOM, Head, Part, blank_row, by_votes, changed,
+                         changing, details_links, divided, hundredths, list_link, list_name,
+                         numbers, pieces, progress_bar, room_beside, rounded, row_of, sections,
+                         sections_on, shown_share, size, stacked_row, table, tables, together,
+                         votes_said)
 from press_results import RULES, counted_share, lot_of, provisional_seats
 from press_templates import Markup
 
@@ -143,9 +144,12 @@ def provisional_sections(site, con, none, why, room):
 
 def certified_said(site, con, entry):
     values = {"edition": con["seats"]["edition"], "many": con["seats"]["total"]}
-    if not entry:
-        return site.said("certified_in", **values)
-    return site.said("certified_by", **values, method=site.words["methods"][entry["method"]])
+    said = (site.said("certified_by", **values, method=site.words["methods"][entry["method"]])
+            if entry else site.said("certified_in", **values))
+    if not con["past"]:
+        return said
+    return said + " " + site.said("certified_again", many=len(con["past"]),
+                                  edition=con["past"][-1]["edition"])
 
 
 def votes_sections(site, code, con, entry, room):
@@ -155,6 +159,8 @@ def votes_sections(site, code, con, entry, room):
     rows = [stacked_row(site, list_link(site, row["code"], row["name"]),
                         *votes_cells(site, con, row, before), takes_part(site, con, row))
             for row in lists]
+    if con["tally"]["closed"]:
+        rows.append(blank_row(site, con["tally"]["blank"], blank_share(con, entry), "–"))
     base = site.say(f"base_{entry['base']}") if entry else site.say("base_valid")
     threshold, limit = entry["threshold"] if entry else 0, ""
     if threshold:
@@ -182,6 +188,15 @@ def takes_part(site, con, row):
     if not con["tally"]["closed"]:
         return "–"
     return site.said("yes" if row["eligible"] else "no")
+
+
+def blank_share(con, entry):
+    """The share of the blank votes, as those of the lists are shown; None where shares are of the
+    votes for lists."""
+    if con["rule"]["base"] == "lists":
+        return None
+    of_valid = rounded if entry else hundredths
+    return of_valid(con["tally"]["blank"], con["tally"]["valid"])
 
 
 def share_of(con, entry, row):

@@ -5,9 +5,12 @@ import hashlib
 import io
 import json
 import re
+import tomllib
+import unicodedata
 import uuid
 import xml.etree.ElementTree as ET
 
+from press_files import hash_as_left
 from press_names import isolated
 from press_results import counted_share, provisional_seats
 
@@ -181,7 +184,8 @@ def schemas():
 
 # In CSV a share is a number, a time a time, and this flag a word. In JSON a share is a text, with
 # its zeros, and a name is as it is.
-QUOTED = "One that begins with = + - or @ has an apostrophe in front."
+QUOTED = ("One that begins with = + - or @, also in another width or after white space, has an "
+          "apostrophe in front.")
 IN_CSV = {"share": {"type": "number"}, "time": {"type": "datetime"}, "takes_part": {"type": "boolean", "trueValues": ["yes"], "falseValues": ["no"]},
           "name": {"description": f"{LIST['name']['description']} {QUOTED}"},
           "candidate": {"description": f"{ELECTED['candidate']['description']} {QUOTED}"},
@@ -252,6 +256,29 @@ def datapackage(files, cons, site):
         "resources": [found for file in files if (found := resource_of(file, cons))]})
 
 
+# ---- the setup
+
+
+def read_setup(file):
+    """The parts of a setup file that the pages and the clerks need."""
+    return parts_of_setup(tomllib.loads(file.read_bytes().decode("utf-8-sig")))
+
+
+def parts_of_setup(setup):
+    """Per constituency its names, its rule and its stations."""
+    profiles = {profile["code"]: profile for profile in setup["profile"]}
+    found = []
+    for con in setup["constituency"]:
+        profile = {"lot": "fixed"} | profiles[con["profile"]]
+        rule = {key: profile[key] for key in ("method", "threshold", "base", "lot")}
+        lists = [{key: row[key] for key in ("code", "name", "candidates")} for row in con["list"]]
+        stations = [{"code": row["code"], "electors": row["electors"]} | ({"agents": row["agents"]} if row.get("agents") else {})
+                    for row in con["station"]]
+        found.append({"code": con["code"], "name": con["name"], "seats": con["seats"], **rule, "lists": lists,
+                      "stations": stations})
+    return found
+
+
 # ---- the CSV files
 
 
@@ -262,9 +289,13 @@ def csv_text(heads, rows):
     return out.getvalue()
 
 
+# What begins a formula, after white space and what no reader sees; in the form of any width (NFKC).
+FORMULA = re.compile(r"[\s\u00ad\u200b-\u200f\u202a-\u202e\u2060-\u206f\ufeff]*[=+\-@]")
+
+
 def in_a_cell(name):
     """A name that a spreadsheet shows, whatever it begins with: it would compute a formula."""
-    return f"'{name}" if name.startswith(("=", "+", "-", "@")) else name
+    return f"'{name}" if FORMULA.match(unicodedata.normalize("NFKC", name)) else name
 
 
 def list_rows(con):
@@ -291,11 +322,26 @@ def index_csv(progress):
     return csv_text(PROGRESS, [[row[key] for key in PROGRESS] for row in progress])
 
 
+# A line of record.csv.
+SHOWN = re.compile(r'[^,"\s]{1,40},[0-9]{1,15},[0-9a-f]{1,64}')
+
+
+def shown_heads(data):
+    """The heads of the record of commands that were shown, by the bytes of their file, and how many
+    of its lines are none, which are left out: as where a disk has cut one."""
+    columns = ",".join(RECORD)
+    *lines, last = data.decode(errors="replace").split("\n")
+    rows = [line for line in lines if SHOWN.fullmatch(line)]
+    wrong = sum(line != columns for line in lines) - len(rows) + bool(last)
+    return "".join(f"{line}\n" for line in (columns, *rows)), wrong
+
+
 def record_csv(before, head):
-    """The heads of the record of commands that were shown, with one more; what was there before, or nothing."""
-    text = before or csv_text(RECORD, [])
-    row = [head["time"], head["n"], head["hash"]]
-    return text if text.endswith(f",{row[1]},{row[2]}\n") else text + ",".join(map(str, row)) + "\n"
+    """The heads that were shown before, with one more."""
+    row = ",".join(str(head[key]) for key in ("time", "n", "hash"))
+    if type(head["n"]) is not int or not SHOWN.fullmatch(row):
+        raise ValueError("it is no head of a record")
+    return before if before.endswith(f",{head['n']},{head['hash']}\n") else f"{before}{row}\n"
 
 
 def goes_on(before, head):
@@ -348,9 +394,10 @@ def index_json(progress, moment):
 
 
 def manifest(files, head, moment, folder):
-    """The hash of each file by its name within the folder, with the head of the record of commands."""
+    """The hash of each file by its name within the folder, with the head of the record of commands. Of a file that somebody else
+    changed it is that of what was written."""
     record = {"record": {"time": head["time"], "lines": head["n"], "sha256": head["hash"]}} if head else {}
-    return dated(moment, **record, files={str(file.relative_to(folder)): hashlib.sha256(file.read_bytes()).hexdigest() for file in files})
+    return dated(moment, **record, files={str(file.relative_to(folder)): hash_as_left(file) for file in files})
 
 
 # ---- the feed (Atom, RFC 4287)
@@ -418,19 +465,30 @@ def stays(entry, cons, codes):
     return code not in cons and (codes is None or code in codes)
 
 
+def seen_before(before, now):
+    """An entry as the office bears it out now, with the moment at which it was first seen. No answer has the note of an earlier
+    reopening, nor the share that was counted when provisional seats first were these: each stays as it was written."""
+    kind = now.find(f"{ATOM}category").get("term")
+    old = ["updated", *["title"] * (kind == "provisional"), *["summary"] * (not now.findtext(f"{ATOM}summary"))]
+    for tag in old:
+        now.find(ATOM + tag).text = before.findtext(ATOM + tag)
+    return now
+
+
 def feed(before, cons, codes, setup, site, moment):
     """The feed after what was in it before, where these constituencies were read. Of others everything stays, but for those that
     are none of all that there are, where their codes are known.
 
-    An entry stays as it was first written, with the moment at which it was seen, for as long as its constituency shows what it
-    says. Where there was no feed, all that the office shows has the present moment, and the identifiers that it had."""
+    An entry keeps the moment at which it was first seen, for as long as its constituency shows what it says. Where there was no
+    feed, all that the office shows has the present moment, and the identifiers that it had."""
     moment, known, shown = moment.isoformat(timespec="seconds"), said_before(before), {}
     for code, con in cons.items():
         candidates = {row["code"]: row["candidates"] for row in setup[code]["lists"]} if code in setup else {}
         for event in (*events(con, candidates), *provisional_event(site, con)):
             entry = entry_of(site, code, con, event, moment)
             shown[entry.findtext(f"{ATOM}id")] = entry
-    kept = {of: entry for of, entry in known.items() if of in shown or stays(entry, cons, codes)}
+    kept = {of: seen_before(entry, shown[of]) if of in shown else entry for of, entry in known.items()
+            if of in shown or stays(entry, cons, codes)}
     found = ET.Element(f"{ATOM}feed", {"xml:lang": site.language})
     licence = [("rights", site.about["licence"])] if "licence" in site.about else []
     for tag, said in (("id", identity("feed", title_of(site))), ("title", title_of(site)), ("updated", moment), *licence):

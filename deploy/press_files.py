@@ -1,12 +1,19 @@
-"""The files that `press.py` writes: each beside and renamed, and the same compressed."""
+"""The files that `press.py` writes: each beside and renamed, and the same compressed. It knows how
+it left each of them, and so finds what somebody else changed."""
 
 import contextlib
 import gzip
+import hashlib
 import os
+import stat
 import zlib
 
 # As each compressed file of ours begins: it has no moment. What a board compressed itself has one.
 BEGINS = gzip.compress(b"", 6, mtime=0)[:8]
+
+# Each file as this program left it, by its whole path: its SHA-256, and what the disk said of it
+# then.
+LEFT = {}
 
 
 def compressed_of(data):
@@ -18,7 +25,9 @@ def put(folder, name, text):
     as it is."""
     data = text.encode()
     file, compressed = folder / name, folder / f"{name}.gz"
-    if file.exists() and compressed.exists() and file.read_bytes() == data:
+    both_are = is_known(compressed) and file.exists() and compressed.exists()
+    if both_are and file.read_bytes() == data:
+        leave(file, data)
         return
     put_bytes(compressed, compressed_of(data))
     put_bytes(file, data)
@@ -26,11 +35,72 @@ def put(folder, name, text):
 
 def put_bytes(file, data):
     """Writes a file beside and renames it. What would be the same stays as it is."""
-    if file.exists() and file.read_bytes() == data:
-        return
-    beside = file.with_name(f".{file.name}.new")
-    beside.write_bytes(data)
-    os.replace(beside, file)
+    if not file.exists() or file.read_bytes() != data:
+        beside = file.with_name(f".{file.name}.new")
+        beside.write_bytes(data)
+        os.replace(beside, file)
+    leave(file, data)
+
+
+def remove(folder, name):
+    for file in (folder / name, folder / f"{name}.gz"):
+        file.unlink(missing_ok=True)
+        LEFT.pop(file.absolute(), None)
+
+
+def is_known(file):
+    return file.absolute() in LEFT
+
+
+def leave(file, data):
+    """Remembers a file as it is left, with this content."""
+    if not is_known(file) or LEFT[file.absolute()][1] != on_disk(file):
+        LEFT[file.absolute()] = hashlib.sha256(data).hexdigest(), on_disk(file)
+
+
+def on_disk(file):
+    """The disk's number, size and times of a file: others where somebody wrote it. None of a link,
+    a folder, and whatever is no file."""
+    try:
+        found = os.lstat(file)
+    except OSError:
+        return None
+    is_file = stat.S_ISREG(found.st_mode)
+    return (found.st_ino, found.st_size, found.st_mtime_ns, found.st_ctime_ns) if is_file else None
+
+
+def changed(folder):
+    """The files of a folder that somebody else changed or removed since they were left. They are no
+    longer known."""
+    found = []
+    for file, (digest, before) in list(LEFT.items()):
+        now = on_disk(file)
+        if now == before or not file.is_relative_to(folder.absolute()):
+            continue
+        if now and hash_of(file) == digest:
+            # Another right or another link to it is no other content.
+            LEFT[file] = digest, now
+        else:
+            del LEFT[file]
+            found.append(file)
+    return found
+
+
+def hash_of(file):
+    return hashlib.sha256(file.read_bytes()).hexdigest()
+
+
+def hash_as_left(file):
+    """The SHA-256 of a file as this program left it; of another's as it is."""
+    return LEFT[file.absolute()][0] if is_known(file) else hash_of(file)
+
+
+def text_of_another(file):
+    """The text of a file that another user writes, who could have this program wait for a pipe."""
+    with open(os.open(file, os.O_RDONLY | os.O_NONBLOCK), encoding="utf-8") as it:
+        if not stat.S_ISREG(os.fstat(it.fileno()).st_mode):
+            raise ValueError("it is no file")
+        return it.read()
 
 
 def repair(folder):

@@ -83,6 +83,13 @@ def stacked_row(site, first, *cells):
     return site.templates.parts.stacked_row(first, cells)
 
 
+def blank_row(site, blank, share, *cells):
+    """The row of the blank votes, below those of the lists, in a table of the kind `stacked`. The
+    share is in hundredths of a per cent, or None where shares are of other votes."""
+    shown = "–" if share is None else site.share(share)
+    return stacked_row(site, site.said("blank_votes"), site.number(blank), shown, *cells)
+
+
 def framed(site, caption, heads, rows, kind="", wide=False):
     """A table of such rows, whose classes name the columns of numbers by their places. One that is
     wider than a phone is `wide`: there it has a frame, within which it is moved. The kind `stacked`

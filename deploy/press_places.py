@@ -13,8 +13,8 @@ from press_data import PLACE, VERSION, csv_text, in_a_cell
 from press_figures import bars
 from press_head import Standing, counted_line, leads
 from press_names import closed, in_order, isolated, label
-from press_parts import (NOTHING, TABLE_ROOM, changed, framed, list_name, numbers, pieces,
-                         rounded, searched, stacked_row, votes_said)
+from press_parts import (NOTHING, TABLE_ROOM, blank_row, changed, framed, list_name, numbers,
+                         pieces, rounded, searched, stacked_row, votes_said)
 from press_results import counted_share
 
 
@@ -104,8 +104,10 @@ def votes_of(site, con, entry, place):
                         changed(site, row["code"], row["share"], None, site.share))
             for row in lists]
     first, *more = pieces(rows, TABLE_ROOM / 2)
+    share = None if entry["base"] == "lists" else rounded(place.blank, base)
+    shown = [*first, blank_row(site, place.blank, share)]
     heads = (site.said("list"), numbers(site.said("votes").lower()), numbers(site.said("share")))
-    table = framed(site, site.said("table_place"), heads, first, "stacked")
+    table = framed(site, site.said("table_place"), heads, shown, "stacked")
     return {"chart": bars(site, lists), "table": table, "lists_left": sum(map(len, more)),
             "base": site.say(f"base_{'lists' if entry['base'] == 'lists' else 'valid'}"),
             "votes": votes_said(site, place.of_lists + place.blank, place.blank, place.spoiled)}

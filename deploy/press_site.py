@@ -110,15 +110,18 @@ def rows_of(file, *columns):
     if not file.exists():
         return []
     reader = csv.DictReader(io.StringIO(text_of(file), newline=""), restval="")
-    if lost := [column for column in columns if column not in (reader.fieldnames or ())]:
-        raise Wrong(f"{file}: no column {', '.join(lost)}")
-    return list(reader)
+    try:
+        if lost := [column for column in columns if column not in (reader.fieldnames or ())]:
+            raise Wrong(f"{file}: no column {', '.join(lost)}")
+        return list(reader)
+    except csv.Error as error:
+        raise Wrong(f"{file}: {error}") from error
 
 
 def read_about(file):
     try:
         about = tomllib.loads(text_of(file))
-    except (tomllib.TOMLDecodeError, RecursionError) as error:
+    except (ValueError, RecursionError) as error:
         raise Wrong(f"{file}: {error}") from error
     if "date" in about:
         about["date"] = day_of(about["date"])

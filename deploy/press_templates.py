@@ -63,8 +63,12 @@ class Templates:
         return Markup("<bdi>{}</bdi>").format(closed(text))
 
     def check(self):
-        """Reads each template of the folder: one that is none raises a TemplateError."""
+        """Reads each template of the folder, and each style: one that is none raises a TemplateError."""
         for name in self.own.list_templates():
+            try:
+                self.own.get_source(self.environment, name)
+            except UnicodeDecodeError as error:
+                raise TemplateError(f"{name}: not UTF-8") from error
             if name.endswith(".html"):
                 self.environment.get_template(name)
 

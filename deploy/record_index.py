@@ -62,8 +62,11 @@ class Index:
 
     def take(self, line, place):
         """A line of the record at its place, whatever is in it."""
+        self.take_entry(entry_of(line), place)
+
+    def take_entry(self, entry, place):
+        """The content of a line at this place."""
         try:
-            entry = json.loads(line)
             if "to" in entry:
                 self.answered(entry, place)
                 return
@@ -107,6 +110,14 @@ class Index:
     def typed_of(self, con, now):
         with self.lock:
             return self.typed.of(con, now)
+
+
+def entry_of(line):
+    """The content of a line of the record; None where it is no JSON."""
+    try:
+        return json.loads(line)
+    except (ValueError, RecursionError):
+        return None
 
 
 def is_done(entry):

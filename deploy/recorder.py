@@ -23,7 +23,9 @@ guess, keeps them from bearing out a guess of what a slip says. Each line goes t
 
 With --two-of-board a lot, a certificate, a reopening and a vacancy need two names of the board: the first request is recorded and
 answered 202, `waits_for_second_name`, and the same request from another name within an hour is sent to the office. It is another request
-where its body differs, as where it names another edition.
+where its body differs, as where it names another edition. What changes a return of the constituency in between, or its edition, or may
+have done so, ends the wait: the next request is a first one. Of a station whose constituency is not known, as without --setup, it ends
+each wait.
 
 Files are imported and tried one at a time, each after the commands that wait. While others give commands, the desk is left to
 them three times as long as a file took: ten seconds at most before the next file, forty before the next one of the same name.
@@ -67,7 +69,7 @@ from pathlib import Path
 from typing import NamedTuple
 
 import second_name
-from record_index import HOUR, Index, Typed
+from record_index import HOUR, Index, Typed, entry_of
 
 # This many requests of a desk are under way at once; others wait.
 THREADS = 64
@@ -146,18 +148,20 @@ class Record:
     def __init__(self, file, room, setup=None, shown=None):
         self.file, self.room, self.lock = file, room, threading.Lock()
         self.index = Index(setup.stations if setup else None, Typed(setup.stations if setup else {}))
-        self.waiting = second_name.Waiting()
+        self.waiting = second_name.Waiting(setup.stations if setup else None)
         self.descriptor = os.open(file, os.O_WRONLY | os.O_APPEND | os.O_CREAT, 0o640)
         self.setup, begins, shown = setup, "", dict(shown or {})
         self.number, self.size, line = 0, 0, b"\n"
         with open(file, "rb") as lines:
             for self.number, line in enumerate(lines, 1):
-                self.index.take(line, self.size)
-                self.take_of_board(line)
+                entry = entry_of(line)
+                self.index.take_entry(entry, self.size)
+                self.take_of_board(entry)
                 self.size += len(line)
                 begins = setup_of(line) if self.number == 1 else begins
                 if shown.get(self.number) == {hash_of(line.removesuffix(b"\n"))}:
                     del shown[self.number]
+        self.waiting.begin()
         self.last = hash_of(line.removesuffix(b"\n")) if self.number else FIRST
         # A line that was cut, as by a power cut or a full disk, is ended and counts as a line.
         self.is_cut = not line.endswith(b"\n")
@@ -182,19 +186,26 @@ class Record:
         with self.lock:
             self.begin()
             moment = datetime.now().astimezone()
-            firsts = self.waiting.firsts(entry, moment)
-            others = self.waiting.others(entry, moment)
+            firsts, others, early = (of(entry, moment) for of in (self.waiting.firsts, self.waiting.others, self.waiting.too_early))
             line, place = self.write(entry | ({"first": max(firsts)} if firsts else {"status": second_name.WAITS}), moment)
             number = self.number
-            self.take_of_board(line)
         self.index.take(line, place)
-        return number, None if firsts else waits(moment, others)
+        return number, None if firsts else waits(moment, others, early)
 
-    def take_of_board(self, line):
-        """A line of the record, whatever is in it. Few are of requests that need two names, and only these are read."""
-        if b'"status": 202,' in line or b'"first": ' in line:
-            with contextlib.suppress(ValueError, KeyError, TypeError, AttributeError, RecursionError):
-                self.waiting.take(json.loads(line))
+    def take_of_board(self, entry):
+        """A line of the record, whatever is in it: what waits for a second name follows from it."""
+        with contextlib.suppress(ValueError, KeyError, TypeError, AttributeError, IndexError):
+            self.waiting.take(entry)
+
+    def lost(self, number):
+        """The answer to a command is not in the record: nobody will know it after a start, so nobody does now."""
+        with self.lock:
+            self.take_of_board({"to": number, "status": None})
+
+    def settled(self, office):
+        """An office has answered, and so has done what it was sent before."""
+        with self.lock:
+            self.waiting.unsettled.discard(office)
 
     def begin(self):
         """A new record begins with its setup."""
@@ -205,8 +216,8 @@ class Record:
         """Writes a line; the line, and its place in the file."""
         number, moment = self.number + 1, moment or datetime.now().astimezone()
         # The hash of a line is published, and its figures are few: without a salt one can try all.
-        line = json.dumps({"n": number, "time": moment.isoformat(timespec="milliseconds"), **entry,
-                           "salt": secrets.token_hex(16), "before": self.last}, ensure_ascii=False).encode()
+        entry = {"n": number, "time": moment.isoformat(timespec="milliseconds"), **entry}
+        line = json.dumps(entry | {"salt": secrets.token_hex(16), "before": self.last}, ensure_ascii=False).encode()
         whole = b"\n" * self.is_cut + line + b"\n"
         if self.fault:
             raise OSError(self.fault)
@@ -222,6 +233,7 @@ class Record:
         self.number, self.last, self.is_cut = number, hash_of(line), written < len(whole)
         if self.is_cut:
             raise OSError(f"line {number} was cut")
+        self.take_of_board(entry)
         with contextlib.suppress(OSError):
             os.write(sys.stdout.fileno(), whole)
         return line, self.size - len(line) - 1
@@ -261,12 +273,14 @@ class Record:
             return found | ({"fault": self.fault} if self.fault else {})
 
 
-def waits(moment, others):
-    """The answer to a request that waits for a second name: until when, and what else waits there."""
+def waits(moment, others, early):
+    """The answer to a request that waits for a second name: until when, what else waits there, and who asked too early."""
     until = (moment + second_name.PATIENCE).isoformat(timespec="seconds")
     said = [{"name": name, "time": first.isoformat(timespec="seconds"), "act": act, "body": body}
             for name, first, act, body in others[-5:]]
-    return Answer(second_name.WAITS, json.dumps({"word": "waits_for_second_name", "until": until, "others": said}).encode())
+    said = {"word": "waits_for_second_name", "until": until, "others": said,
+            "too_early": [{"name": name, "time": first.isoformat(timespec="seconds")} for name, first in early[-5:]]}
+    return Answer(second_name.WAITS, json.dumps(said).encode())
 
 
 def setup_of(line):
@@ -561,22 +575,49 @@ class Recorder:
                 return FORBIDDEN
             entry |= text_or_bytes("body", body)
             if self.two_of_board and second_name.needs_two(path):
-                number, waiting = self.record.add_of_board(entry)
-            else:
-                number, waiting = self.record.add(entry), None
+                return self.of_board(entry, body)
+            number = self.record.add(entry)
             self.record.sync()
-            if waiting:
-                return waiting
         except OSError as error:
             print(f"not recorded, and not done: {name} {method} {path}: {error}", file=sys.stderr, flush=True)
             return UNAVAILABLE
-        # The answers are in the order in which the desk did what they answer.
         with self.desk.lock:
-            found = self.desk.ask(method, path, body)
-            try:
-                self.record.add({"to": number, "status": found.status} | text_or_bytes("answer", found.body))
-            except OSError as error:
-                print(f"the answer to {number} is not recorded: {error}", file=sys.stderr, flush=True)
+            return self.done(number, entry, body)
+
+    def of_board(self, entry, body):
+        """The answer to a request that needs two names. While the desk's lock is held no command is under way: each is done
+        before this request, and its answer is recorded, or it comes after it."""
+        with self.desk.lock:
+            if self.office in self.record.waiting.unsettled:
+                # A command whose answer is not known may be done yet. Once the desk has answered,
+                # it was, or never will be.
+                try:
+                    found = self.desk.ask("GET", "/progress")
+                except http.client.HTTPException:
+                    found = Answer(None)
+                if found.status in (None, NO_DESK.status, TOO_LATE.status):
+                    return self.answer(self.record.add(entry), found)
+                self.record.settled(self.office)
+            number, waiting = self.record.add_of_board(entry)
+            self.record.sync()
+            return waiting or self.done(number, entry, body)
+
+    def done(self, number, entry, body):
+        """The answer of the desk, whose lock is held: answers are in the order in which the desk did what they answer."""
+        try:
+            found = self.desk.ask(entry["method"], entry["path"], body)
+        except http.client.HTTPException:
+            self.record.lost(number)
+            raise
+        return self.answer(number, found)
+
+    def answer(self, number, found):
+        """The answer to a command, once it is recorded."""
+        try:
+            self.record.add({"to": number, "status": found.status} | text_or_bytes("answer", found.body))
+        except OSError as error:
+            print(f"the answer to {number} is not recorded: {error}", file=sys.stderr, flush=True)
+            self.record.lost(number)
         return found
 
 

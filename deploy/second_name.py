@@ -1,16 +1,23 @@
-"""Acts of the board that need two names: the same request from both, within an hour.
+"""Acts of the board that need two names: the same request from both, within an hour, over the same returns.
 
 The first request waits: its line in the record has the status 202. The second one is sent to the
-office; its line has in `first` the number of that line. The record is all that is kept of it, so
-that the recorder knows after a start what it knew before, and `entries` reads the same.
+office; its line has in `first` the number of that line. Whatever changes a return of the
+constituency, or its edition, or may have done so, ends the wait: the next request is a first one
+again. A vacancy changes neither. All of this follows from the lines of the record in their order,
+so that the recorder knows after a start what it knew before.
 """
 
+import json
 from datetime import datetime, timedelta
+
+from record_index import UNKNOWN
 
 ACTS = ("draw", "certify", "reopen", "vacate")
 PATIENCE = timedelta(hours=1)
 # The status of a request that waits for a second name.
 WAITS = 202
+# In the place of a constituency: nobody knows which one, or none.
+ANY, NONE = None, False
 
 
 def needs_two(path):
@@ -22,41 +29,112 @@ def request_of(entry):
     return entry["office"], entry["path"], entry.get("body"), entry.get("body_base64")
 
 
+def con_of(entry):
+    """The office of a request of the board, and its constituency."""
+    return entry["office"], entry["path"].split("/")[2]
+
+
+def is_refused(entry):
+    """Whether an answer says that nothing was changed: it was refused, or recorded before, or a file had nothing new."""
+    if entry["status"] != 200:
+        return isinstance(entry["status"], int) and 400 <= entry["status"] < 500
+    try:
+        said = json.loads(entry["answer"])
+        return said["ok"] == "same" or (said["ok"] == "import" and said["lodged"] == 0)
+    except (ValueError, KeyError, TypeError, RecursionError):
+        return False
+
+
 class Waiting:
     """The requests that wait for a second name: of each the number and the time, by its name."""
 
-    def __init__(self):
-        self.requests = {}
+    def __init__(self, stations=None):
+        # The constituency of each station, where it is known.
+        self.stations = stations or {}
+        # The requests of each constituency of an office; and those that a change has ended.
+        self.requests, self.ended = {}, {}
+        # The commands without an answer by their numbers: the office, and what each may change. And
+        # the offices that may yet do a command whose answer is not known.
+        self.under_way, self.unsettled = {}, set()
 
     def take(self, entry):
+        """A line of the record, after the line before it: a command, or an answer."""
+        if "to" in entry:
+            self.answered(entry)
+            return
+        self.of_board(entry)
+        if "status" not in entry:
+            self.under_way[entry["n"]] = entry["office"], self.changed_by(entry["path"])
+
+    def of_board(self, entry):
         """A command of the record, as a line has it: it waits, or it has found its second name."""
         if entry.get("status") == WAITS:
             moment = datetime.fromisoformat(entry["time"])
             self.forget(moment)
-            self.requests.setdefault(request_of(entry), {})[entry["name"]] = entry["n"], moment
+            request, con = request_of(entry), con_of(entry)
+            self.requests.setdefault(con, {}).setdefault(request, {})[entry["name"]] = entry["n"], moment
         elif "first" in entry:
-            self.requests.pop(request_of(entry), None)
+            for some in (self.requests, self.ended):
+                some.get(con_of(entry), {}).pop(request_of(entry), None)
+
+    def changed_by(self, path):
+        """The constituency of which a command may change a return, or the edition."""
+        _, kind, code, act = path.split("/", 3)
+        if act == "vacate":
+            return NONE
+        return code if kind == "con" else self.stations.get(code, ANY)
+
+    def answered(self, entry):
+        """An answer, in the order in which the office did the commands. After one that is known, whatever was sent before
+        is done, or never will be."""
+        is_unknown, (office, con) = entry["status"] in UNKNOWN, self.under_way.pop(entry["to"], (ANY, ANY))
+        if is_unknown:
+            self.unsettled.add(office)
+        else:
+            self.unsettled.discard(office)
+        if not is_refused(entry):
+            self.end(office, con)
+
+    def begin(self):
+        """The recorder starts, after the last line: nobody knows what became of commands without an answer."""
+        for number in list(self.under_way):
+            self.answered({"to": number, "status": None})
+
+    def end(self, office, con):
+        """Ends what waits of a constituency."""
+        for at in [at for at in self.requests if office in (ANY, at[0]) and con in (ANY, at[1])]:
+            for request, given in self.requests.pop(at).items():
+                self.ended.setdefault(at, {}).setdefault(request, {}).update(given)
 
     def firsts(self, entry, moment):
         """The other names that gave this request in the last hour, by the numbers of their lines."""
-        given = self.requests.get(request_of(entry), {})
-        return {number: name for name, (number, first) in given.items()
-                if name != entry["name"] and timedelta(0) <= moment - first < PATIENCE}
+        return {number: name for name, (number, _) in self.before(self.requests, entry, moment)}
+
+    def too_early(self, entry, moment):
+        """The other names that gave this request in the last hour, before a change that has ended it: name and time."""
+        return [(name, first) for name, (_, first) in self.before(self.ended, entry, moment)]
+
+    @staticmethod
+    def before(requests, entry, moment):
+        given = requests.get(con_of(entry), {}).get(request_of(entry), {})
+        return [(name, one) for name, one in given.items()
+                if name != entry["name"] and timedelta(0) <= moment - one[1] < PATIENCE]
 
     def others(self, entry, moment):
         """The other acts of the constituency that wait: the name, the time, the act and the body."""
-        mine, con = request_of(entry), entry["path"].rpartition("/")[0]
-        return [(name, first, act, body)
-                for (office, path, body, *more), given in self.requests.items()
-                for at, _, act in [path.rpartition("/")]
-                if (office, at) == (entry["office"], con) and (office, path, body, *more) != mine
+        return [(name, first, path.rpartition("/")[2], body)
+                for request, given in self.requests.get(con_of(entry), {}).items() if request != request_of(entry)
+                for _, path, body, _ in [request]
                 for name, (_, first) in given.items() if moment - first < PATIENCE]
 
     def forget(self, moment):
         """Forgets the acts that wait in vain, so that they cost no memory."""
-        for request, given in list(self.requests.items()):
-            late = [name for name, (_, first) in given.items() if moment - first >= PATIENCE]
-            for name in late:
-                del given[name]
-            if not given:
-                del self.requests[request]
+        for some in (self.requests, self.ended):
+            for con, requests in list(some.items()):
+                for request, given in list(requests.items()):
+                    for name in [name for name, (_, first) in given.items() if moment - first >= PATIENCE]:
+                        del given[name]
+                    if not given:
+                        del requests[request]
+                if not requests:
+                    del some[con]

@@ -21,6 +21,7 @@ BASES = ("valid", "lists")
 LOTS = ("fixed", "alternating")
 ENTRIES = ("single", "double")
 SIZES = tuple(MOST_STATIONS)
+MOST_SHOWN = 100  # characters of a wrong value
 
 
 def is_code(value):
@@ -43,16 +44,17 @@ def papers(station):
     return station["electors"] + station.get("agents", 0)
 
 
-def first_fault(setup):
-    """The first limit that a setup of any number of constituencies breaks, in words; or None.
+def first_fault(setup, most=None, sees_capitals=False):
+    """The first limit that a setup breaks, in words that begin with its place; or None.
 
-    Codes that differ in capitals alone are faults too: the proxy does not tell them apart."""
+    The order and the places are those of the office (docs/FORMATS.md, Faults). Without `most` any
+    number of constituencies is kept. Codes of constituencies and of stations that differ in
+    capitals alone are faults too, unless capitals are seen."""
     try:
         profiles = profiles_of(setup)
-        codes, stations = Codes("constituency"), Codes("station")
-        for number, con in enumerate(entries(setup, "constituency", None, "the setup"), 1):
-            place = f"constituency {number} {con.get('code', '')}".rstrip()
-            codes.add(con, place)
+        codes, stations = Codes("constituency", sees_capitals), Codes("station", sees_capitals)
+        for number, con in enumerate(entries(setup, "constituency", most, "the setup"), 1):
+            place = codes.add(con, f"constituency {number}")
             check_constituency(con, place, profiles)
             check_lists(con, place)
             check_stations(con, place, stations)
@@ -73,21 +75,29 @@ def need(condition, place, said):
 class Codes:
     """The codes of entries of one kind, which have to differ."""
 
-    def __init__(self, kind, sees_capitals=False):
+    def __init__(self, kind, sees_capitals=True):
         self.kind, self.sees_capitals, self.found = kind, sees_capitals, {}
 
     def add(self, entry, place):
+        """The place of an entry with its code."""
         code = value_of(entry, "code", place)
-        need(is_code(code), place, f"{code!r} is no code")
-        other, at = self.found.setdefault(
-            code if self.sees_capitals else code.lower(), (code, place)
-        )
-        if at is not place:
+        need(is_code(code), place, f"{shown(code)} is no code")
+        key = code if self.sees_capitals else code.lower()
+        if key in self.found:
+            other, at = self.found[key]
             need(other != code, place, f"{self.kind} {code} comes twice, first at {at}")
             raise Fault(
                 f"{place}: {self.kind} {code} and {other} at {at} differ in capitals alone, "
                 "which the proxy does not tell apart"
             )
+        self.found[key] = code, f"{place} {code}"
+        return f"{place} {code}"
+
+
+def shown(value):
+    """The beginning of a value, which may be a text of a whole file."""
+    said = repr(value)
+    return said if len(said) <= MOST_SHOWN else f"{said[:MOST_SHOWN]}.."
 
 
 def value_of(entry, key, place):
@@ -112,31 +122,30 @@ def check_count(found, key, most, place):
 def check_number(entry, key, least, most, place):
     value = value_of(entry, key, place)
     is_kept = type(value) is int and least <= value <= most
-    need(is_kept, place, f"{key} is {value!r}, and not a number from {least:,} to {most:,}")
+    need(is_kept, place, f"{key} is {shown(value)}, and not a number from {least:,} to {most:,}")
     return value
 
 
 def check_word(entry, key, words, place):
-    """The word of a key that may be absent, which is the first of its words."""
+    """A key that may be absent, which is the first of its words."""
     value = entry.get(key, words[0])
-    need(value in words, place, f"{key} is {value!r}, and none of {', '.join(words)}")
-    return value
+    need(value in words, place, f"{key} is {shown(value)}, and none of {', '.join(words)}")
 
 
 def check_name(value, key, place):
-    said = f"{key} is {value!r}, and not a name of 1 to {MOST_NAME_BYTES} bytes"
+    said = f"{key} is {shown(value)}, and not a name of 1 to {MOST_NAME_BYTES} bytes"
     need(is_name(value), place, said)
 
 
 def profiles_of(setup):
-    codes = Codes("profile", sees_capitals=True)
+    codes = Codes("profile")
     for number, profile in enumerate(entries(setup, "profile", MOST_PROFILES, "the setup"), 1):
-        place = f"profile {number}"
-        codes.add(profile, place)
-        for key, words in (("method", METHODS), ("base", BASES)):
-            value_of(profile, key, place)
-            check_word(profile, key, words, place)
+        place = codes.add(profile, f"profile {number}")
+        value_of(profile, "method", place)
+        check_word(profile, "method", METHODS, place)
         check_number(profile, "threshold", 0, MOST_THRESHOLD, place)
+        value_of(profile, "base", place)
+        check_word(profile, "base", BASES, place)
         check_word(profile, "lot", LOTS, place)
     return codes.found
 
@@ -145,29 +154,29 @@ def check_constituency(con, place, profiles):
     check_name(value_of(con, "name", place), "name", place)
     check_number(con, "seats", 1, MOST_SEATS, place)
     profile = value_of(con, "profile", place)
+    need(is_code(profile), place, f"profile is {shown(profile)}, which is no code")
     need(profile in profiles, place, f"there is no profile {profile!r}")
     check_word(con, "entry", ENTRIES, place)
     check_word(con, "size", SIZES, place)
 
 
 def check_lists(con, place):
-    codes = Codes("list", sees_capitals=True)
+    codes = Codes("list")
     for number, one in enumerate(entries(con, "list", MOST_LISTS, place), 1):
-        at = f"{place}, list {number}"
-        codes.add(one, at)
+        at = codes.add(one, f"{place}, list {number}")
         check_name(value_of(one, "name", at), "name", at)
-        candidates = value_of(one, "candidates", at)
-        need(isinstance(candidates, list) and candidates, at, "candidates is no array of names")
-        check_count(candidates, "candidates", MOST_CANDIDATES, at)
-        for candidate in candidates:
-            check_name(candidate, "candidates", at)
+        names = value_of(one, "candidates", at)
+        is_array = isinstance(names, list) and all(isinstance(name, str) for name in names)
+        need(is_array and names, at, "candidates is no array of names")
+        check_count(names, "candidates", MOST_CANDIDATES, at)
+        for order, name in enumerate(names, 1):
+            check_name(name, "candidates", f"{at}, candidate {order}")
 
 
 def check_stations(con, place, codes):
     found = entries(con, "station", MOST_STATIONS[con.get("size", "normal")], place)
     for number, station in enumerate(found, 1):
-        at = f"{place}, station {number}"
-        codes.add(station, at)
+        at = codes.add(station, f"{place}, station {number}")
         electors = check_number(station, "electors", 1, MOST_ELECTORS, at)
         if "agents" in station:
             agents = check_number(station, "agents", 0, MOST_AGENTS, at)

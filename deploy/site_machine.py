@@ -112,6 +112,11 @@ class Machine:
         if self.has_services:
             run("systemctl", *words)
 
+    def reset_failed(self, *units):
+        """Has systemd forget that units failed; of one that did not it has nothing to forget."""
+        if self.has_services:
+            subprocess.run(["systemctl", "reset-failed", *units], stderr=subprocess.DEVNULL)
+
     def is_older(self, unit, *files):
         """Whether a unit does not run, or began before one of these files was written."""
         if not self.is_active(unit):

@@ -4,6 +4,7 @@ import hashlib
 import http.client
 import json
 import os
+import pwd
 import shutil
 import socket
 import ssl
@@ -20,8 +21,13 @@ HERE = Path(__file__).resolve().parent
 RECOUNTS = (HERE / "recount.py", HERE.parent / "examples/recount.py")
 # Seconds that an answer may take, and a day and a megabyte.
 PATIENCE, DAY, MEGABYTE = 10, 86_400, 1 << 20
+# How many seconds a moment may be ahead of the clock. One that is farther ahead is from before the
+# clock was put back: nobody knows how old it is.
+AHEAD = 60
 # Bytes of a file of the pages, which their user writes.
 LARGEST = 64 * MEGABYTE
+# This many of the last acts of each office are compared with what it shows.
+LAST = 20
 # The first line of a record has this as the hash of the line before it.
 FIRST = "0" * 64
 
@@ -81,6 +87,53 @@ def look_at_desk(address, of):
     return of_answer("desk", of, 200, found)
 
 
+def tried_as(user, address):
+    """The end of a connection that another user asks for, in a process of its own: None where
+    it is refused, or dropped."""
+    host, port = address.rsplit(":", 1)
+    uid, reading, writing = pwd.getpwnam(user).pw_uid, *os.pipe()
+    child = os.fork()
+    if not child:
+        said = b"no answer"
+        try:
+            os.setresuid(uid, uid, uid)
+            # The rules ask who made the socket. (That user may perhaps read no module of Python's,
+            # as those by which the name of a host is looked up.)
+            with socket.socket() as it:
+                it.settimeout(PATIENCE)
+                it.connect((host, int(port)))
+            said = b""
+        except (ConnectionRefusedError, TimeoutError):
+            said = b"refused"
+        except Exception as error:  # whatever it is, the other process says it
+            said = f"it cannot be tried as {user}: {error}".encode()
+        finally:
+            os.write(writing, said)
+            os._exit(0)
+    os.close(writing)
+    with os.fdopen(reading, encoding="utf-8") as it:
+        said = it.read()
+    os.waitpid(child, 0)
+    return None if said == "refused" else said or f"{user} reaches it: its rules are not loaded"
+
+
+def look_at_port(address, user, rules, of):
+    """The port of the desk: who may not reach it is refused. A desk that is not there refuses
+    everybody, and is wrong itself."""
+    try:
+        if rules and "--open-port" in Path(rules).read_text(encoding="utf-8"):
+            return Found("port", True, "every program of this computer reaches it (--open-port)", of)
+    except (OSError, ValueError) as error:
+        return Found("port", False, f"{rules} cannot be read: {error}", of)
+    try:
+        fault = tried_as(user, address)
+    except KeyError:
+        fault = f"there is no user {user}"
+    except (OSError, ValueError) as error:
+        fault = f"it cannot be tried as {user}: {error}"
+    return Found("port", not fault, fault or f"{user} is refused", of)
+
+
 def look_at_recorder(file, of):
     """The recorder, by a history that is for nobody: it refuses that, and records nothing."""
     fields = {"Office-Allowed": "0", "Office-Role": "nobody"}
@@ -101,6 +154,11 @@ def spoken(seconds):
     return f"{seconds:.0f} second{'' if round(seconds) == 1 else 's'}"
 
 
+def ahead(age):
+    """By how much a moment is ahead of the clock, in words; an empty text where it is not."""
+    return f"{spoken(-age)} ahead of the clock, which was put back" if age < -AHEAD else ""
+
+
 def text_of(file):
     """The text of a file that another user writes: no link, no pipe, which would be waited for, and
     nothing that has no end."""
@@ -116,9 +174,11 @@ def look_at_pages(folder, most):
     try:
         said = json.loads(text_of(Path(folder) / "manifest.json"))
         age = time.time() - datetime.fromisoformat(said["time"]).timestamp()
-    except (OSError, ValueError, KeyError, TypeError) as error:
+    except (OSError, ValueError, KeyError, TypeError, RecursionError) as error:
         return Found("pages", False, f"manifest.json cannot be read: {error}")
-    return Found("pages", age <= most, f"they are {spoken(age)} old", numbers={"age_seconds": age})
+    says = ahead(age)
+    return Found("pages", age <= most and not says, f"they are {says or spoken(age) + ' old'}",
+                 numbers={"age_seconds": age})
 
 
 def look_at_backup(folder, most, of, seen):
@@ -136,9 +196,10 @@ def look_at_backup(folder, most, of, seen):
     except OSError as error:
         return Found("backup", False, f"the newest copy cannot be read: {error}", of)
     verb = "agrees" if agrees else "does not agree"
-    says = f"{copies[-1].name} was up to date {spoken(age)} ago, and {verb}"
+    is_ahead = ahead(age)
+    says = f"{copies[-1].name} was up to date {is_ahead or spoken(age) + ' ago'}, and {verb}"
     numbers = {"age_seconds": age, "agrees": int(agrees)}
-    return Found("backup", agrees and age <= most, says, of, numbers)
+    return Found("backup", agrees and age <= most and not is_ahead, says, of, numbers)
 
 
 def does_agree(copy, seen):
@@ -181,22 +242,98 @@ def look_at_certificate(file, least):
     return Found("certificate", days >= least, says, numbers={"certificate_days": days})
 
 
+# ---- the acts of the record, and the office as it is now
+
+
+class Acts:
+    """The last acts of a record, as far as they were done: of each office the revision of a return
+    or the edition of a constituency to which each led, and the line of its answer. Those of the
+    last look are among them, since many may have followed since."""
+
+    def __init__(self, before):
+        self.before, self.new, self.commands = before, {}, {}
+
+    def take(self, number, entry):
+        """A line of the record. An answer whose command came before the last look is left out."""
+        if "to" not in entry:
+            if "path" in entry and "status" not in entry:
+                self.commands[number] = str(entry["office"]), entry["path"].rpartition("/")[0]
+            return
+        office, target = self.commands.pop(entry["to"], (None, None))
+        if not office or entry["status"] != 200:
+            return
+        said = json.loads(entry["answer"])
+        reached = said.get("rev", said.get("edition"))
+        if isinstance(reached, int):
+            acts = self.new.setdefault(office, {})
+            acts.pop(target, None)
+            acts[target] = [reached, number]
+            if len(acts) > LAST:
+                del acts[next(iter(acts))]
+
+    def of(self, office):
+        return self.before.get(office, {}) | self.new.get(office, {})
+
+    def kept(self, lacking):
+        """Those to compare at the next look: the last ones, and each that an office lacks."""
+        return {office: dict(sorted(self.of(office).items(), key=line_of)[-LAST:])
+                | lacking.get(office, {}) for office in self.before | self.new}
+
+
+def line_of(act):
+    _, (_, line) = act
+    return line
+
+
+def shown_by(address, target):
+    """The revision of a return, or the edition of a constituency, that an office shows: 0 where it
+    has no such return, None where it does not say it now."""
+    try:
+        with closing(http.client.HTTPConnection(address, timeout=PATIENCE)) as connection:
+            connection.request("GET", target)
+            answer = connection.getresponse()
+            said = json.loads(answer.read())
+            found = 0 if answer.status == 404 else said.get("rev", said.get("edition"))
+            return found if isinstance(found, int) else None
+    except (OSError, http.client.HTTPException, ValueError, AttributeError, RecursionError):
+        return None
+
+
+def look_at_acts(address, number, acts, lacking, of):
+    """Whether an office has what it did by the record, which was read before. Revisions and
+    editions only grow: whatever is done meanwhile, an office that shows a smaller one was put back
+    to an earlier moment. One that does not answer is wrong itself."""
+    compared = 0
+    for target, (reached, line) in acts.of(number).items():
+        if (found := shown_by(address, target)) is None:
+            break
+        compared += 1
+        if found < reached:
+            lacking.setdefault(number, {})[target] = [reached, line]
+    if lacks := lacking.get(number):
+        target, (reached, line) = min(lacks.items(), key=line_of)
+        return Found("acts", False, f"it was put back to an earlier moment: it lacks what line {line} "
+                     f"of the record answered, by which {target} came to {reached}", of)
+    return Found("acts", True, f"of the last acts of the record it has all {compared} that were "
+                 "compared", of)
+
+
 # ---- the record
 
 
-def look_at_record(file, head, seen):
+def look_at_record(file, head, seen, acts=None):
     """Whether the record is whole: what was there at the last look is there as it was, and each
     line after it follows from the one before."""
     shown = None
     if head:
         # (where the recorder is away it is named itself)
-        with suppress(OSError, ValueError):
-            shown = json.loads(Path(head).read_text(encoding="utf-8"))
+        with suppress(FileNotFoundError):
+            shown = head_in(head)
             if not is_head(shown):
                 return Found("record", False, "its head cannot be read")
     before = seen.get("record", {"n": 0, "hash": FIRST, "at": 0})
     try:
-        now = followed(file, before, shown)
+        now = followed(file, before, shown, acts)
     except (OSError, Broken, KeyError, TypeError) as error:
         return Found("record", False, str(error))
     seen["record"] = now
@@ -208,15 +345,27 @@ def look_at_record(file, head, seen):
                  numbers={"record_lines": now["n"]})
 
 
+def head_in(file):
+    """The contents of a file that the recorder writes, or None of what is no head."""
+    try:
+        return json.loads(text_of(file))
+    except FileNotFoundError:
+        raise
+    except (OSError, ValueError, RecursionError):
+        return None
+
+
 def is_head(shown):
     return isinstance(shown, dict) and isinstance(shown.get("n"), int) and "hash" in shown
 
 
-def followed(file, before, head):
+def followed(file, before, head, acts=None):
     """The last line of a record: its number, its hash and its place, and the hash of all to its
     end. A Broken names the first line that does not follow from the one before it, from the line on
     that was the last one before."""
-    with open(file, "rb") as lines:
+    with open(os.open(file, os.O_RDONLY | os.O_NONBLOCK), "rb") as lines:
+        if not stat.S_ISREG(os.fstat(lines.fileno()).st_mode):
+            raise Broken(f"{file} is no file")
         whole = hashlib.sha256()
         for part in parts_of(lines, before["at"]):
             whole.update(part)
@@ -227,7 +376,7 @@ def followed(file, before, head):
         # (the looks of an older version did not keep it)
         if before.get("all", whole.hexdigest()) != whole.hexdigest():
             raise Broken(f"a line before line {before['n']} is not the one that was seen before")
-        now, of_head = followed_on(lines, before, before["at"] + len(first), head, whole)
+        now, of_head = followed_on(lines, before, before["at"] + len(first), head, whole, acts)
     if head and head["n"] > now["n"]:
         raise Broken(f"it has {now['n']} lines, and the recorder wrote {head['n']}")
     if head and of_head not in (None, head["hash"]):
@@ -242,7 +391,7 @@ def parts_of(file, size):
         yield part
 
 
-def followed_on(lines, before, end, head, whole):
+def followed_on(lines, before, end, head, whole, acts=None):
     """The last of the lines that follow, and the hash of the one that the head names, if it is
     among them. `whole` is the hash of all lines before them, to which they are added."""
     number, last, at, entry = before["n"], before["hash"], before["at"], {}
@@ -257,6 +406,10 @@ def followed_on(lines, before, end, head, whole):
         # A line that was cut is read by the one after it, which has its hash.
         if entry is not None and (entry.get("n"), entry.get("before")) != (number, last):
             raise Broken(f"line {number} does not follow from the line before it")
+        if acts and entry is not None:
+            # (what no recorder wrote is no act)
+            with suppress(KeyError, ValueError, TypeError, AttributeError, RecursionError):
+                acts.take(number, entry)
         last = hash_of(line)
         of_head = last if head and head["n"] == number else of_head
     if entry is None:

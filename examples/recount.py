@@ -18,6 +18,8 @@ import sqlite3
 import sys
 import tomllib
 from fractions import Fraction
+from heapq import merge
+from itertools import islice
 from pathlib import Path
 
 METHODS = ("dhondt", "sainte-lague", "modified-sainte-lague", "hare")
@@ -39,11 +41,16 @@ def place(n, lot, alternating=False, k=1):
     return 61 - turn if alternating and k % 2 == 0 else turn
 
 
-def by_quotients(rule, seats, votes, lists, lot):
+def seats_of(n, rule, seats, votes, lot):
+    """The seats that a list may win, each by its quotient: these fall, so that they are in order."""
     alternating = rule.get("lot") == "alternating"
-    table = [(-votes[n] / divisor(rule["method"], k), -votes[n], place(n, lot, alternating, k), n)
-             for n in lists for k in range(1, seats + 1)]
-    won = [n for _, _, _, n in sorted(table)[:seats]]
+    for k in range(1, seats + 1):
+        yield -votes[n] / divisor(rule["method"], k), -votes[n], place(n, lot, alternating, k), n
+
+
+def by_quotients(rule, seats, votes, lists, lot):
+    table = merge(*(seats_of(n, rule, seats, votes, lot) for n in lists))
+    won = [n for _, _, _, n in islice(table, seats)]
     return {n: won.count(n) for n in votes}
 
 
@@ -95,6 +102,7 @@ def judged(con, cast, lot):
         ("a lot is missing", needed and not lot),
         ("a lot of other lists", lot and sorted(lot) != needed),
         ("stations of no setup", cast.keys() - most.keys()),
+        ("numbers below 0", any(n < 0 for counts in cast.values() for n in counts.values())),
         ("more votes than electors", any(n > most.get(at, n) for at, n in papers.items()))
     ) if applies]
 
@@ -187,17 +195,30 @@ def count_database(file):
     return 1 if any(found.values()) else 0
 
 
+def check(con, said, value, least, most):
+    if type(value) is not int or not least <= value <= most:
+        raise ValueError(f"{con['code']}: {said}: {value!r} is not {least} to {most}")
+
+
 def read_setup(text):
     """The constituencies, each with its rule and the most votes that each station can have."""
     setup = tomllib.loads(text.removeprefix("\ufeff"))
     rules = {profile["code"]: profile for profile in setup["profile"]}
     for con in setup["constituency"]:
         con["rule"] = rule = rules[con["profile"]]
-        if rule["method"] not in METHODS or rule["base"] not in ("valid", "lists"):
+        if rule["method"] not in METHODS or rule["base"] not in ("valid", "lists") or (
+                rule.get("lot", "fixed") not in ("fixed", "alternating")):
             raise ValueError(f"{con['code']}: an unknown rule")
-        if con["seats"] is True or con["seats"] not in range(1, 501):
-            raise ValueError(f"{con['code']}: not 1 to 500 seats")
+        for said, value, least, most in (("threshold", rule["threshold"], 0, 10_000),
+                                         ("seats", con["seats"], 1, 500),
+                                         ("lists", len(con["list"]), 1, 60)):
+            check(con, said, value, least, most)
+        for it in con["station"]:
+            check(con, f"electors of {it['code']}", it["electors"], 1, 1_000_000)
+            check(con, f"agents of {it['code']}", it.get("agents", 0), 0, 1_000)
         con["most"] = {it["code"]: it["electors"] + it.get("agents", 0) for it in con["station"]}
+        if con.get("size", "normal") not in ("normal", "large"):
+            raise ValueError(f"{con['code']}: an unknown size")
         if len(con["station"]) > (20_000 if con.get("size") == "large" else 5_000):
             raise ValueError(f"{con['code']}: too many stations")
     return setup["constituency"]

@@ -4,9 +4,9 @@
     python3 tests/run.py [--store] [NAME..]
     python3 tests/run.py import deploy/test_limits launcher
 
-A name is that of a suite, such as `import` for tests/program/test_import.py, or of a folder. With
-names only those suites run. Without names `rt ci` runs first, and parts of bench/ that refuse the
-program memory run beside the suites.
+A name is that of a suite, as `import` for tests/program/test_import.py, or of a folder. `bench`
+stands for the parts of bench/ that refuse the program memory. With names only those run. Without
+names `rt ci` runs first, and then all.
 
 The longest begin first. Many suites wait most of their time, for a server or a clock. So another
 one begins as soon as those that run leave a part of a processor free, up to two for each processor.
@@ -116,13 +116,15 @@ def programs():
 
 
 def named(parts, name):
-    """The suites that a name stands for."""
+    """The parts that a name stands for."""
     name = name.removesuffix(".py").removeprefix("tests/").removeprefix("tests.").replace(".", "/")
     of_folder = [part for part in parts if part.name.startswith(f"{name.rstrip('/')}/")]
     folder, _, stem = name.rpartition("/")
     suite = f"/test_{stem.removeprefix('test_')}"
     return of_folder or [
-        part for part in parts if part.name.endswith(suite) and part.name.startswith(folder)
+        part
+        for part in parts
+        if part.name == f"{name}.py" or part.name.endswith(suite) and part.name.startswith(folder)
     ]
 
 
@@ -177,9 +179,13 @@ class Runner:
 
     def run(self, part):
         """Runs one part as soon as there is room for it, and prints a line of it."""
+        return self.run_first([part])
+
+    def run_first(self, line):
+        """Runs the part that is the first in a line when there is room for one."""
         with self.changed:
             self.changed.wait_for(self.has_room)
-            place = self.free.pop()
+            part, place = line.pop(0), self.free.pop()
             self.under_way.append(part)
         result = self.result_of(part, place)
         with self.changed:
@@ -249,8 +255,9 @@ class Runner:
     def run_all(self, parts):
         """Runs parts side by side, and after them those that need the machine alone."""
         parts = sorted(parts, key=lambda part: (not part.needed, -part.seconds))
+        line = [part for part in parts if not part.alone]
         with ThreadPoolExecutor(self.places) as pool:
-            results = list(pool.map(self.run, [part for part in parts if not part.alone]))
+            results = list(pool.map(self.run_first, [line] * len(line)))
         results = [self.again(result) for result in results]
         return results + [self.again(self.run(part)) for part in parts if part.alone]
 
@@ -326,7 +333,7 @@ def asked_for():
 
 def main():
     asked = asked_for()
-    parts = list(suites())
+    parts = [*suites(), *programs()]
     if asked.name:
         lost = [name for name in asked.name if not named(parts, name)]
         if lost:
@@ -336,7 +343,6 @@ def main():
         parts = [part for part in parts if part.name in chosen]
         results = []
     else:
-        parts += programs()
         results = [gate()]
     minutes = os.environ.get("TEST_MINUTES")
     processors = len(os.sched_getaffinity(0))

@@ -146,7 +146,8 @@ async function ask(method, target, body) {
     const answer = await fetch(target, { method, body, headers, cache: "no-store", redirect: "error" });
     const text = await answer.text();
     const json = (answer.headers.get("Content-Type") || "").startsWith("application/json");
-    return { status: answer.status, ok: answer.ok, headers: answer.headers, text, value: json ? JSON.parse(text) : null };
+    // (one that is no command's, as a 403, has no text)
+    return { status: answer.status, ok: answer.ok, headers: answer.headers, text, value: json && text ? JSON.parse(text) : null };
   } catch {
     return { status: 0, ok: false, headers: new Headers(), text: "", value: null };
   }
@@ -273,11 +274,13 @@ function lotOf({ others }) {
   return Array.isArray(order) ? [...order].sort() : null;
 }
 
-// Until when a request waits for a second name, and what others asked for in its place.
-function waitsFor({ until, others }) {
+// Until when a request waits for a second name, who asked for the same before a return changed, and
+// what others asked for in its place.
+function waitsFor({ until, others, too_early: early = [] }) {
   const titles = { draw: T.draw_title, certify: T.certify_title, reopen: T.reopen_title, vacate: T.vacate_title };
   const more = others.map(({ name, act, body }) => T.other_waits({ name, act: titles[act], said: saidOf(read(body)) }));
-  return [T.waits_for_name({ until: moment(new Date(until)) }), ...more].join(" ");
+  const ended = early.map(({ name, time }) => T.too_early({ name, time: moment(new Date(time)) }));
+  return [T.waits_for_name({ until: moment(new Date(until)) }), ...ended, ...more].join(" ");
 }
 
 // What has the focus loses it while it is disabled, and has it again afterwards.

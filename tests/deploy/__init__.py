@@ -28,8 +28,8 @@ addresses of its own (127.0.0.0/8).
   test_weights, test_country, test_templates, test_names, test_published_of_one_moment,
   test_another_column, test_first_screen, test_pages_of_an_evening, test_places, test_languages,
   test_functions_of_the_pages. In a browser: test_shown_pages, test_renewed_pages, test_pictures.
-- The published data: test_data, test_station_files, test_published, test_feed, test_site_openapi,
-  test_export.
+- The published data: test_data, test_station_files, test_published, test_changed_files, test_feed,
+  test_site_openapi, test_export.
 - The clerks' page: test_clerks_page, test_clerk_page, test_slips, test_typed_slips,
   test_keys_of_entries, test_second_entry, test_functions_of_the_page.
 - The audit: test_audit_rule, test_audit_commands, test_audit_at_its_limits.

@@ -4,10 +4,10 @@ would obey."""
 import base64
 import json
 import os
-import subprocess
 from datetime import datetime
 from pathlib import Path
 
+from tests.support import tools
 from tests.support.case import needs
 from tests.support.desks import recording_desk
 from tests.support.office import with_stations
@@ -30,7 +30,7 @@ def hash_of_line(line):
 
 def entries(record, *words):
     """The status of entries, and its lines."""
-    done = subprocess.run(
+    done = tools.run(
         [DEPLOY / "entries", "setup.toml", *words],
         input=record,
         capture_output=True,
@@ -168,10 +168,22 @@ class Entries(SiteCase):
         os.mkfifo("pipe.csv")
         for words in (["entries", "setup.toml"], ["replay", "--check"]):
             with self.subTest(words=words):
-                done = subprocess.run([DEPLOY / words[0], *words[1:], "--shown", "pipe.csv"],
-                                      input=record, capture_output=True, timeout=PATIENCE)
+                done = tools.run([DEPLOY / words[0], *words[1:], "--shown", "pipe.csv"],
+                                 input=record, capture_output=True, timeout=PATIENCE)
                 self.assertEqual((done.returncode, done.stdout), (2, b""))
                 self.assertIn(b"it is no file", done.stderr)
+        # Nor does root follow a link, or read a file without an end.
+        os.symlink("record.csv", "link.csv")
+        Path("long.csv").write_bytes(b"time,lines,sha256\n")
+        os.truncate("long.csv", (64 << 20) + 1)
+        for file, said in (("link.csv", b"symbolic links"),
+                           ("long.csv", b"more than 67108864 bytes")):
+            for words in (["entries", "setup.toml"], ["replay", "--check"]):
+                with self.subTest(file=file, words=words):
+                    done = tools.run([DEPLOY / words[0], *words[1:], "--shown", file],
+                                     input=record, capture_output=True, timeout=PATIENCE)
+                    self.assertEqual((done.returncode, done.stdout), (2, b""))
+                    self.assertIn(said, done.stderr)
 
 
 class Shown(Safeguards):

@@ -7,7 +7,7 @@ import tomllib
 from pathlib import Path
 
 from tests.support import pictures
-from tests.support.browser import browser
+from tests.support.browser import tab
 from tests.support.case import ROOT, Case, needs
 from tests.support.clerks import said
 from tests.support.countries import count_four, setup_of_four
@@ -88,7 +88,7 @@ class AnotherColumn(Case):
         published(office, "pages")
         done(office, "/station/s1/lodge",
              {"slip": "p1", "votes": [100, 100], "blank": 0, "spoiled": 0})
-        with browser(Path.cwd()) as it:
+        with tab() as it:
             with pictures.clerks_site(office, "clara", "clerk") as address:
                 it.open(address)
                 said(it, "This is what the office has now.")

@@ -283,7 +283,7 @@ class AuditCommands(Case):
 
         def planned():
             ran, took = spent(lambda: audit("plan", "--setup", "setup.json", "--risk", 5,
-                                            "--returns", *files))
+                                            "--returns", *files, run=subprocess.run))
             self.assertEqual((ran.status, ran.err), (0, ""))
             self.assertEqual((ran.out.count("1,154 stations, all closed"),
                               ran.out.count("where no paper differs: ")), (52, 52))

@@ -16,7 +16,7 @@ from pathlib import Path
 
 from tests.support.case import PROGRAM, ROOT
 from tests.support.office import SETUP, with_stations
-from tests.support.record import LODGED, replayed
+from tests.support.record import LODGED, chained, replayed
 from tests.support.recorder import command, recorder_alone
 from tests.support.running import PATIENCE, free_port, until
 from tests.support.scripts import loaded
@@ -147,7 +147,7 @@ class Backup(SiteCase):
 
             script.shutil.copyfile = copyfile
             try:
-                moment = script.copy_both(Path("office.db"), Path("copy.db"))
+                moment, _ = script.copy_both(Path("office.db"), Path("copy.db"))
             finally:
                 script.shutil.copyfile = copy_file
             self.assertEqual(copied, ["office.db", "office.db-wal"] * 3)
@@ -263,6 +263,67 @@ class Backup(SiteCase):
         status, out, said = backup("office.db", "copies")
         self.assertEqual((status, out.split()[1:], said), (0, ["is", "the", "same", "already"], ""))
 
+    def test_the_lines_in_the_name_of_a_copy(self):
+        """How many whole lines the record had, which are counted when the database is copied and
+        before its log is. Without a record, and with one that cannot be read, there are none."""
+        shutil.copy(ROOT / "examples/montehondo.db", "office.db")
+        Path("commands.log").write_bytes(b"one\ntwo\nthree\nfou")
+        script = loaded("backup")
+        lines = script.Lines(Path("commands.log"))
+        with open("commands.log", "ab") as it:
+            it.write(b"r\n")
+        copy, _ = script.back_up(Path("office.db"), Path("copies"), lines)
+        self.assertRegex(copy.name, r"^office-\d{8}T\d{6}Z-00000004\.db$")
+        self.assertEqual(backup("office.db", "copies", "commands.log"),
+                         (0, f"{copy} is the same already\n", ""))
+        status, _, said = backup("office.db", "others", "missing.log")
+        self.assertEqual((status, said), (0, ""))
+        self.assertRegex(os.listdir("others")[0], r"^office-\d{8}T\d{6}Z-00000000\.db$")
+        Path("folder").mkdir()
+        status, out, said = backup("office.db", "more", "folder")
+        self.assertEqual((status, out.splitlines()[-1]), (1, "montehondo agrees"))
+        self.assertIn("backup: folder: ", said)
+        self.assertRegex(os.listdir("more")[0], r"^office-\d{8}T\d{6}Z\.db$")
+        # The user of the record has put a pipe in its place: nobody waits for it.
+        os.mkfifo("pipe")
+        status, out, said = backup("office.db", "last", "pipe")
+        self.assertEqual((status, out.splitlines()[-1]), (1, "montehondo agrees"))
+        self.assertIn("backup: pipe: it is no file", said)
+        self.assertEqual(backup("office.db")[0], 2)
+
+    def test_what_came_after_a_copy_when_the_clock_was_put_back(self):
+        """The copy is of 21:08, and the clock was put back by five minutes in a pause: no line has
+        an earlier time than the one before it, and what came at 21:05 is sent, by its line."""
+        with serving(with_stations(3)) as desk, recorder_alone(desk.port):
+            self.assertEqual(command("/station/s1/lodge", json.dumps(LODGED).encode()), 200)
+            status, out, said = backup("office.db", "copies", "commands.log")
+            self.assertEqual((status, said), (0, ""))
+            [copy] = Path("copies").iterdir()
+            for n in (2, 3):
+                self.assertEqual(command(f"/station/s{n}/lodge", json.dumps(LODGED).encode()), 200)
+        lines = Path("commands.log").read_bytes().splitlines()
+        entries = [{key: value for key, value in json.loads(line).items() if key not in
+                    ("n", "before")} for line in lines]
+        own = int(re.fullmatch(r".*-(\d{8})\.db", copy.name)[1])
+        moments = ("21:00", "21:05", "21:09")
+        for n, entry in enumerate(entries):
+            entry["time"] = f"2026-11-26T{moments[(n - len(lines) + 6) // 2]}:00.000+00:00"
+        self.assertEqual(own, len(lines) - 4)
+        for words, sent in ((["--after", str(own)], "sent 2, to look at 0;"),
+                            (["--since", "2026-11-26T21:08:00+00:00"], "sent 1, to look at 1;")):
+            again = Office(shutil.copy(copy, "again.db"), free_port())
+            again.start()
+            try:
+                status, said = replayed(again.port, chained(*entries), *words)
+            finally:
+                again.end()
+            self.assertIn(sent, said)
+            self.assertEqual((status, rows("again.db") == rows("office.db")),
+                             (0, True) if words[0] == "--after" else (1, False), said)
+        self.assertIn(f"left out by their time: 2 that were done. The answer to the last is line "
+                      f"{len(lines) - 2}, of 2026-11-26T21:05:00.000+00:00: does the copy have it?",
+                      said)
+
     def test_a_copy_and_what_came_after_it(self):
         """A command that is done while the copy is looked at, which takes a while, is sent after
         it from the record: nothing is lost between them."""
@@ -282,17 +343,22 @@ class Backup(SiteCase):
                     time.sleep(0.2)
 
             script.take_log = slow
-            copy, _ = script.back_up(Path("office.db"), Path("copies"))
+            copy, _ = script.back_up(Path("office.db"), Path("copies"),
+                                     script.Lines(Path("commands.log")))
             for n in range(16, 21):
                 lodge(n)
-        again = Office(shutil.copy(copy, "again.db"), free_port())
-        again.start()
-        try:
-            status, said = replayed(
-                again.port, Path("commands.log").read_bytes(), "--since",
-                datetime.strptime(copy.name, "office-%Y%m%dT%H%M%SZ.db").isoformat() + "+00:00")
-            self.assertEqual(status, 0, said)
-            self.assertTrue(15 <= int(said.split()[1].strip(",")) < 21, said)
-        finally:
-            again.end()
-        self.assertEqual(rows("again.db"), rows("office.db"))
+        moment = datetime.strptime(copy.name[:23], "office-%Y%m%dT%H%M%SZ").isoformat() + "+00:00"
+        for words, least in ((["--since", moment], 15), (["--after", copy.stem[-8:]], 15)):
+            again = Office(shutil.copy(copy, "again.db"), free_port())
+            again.start()
+            try:
+                status, said = replayed(again.port, Path("commands.log").read_bytes(), *words)
+                found = re.search("^sent ([0-9]+), to look at ([0-9]+);", said, re.M)
+                # By the time of a second some may be sent that the copy has; by the line, none.
+                self.assertTrue(least <= int(found[1]) < (21 if words[0] == "--since" else 16),
+                                said)
+                left_out = int(words[0] == "--since" and "left out by their time: " in said)
+                self.assertEqual((status, int(found[2])), (left_out, left_out), said)
+            finally:
+                again.end()
+            self.assertEqual(rows("again.db"), rows("office.db"))

@@ -4,9 +4,9 @@ import contextlib
 import json
 import os
 import stat
-import subprocess
 from pathlib import Path
 
+from tests.support import tools
 from tests.support.case import needs
 from tests.support.clerks import choose_station, clerks_browser
 from tests.support.desks import modelled, recording_desk
@@ -183,7 +183,7 @@ class Page(Safeguards):
 
 class Names(Safeguards):
     def password(self, *words, folder="names"):
-        done = subprocess.run(
+        done = tools.run(
             [DEPLOY / "password", *words], capture_output=True, text=True, timeout=PATIENCE,
             env={**os.environ, "PASSWORDS": folder, "SETUP": "setup.toml"})
         return done.returncode, done.stdout, done.stderr

@@ -9,14 +9,24 @@ import hashlib
 import io
 import os
 import sys
+from datetime import datetime
 from pathlib import Path
 from unittest import mock
 
 from tests.support.case import Case
 from tests.support.scripts import loaded
 
-COPY, LATER = "office-20261126T221400Z.db", "office-20261126T222400Z.db"
+# The first as an older package names it.
+COPY, LATER = "office-20261126T221400Z.db", "office-20261126T222400Z-00001234.db"
 RECORD = "commands-20261126T220000Z.log"
+
+
+class Moment(datetime):
+    """The moment of a test."""
+
+    @classmethod
+    def now(cls, tz=None):
+        return cls(2026, 11, 26, 22, 14, 0, 500, tz)
 
 
 def contents(folder):
@@ -99,6 +109,37 @@ class Copies(Case):
             1, f"send-copies: {COPY} that is kept there is another one\n", ["list"]))
         self.assertEqual(contents("kept"), kept)
 
+    def test_the_name_of_a_new_record(self):
+        """It is later than those that are kept, also where the clock was put back since a trial;
+        a name that no moment is later than, which somebody gave, is named."""
+        Path("commands.log").write_bytes(b"one\n")
+        for trial, name in (("commands-21000101T000000Z.log", "commands-21000101T000001Z.log"),
+                            ("commands-99991231T235958Z.log", "commands-99991231T235959Z.log")):
+            with self.subTest(trial=trial):
+                Path("kept", trial).write_bytes(b"a trial\n")
+                self.assertEqual(self.sends(), (
+                    0, f"send-copies: {trial} that is kept there is ahead of the clock; the new "
+                    f"record is {name}\n", ["list", f"add {name} 4"]))
+                self.assertEqual(self.sends(), (0, "", ["list"]))
+                Path("kept", name).unlink()
+        for last in ("commands-99991231T235959Z.log", "commands-99999999T999999Z.log"):
+            with self.subTest(last=last):
+                Path("kept", last).write_bytes(b"forged\n")
+                status, said, asked = self.sends()
+                name = asked[1].split()[1]
+                self.assertRegex(name, r"^commands-20\d{6}T\d{6}Z\.log$")
+                self.assertEqual((status, said), (
+                    1, f"send-copies: {last} that is kept there is ahead of the clock; the new "
+                    f"record is {name}, which is not the last one by its name\n"))
+                Path("kept", name).unlink()
+        # Of the same second: the next one.
+        names = loaded("send-copies").name_of_new
+        with mock.patch.dict(names.__globals__, datetime=Moment):
+            self.assertEqual(names({"commands-20261126T221400Z.log": 1, LATER: 1}),
+                             ("commands-20261126T221401Z.log", None))
+            self.assertEqual(names({"commands-20261126T221359Z.log": 1}),
+                             ("commands-20261126T221400Z.log", None))
+
     def test_what_the_key_cannot_do(self):
         """Overwrite, shorten, remove, rename, read or run anything."""
         Path("kept", COPY).write_bytes(b"a copy")
@@ -116,6 +157,9 @@ class Copies(Case):
             (f"add ../kept/{COPY} 6", b"forged"), (f"add {COPY}\n 6", b"forged"),
             (f"add /{COPY} 6", b"forged"), ("add .part-1 6", b"forged"),
             ("add office-20261126T221400Z.db.new 6", b"forged"), ("add keep-copies 6", b"forged"),
+            ("add office-20261126T221400Z-.db 6", b"forged"),
+            ("add office-20261126T221400Z-1-2.db 6", b"forged"),
+            ("add office-20261126T221400Z-1234/../x.db 6", b"forged"),
             # Digits of other scripts, which any list by name has after the others.
             (f"add {LATER} 6".replace("2", "\uff12"), b"forged"),
             (f"add {LATER} \uff16", b"forged"),

@@ -1,18 +1,25 @@
 """A copy of an office's database, and the record of its commands: lots, vacancies, a setup, and a
 part of the copy that somebody put back."""
 
+import contextlib
 import json
-import subprocess
+import re
+import shutil
+import sqlite3
 import sys
 from pathlib import Path
 
+from tests.support import tools
 from tests.support.case import ROOT
 from tests.support.papers import (
     COPY, DRAWN, OfPapers, copy_of, done, paper, papers, recorded, setup_with,
 )
 from tests.support.record import chained
 from tests.support.running import PATIENCE
+from tests.support.scripts import module
 from tests.support.site import DEPLOY, EXAMPLES
+
+hash_of_file = module("chain").hash_of_file
 
 CON = "/con/montehondo"
 NEVER = "and no acts of this record left it so"
@@ -39,20 +46,27 @@ class CopyAndRecord(OfPapers):
         super().setUp()
         Path("setup.toml").write_text(EXAMPLES, encoding="utf-8")
 
-    def entries(self, said=()):
-        """`entries` says these lines of the copy and the record, and one that counts them."""
+    def entries(self, said=(), lacks=None):
+        """`entries` says these lines of the copy and the record, and one that counts them; of an
+        older copy it remarks from which line on it lacks what was done, and what it has."""
         with open("commands.log", "rb") as record:
-            ran = subprocess.run([DEPLOY / "entries", "setup.toml", "--office", COPY],
-                                 stdin=record, capture_output=True, text=True, timeout=PATIENCE)
+            ran = tools.run([DEPLOY / "entries", "setup.toml", "--office", COPY],
+                            stdin=record, capture_output=True, text=True, timeout=PATIENCE)
         *lines, last = ran.stdout.splitlines() or [""]
+        remarks = [line for line in lines if line.startswith("remark: ")]
+        self.assertEqual([re.sub(r" \(2026-11-26T22:14:\d\d\.000\+00:00\)", "", one)
+                          for one in remarks],
+                         [f"remark: the copy lacks what was done from line {lacks[0]} of the "
+                          f"record on: it has {lacks[1]}"] if lacks else [])
+        lines = [line for line in lines if line not in remarks]
         self.assertEqual((lines, ran.stderr), (list(said), ""))
         self.assertIn(f"to look at {len(lines)}", last)
         self.assertEqual(ran.returncode, bool(lines))
 
     def assert_counted_again(self):
         """The seats of the copy are those of its votes and its lot: the recount finds no fault."""
-        ran = subprocess.run([sys.executable, ROOT / "examples/recount.py", COPY],
-                             capture_output=True, text=True, timeout=PATIENCE)
+        ran = tools.run([sys.executable, ROOT / "examples/recount.py", COPY],
+                        capture_output=True, text=True, timeout=PATIENCE)
         self.assertEqual(ran.stdout, "montehondo agrees\n")
 
     def test_a_lot_that_nobody_recorded(self):
@@ -65,7 +79,7 @@ class CopyAndRecord(OfPapers):
         for edition in (1, 2):
             copy_of(*DRAWN, f"UPDATE cons SET edition = {edition}, certified = 0",
                     "DELETE FROM seats", *["DELETE FROM lots"] * (edition == 1))
-            self.entries()
+            self.entries(lacks=(60 + 2 * edition, f"montehondo at edition {edition}"))
         copy_of(*TURNED)
         self.assert_counted_again()
         self.entries([f"montehondo: the office has the lot ROBLE, ENCINA, {NEVER}"])
@@ -73,13 +87,15 @@ class CopyAndRecord(OfPapers):
                      "--record", "commands.log")
         copy_of(*DRAWN, "UPDATE cons SET edition = 2, certified = 0", "DELETE FROM seats",
                 "DELETE FROM lots")
-        self.entries([f"montehondo: the office has no lot, {NEVER}"])
+        self.entries([f"montehondo: the office has no lot, {NEVER}"],
+                     lacks=(64, "montehondo at edition 2"))
 
     def test_a_query_removes_the_lot(self):
         """After it the constituency has none, until there is another draw."""
         query = done("clara", "/station/01-001-A/query", {"rev": 2, "note": "smudged"})
         after = ["DELETE FROM seats", "UPDATE cons SET edition = 2, certified = 0",
-                 "UPDATE returns SET rev = 3, status = 2 WHERE station = '01-001-A'"]
+                 "UPDATE returns SET rev = 3, status = 2, note = 'smudged' "
+                 "WHERE station = '01-001-A'"]
         copy_of(*DRAWN)
         recorded_instead(berta("draw", edition=1, order=["ENCINA", "ROBLE"]), query)
         copy_of(*DRAWN, *after, "DELETE FROM lots")
@@ -100,12 +116,16 @@ class CopyAndRecord(OfPapers):
             done("bruno", f"/station/{station}/close", {"rev": 4}),
             berta("certify", edition=3))
         past = "INSERT INTO past SELECT con, 2, list, n FROM seats"
-        for edition, certified in ((1, 0), (2, 1), (3, 0)):
+        # The whole office as it was before is named as what it is: an older copy, or one put back.
+        for edition, certified, note, *lacks in (
+                (1, 0, "", 62, "montehondo at edition 1"),
+                (2, 1, "", 64, "montehondo at edition 2"),
+                (3, 0, "recount", 66, f"{station} at revision 2")):
             with self.subTest(edition=edition):
                 copy_of(*[past] * (edition > 2), "UPDATE cons SET edition = "
-                        f"{edition}, certified = {certified}")
-                self.entries()
-        copy_of(past, "UPDATE cons SET edition = 4")
+                        f"{edition}, certified = {certified}, note = '{note}'")
+                self.entries(lacks=lacks)
+        copy_of(past, "UPDATE cons SET edition = 4, note = 'recount'")
         self.assert_counted_again()
         # 15 returns have four lines each. Then the query is answered in line 66, and the second
         # certificate in line 72.
@@ -133,15 +153,88 @@ class CopyAndRecord(OfPapers):
                 self.entries()
         gone(4, "HAYA")
         self.entries(["montehondo: a holder is gone, list SAUCE, place 1, by no act of this "
-                      "record"])
+                      "record"], lacks=(64, "montehondo, list HAYA, place 1, not gone"))
+        # Without its row the holder is as before the vacancy, which was the last act.
+        copy_of()
+        self.entries(lacks=(64, "montehondo, list HAYA, place 1, not gone"))
         # The vacancy is in the record, and an act after it is in the copy: only its row is not.
         copy_of("INSERT INTO past SELECT con, 2, list, n FROM seats",
-                "UPDATE cons SET edition = 3, certified = 0", "DELETE FROM seats")
+                "UPDATE cons SET edition = 3, certified = 0, note = 'recount'",
+                "DELETE FROM seats")
         recorded(also=[berta("vacate", list="HAYA", place=1, note="died"),
                        berta("reopen", edition=2, note="recount")])
         self.entries(["the office has montehondo, list HAYA, place 1, not gone, as it was before "
                       "line 64 of the record, and montehondo at edition 3, as it was from line 66 "
                       "on: it never had both"])
+
+    def test_a_withdrawn_certificate(self):
+        """Nothing else in a copy says what it was. Without it those who were gone before the
+        certificate in force would be proclaimed."""
+        recorded_twice = [
+            "INSERT INTO past SELECT con, 2, list, n FROM seats",
+            "UPDATE cons SET edition = 4, note = 'recount'",
+            "INSERT INTO gone VALUES ('montehondo', 3, 1, 'died')"]
+        copy_of(*recorded_twice)
+        recorded(also=[berta("vacate", list="HAYA", place=1, note="died"),
+                       berta("reopen", edition=2, note="recount"), berta("certify", edition=3)])
+        self.entries()
+        papers("proclamation", COPY, "whole", "--record", "commands.log")
+        self.assertIn(["8", "Lista del Haya", "2", "Julián Prado"],
+                      paper("whole", "act-proclamation-*").rows)
+        other = "with other seats than the acts of this record gave"
+        for statement, said in (
+                ("DELETE FROM past", "lacks the withdrawn certificate of edition 2"),
+                ("UPDATE past SET n = 7 - n WHERE list < 3",
+                 f"has a withdrawn certificate of edition 2 {other}"),
+                ("INSERT INTO past SELECT con, 3, list, n FROM seats",
+                 "has a withdrawn certificate of edition 3, by no acts of this record")):
+            with self.subTest(statement=statement):
+                copy_of(*recorded_twice, statement)
+                self.assert_counted_again()
+                self.entries([f"montehondo: the office {said}"])
+                self.refuses("the record says something else of montehondo than the copy", "acts",
+                             "--record", "commands.log")
+        # The record has not the return of a station: what the certificate gave is not known.
+        copy_of(*recorded_twice, "UPDATE past SET n = 7 - n WHERE list < 3")
+        lines = [json.loads(line) for line in Path("commands.log").read_bytes().splitlines()]
+        entries = [{key: one[key] for key in one if key not in ("n", "before", "time")}
+                   for one in lines[4:]]
+        Path("commands.log").write_bytes(chained(*(
+            one | {"to": number} if "status" in one else one
+            for number, one in enumerate(entries))))
+        self.entries(["01-001-A: the office has it at revision 2, and no acts of this record left "
+                      "it so"])
+
+    def test_notes(self):
+        """Of a query, a reopening and a vacancy: each as the record has it, the last one."""
+        copy_of("INSERT INTO past SELECT con, 2, list, n FROM seats",
+                "UPDATE cons SET edition = 4, note = 'recount'",
+                "UPDATE returns SET rev = 5, note = 'HAYA?' WHERE station = '04-002-A'",
+                "INSERT INTO gone VALUES ('montehondo', 3, 1, 'died')")
+        same = {"slip": "r214", "votes": [40, 40, 20, 0, 0], "blank": 0, "spoiled": 0}
+        recorded(also=[
+            berta("vacate", list="HAYA", place=1, note="died"),
+            berta("reopen", edition=2, note="recount"),
+            done("clara", "/station/04-002-A/query", {"rev": 2, "note": "HAYA?"}),
+            done("clara", "/station/04-002-A/correct", {"rev": 3, **same}),
+            done("bruno", "/station/04-002-A/close", {"rev": 4}), berta("certify", edition=3)])
+        self.entries()
+        papers("acts", COPY, "acts", "--record", "commands.log")
+        for table, where, what, note in (
+                ("returns", "station = '04-002-A'", "04-002-A", "HAYA?"),
+                ("returns", "station = '04-001-A'", "04-001-A", ""),
+                ("cons", "con = 'montehondo'", "montehondo", "recount"),
+                ("gone", "list = 3", "montehondo, list HAYA, place 1", "died")):
+            with self.subTest(what=what):
+                shutil.copyfile(COPY, "kept.db")
+                with contextlib.closing(sqlite3.connect(COPY)) as it:
+                    it.execute(f"UPDATE {table} SET note = 'sold' WHERE {where}")
+                    it.commit()
+                self.entries([f"{what}: the office has the note 'sold', and this record {note!r}"])
+                if table == "gone":
+                    self.refuses("the record says something else of montehondo than the copy",
+                                 "acts", "--record", "commands.log")
+                shutil.copyfile("kept.db", COPY)
 
     def test_an_office_of_another_setup(self):
         """A comment is no other setup; a rule, the seats, a candidate, a station are."""
@@ -155,6 +248,20 @@ class CopyAndRecord(OfPapers):
                               "stations, than the setup"])
         copy_of(setup_with("seats = 9", "seats = 9  # as decreed"))
         self.entries()
+
+    def test_a_setup_that_was_exchanged_with_the_office(self):
+        """A record says of which setup it is: two candidates changed places in all else."""
+        old, new = '"Aurora Peral", "Bruno Salcedo"', '"Bruno Salcedo", "Aurora Peral"'
+        tools.run([DEPLOY / "setup-json", "setup.toml", "."], check=True, capture_output=True)
+        digest = hash_of_file("setup.json")
+        copy_of()
+        recorded(setup=digest)
+        self.entries()
+        copy_of(setup_with(old, new))
+        recorded(setup=digest)
+        Path("setup.toml").write_text(EXAMPLES.replace(old, new), encoding="utf-8")
+        self.assert_counted_again()
+        self.entries([f"the record is of another setup, whose SHA-256 is {digest}"])
 
     def test_acts_of_the_board_that_the_record_lacks(self):
         """The papers say so: here of the certificate, of a return that was corrected, and of a

@@ -271,7 +271,7 @@ class Country(SiteCase):
             order = sorted(range(5), key=lambda n: -votes[n])
             self.assertEqual([int(row[1].replace(",", ""))
                               for row in page_of(f"con-{con}.html").tables["Votes of each list"][
-                                  1:]], [votes[n] for n in order])
+                                  1:]], [votes[n] for n in order] + [blank])
             self.assertEqual(
                 [row[1] for row in page_of(f"con-{con}.html").tables["Seats of each list"][1:-1]],
                 [str(found["seats"][n]) for n in order])

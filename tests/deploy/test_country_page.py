@@ -290,7 +290,7 @@ class CountryPage(SiteCase):
         self.assertEqual(page_of("con-norte.html").tables["Votes of each list"], [
             ["List", "votes", "share change", "takes part"],
             ["A Alpha", "100", "50.00% +30.00", "yes"], ["B Beta", "90", "45.00% +15.00", "yes"],
-            ["C Gamma", "5", "2.50% +2.50", "yes"]])
+            ["C Gamma", "5", "2.50% +2.50", "yes"], ["Blank votes", "5", "2.50%", "–"]])
         self.assertEqual(
             page_of("con-norte.html").tables["Seats of each list"][1:],
             [["A Alpha", "2 ±0"], ["B Beta", "1 ±0"], ["C Gamma", "0 ±0"], ["Total", "3"]])

@@ -178,8 +178,9 @@ class Data(SiteCase):
     def test_names_that_a_spreadsheet_would_compute(self):
         """In the CSV files, and nowhere else, they have an apostrophe in front; the package says
         so."""
-        names = ["=HYPERLINK(A1)", "+1", "-2+3", "@SUM(1)", "'= 1", "a=b"]
-        shown = ["'=HYPERLINK(A1)", "'+1", "'-2+3", "'@SUM(1)", "'= 1", "a=b"]
+        names = ["=HYPERLINK(A1)", "+1", "-2+3", "@SUM(1)", "'= 1", "a=b", "＝1", "＠A1"]
+        shown = ["'=HYPERLINK(A1)", "'+1", "'-2+3", "'@SUM(1)", "'= 1", "a=b",
+                 "'＝1", "'＠A1"]
         setup = profile("d0") + constituency("c1", "=1+1", 1, "d0") + station("s1", 9) + "".join(
             party_list(f"L{n}", name, "Ana") for n, name in enumerate(names))
         Path("setup.toml").write_text(setup, encoding="utf-8")

@@ -2,9 +2,9 @@
 
 import os
 import signal
-import subprocess
 from pathlib import Path
 
+from tests.support import tools
 from tests.support.case import needs
 from tests.support.clerks import SLIP, TWICE, office_with_a_second
 from tests.support.record import a_command, chained
@@ -45,10 +45,10 @@ class Entries(SiteCase):
     def entries(self, record, setup=TWICE):
         """The output of the tool for a record, which is given as bytes or as commands."""
         Path("entries.toml").write_text(setup, encoding="utf-8")
-        done = subprocess.run([DEPLOY / "entries", "entries.toml"],
-                              input=record if isinstance(record, bytes) else record_of(record),
-                              capture_output=True, timeout=PATIENCE,
-                              env={**os.environ, "PYTHONIOENCODING": "utf-8:strict"})
+        done = tools.run([DEPLOY / "entries", "entries.toml"],
+                         input=record if isinstance(record, bytes) else record_of(record),
+                         capture_output=True, timeout=PATIENCE,
+                         env={**os.environ, "PYTHONIOENCODING": "utf-8:strict"})
         self.assertEqual(done.stderr, b"")
         return done.returncode, done.stdout.decode().splitlines()
 

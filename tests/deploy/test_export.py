@@ -14,7 +14,6 @@ import re
 import resource
 import shutil
 import string
-import subprocess
 import sys
 import tempfile
 import tomllib
@@ -23,6 +22,7 @@ from datetime import date
 from pathlib import Path
 from unittest import mock
 
+from tests.support import tools
 from tests.support.case import ROOT, Case
 from tests.support.desks import done, modelled
 from tests.support.office import PROFILE, constituency, party_list, station
@@ -81,8 +81,8 @@ def export(*words, status=0, pages="pages", folder="out", language="C.UTF-8"):
 
 def ran(*words, **how):
     """Runs the tool as a command."""
-    return subprocess.run([DEPLOY / "export", *words], capture_output=True, text=True,
-                          timeout=PATIENCE, check=False, **how)
+    return tools.run([DEPLOY / "export", *words], capture_output=True, text=True,
+                     timeout=PATIENCE, check=False, **how)
 
 
 @functools.cache

@@ -11,13 +11,19 @@ import subprocess
 import sys
 import threading
 import time
+import tomllib
 from datetime import date
 from pathlib import Path
 from unittest import mock
 
+from tests.support import tools
 from tests.support.case import ROOT, Case
+from tests.support.office import PROFILE
 from tests.support.running import PATIENCE
 from tests.support.scripts import loaded, module
+from tests.support.setups import (
+    CODES, CONSTITUENCIES, EDITS, EXAMPLE, GOOD_PROFILE, STATION, TEXTS, cases_of,
+)
 from tests.support.site import DEPLOY
 
 COPY, SETUP = ROOT / "examples/montehondo.db", ROOT / "examples/setup.toml"
@@ -26,8 +32,8 @@ COPY, SETUP = ROOT / "examples/montehondo.db", ROOT / "examples/setup.toml"
 def tool(name, *words):
     """Status, output and errors of a tool, with an empty standard input."""
     file = ROOT / "examples" / name if name == "recount.py" else DEPLOY / name
-    done = subprocess.run([sys.executable, file, *map(str, words)], input="", text=True,
-                          capture_output=True, timeout=PATIENCE)
+    done = tools.run([sys.executable, file, *map(str, words)], input="", text=True,
+                     capture_output=True, timeout=PATIENCE)
     return done.returncode, done.stdout, done.stderr
 
 
@@ -49,6 +55,63 @@ class ValuesOfAnotherKind(Case):
                 self.assertTrue(said.startswith("failed: setup.toml: "), said)
                 self.assertEqual(os.listdir("."), ["setup.toml"])
 
+    def test_the_faults_of_a_setup_are_those_of_the_office(self):
+        """A setup that the office takes has none; another has its fault at the office's place."""
+        cases = [(EXAMPLE.replace(*edit.replace(" / ", "\n").split(" => "), 1), word)
+                 for edit, word in cases_of(EDITS)]
+        cases += [(EXAMPLE.replace('"c1"', f'"{code}"'), word) for code, word in cases_of(CODES)]
+        cases += cases_of(TEXTS)
+        cases += [(GOOD_PROFILE + text, word) for text, word in cases_of(CONSTITUENCIES)]
+        limits, seen = module("setup_limits"), set()
+        for text, word in cases:
+            with self.subTest(text=text, word=word):
+                kind, _, place = word.partition(" / at ")
+                kind, _, what = kind.partition(" ")
+                seen.add(kind)
+                if kind == "not_toml":
+                    self.assertRaises(tomllib.TOMLDecodeError, tomllib.loads, text)
+                    continue
+                fault = limits.first_fault(tomllib.loads(text), 200, sees_capitals=True)
+                if kind == "read":
+                    self.assertIsNone(fault)
+                    continue
+                first, _, other = place.partition("; first at ")
+                self.assertTrue(fault.startswith(f"{first or 'the setup'}: "), fault)
+                self.assertTrue(fault.endswith(f", first at {other}" if other else ""), fault)
+                self.assertIn("profile" if kind == "unknown_profile" else what, fault)
+        self.assertEqual(seen, {"read", "not_toml", "missing", "bad_value", "duplicate",
+                                "unknown_profile"})
+
+    def test_setup_json_refuses_what_the_office_refuses(self):
+        """The first fault, with its place; and nothing is written."""
+        cons = "".join(EXAMPLE.removeprefix(PROFILE).replace('"c1"', f'"c{n}"').replace(
+            '"s1"', f'"s{n}"') for n in range(201))
+        for text, said in (
+                (EXAMPLE.replace("seats = 3", "seats = 501"),
+                 "constituency 1 c1: seats is 501, and not a number from 1 to 500"),
+                (EXAMPLE.replace("threshold = 0", "threshold = -1"),
+                 "profile 1 d0: threshold is -1, and not a number from 0 to 10,000"),
+                (EXAMPLE.replace('["Bea"]', '["Bea", ""]'),
+                 "constituency 1 c1, list 2 B, candidate 2: candidates is '', and not a name of 1 "
+                 "to 80 bytes"),
+                (EXAMPLE.replace('"Bea"', '"Bea"' + ', "Bo"' * 1000),
+                 "constituency 1 c1, list 2 B: 1,001 of candidates, and 1,000 is the limit"),
+                (EXAMPLE + STATION, "constituency 1 c1, station 2: station s1 comes twice, first "
+                 "at constituency 1 c1, station 1 s1"),
+                (PROFILE + cons, "the setup: 201 of constituency, and 200 is the limit"),
+                (EXAMPLE.replace('"Alpha"', f'"{"x" * 10_000}"'), "constituency 1 c1, list 1 A: "
+                 f"name is '{'x' * 99}.., and not a name of 1 to 80 bytes"),
+                ((EXAMPLE + "#").ljust(8_388_609), "8,388,609 bytes, and 8,388,608 is the limit")):
+            with self.subTest(said=said):
+                Path("setup.toml").write_text(text, encoding="utf-8")
+                self.assertEqual(tool("setup-json", "setup.toml", ".", "codes.conf"),
+                                 (1, "", f"failed: setup.toml: {said}\n"))
+                self.assertEqual(os.listdir("."), ["setup.toml"])
+
+    def test_setup_json_takes_codes_that_differ_in_capitals_alone(self):
+        """As the office does: the proxy tells these apart by patterns."""
+        Path("setup.toml").write_text(EXAMPLE + STATION.replace("s1", "S1"), encoding="utf-8")
+        self.assertEqual(tool("setup-json", "setup.toml", ".", "codes.conf"), (0, "", ""))
 
     def test_a_file_that_goes_too_deep(self):
         """Each tool that reads it says so in a line."""

@@ -45,7 +45,8 @@ class FirstElection(SiteCase):
             ["ENCINA Lista de la Encina", "1,134", "32.67% −5.38", "yes"],
             ["HAYA Lista del Haya", "694", "19.99% +3.64", "yes"],
             ["SAUCE Lista del Sauce", "299", "8.61% +0.75", "yes"],
-            ["OLIVO Lista del Olivo", "65", "1.87% −0.02", "no"]])
+            ["OLIVO Lista del Olivo", "65", "1.87% −0.02", "no"],
+            ["Blank votes", "44", "1.27%", "–"]])
         self.assertEqual(page_of("con-montehondo.html").tables["Quotients of each list"][1:], [
             ["ROBLE", "1,235 ★ won", "617 ★ won", "411 ★ won", "308 ★ won", "247"],
             ["ENCINA", "1,134 ★ won", "567 ★ won", "378 ★ won", "283", "226"],

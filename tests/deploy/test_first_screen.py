@@ -290,7 +290,7 @@ class FirstScreen(SiteCase):
         with answering_desk(TWIN | results_of(first, second)) as (port, _):
             press(port, folder="pages")
             press(port, *site_folder(site=SPANISH), folder="es")
-        with browser.browser(Path.cwd()) as it:
+        with browser.tab() as it:
             for folder in ("pages", "es"):
                 for name in ("index", "con-c2", "count", "list-A", "embed"):
                     it.open((Path.cwd() / f"{folder}/{name}.html").as_uri())

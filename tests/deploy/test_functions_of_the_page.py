@@ -3,8 +3,6 @@
 The page is opened as a file, without an office.
 """
 
-from pathlib import Path
-
 from tests.support import browser
 from tests.support.case import Case, needs
 from tests.support.rounds import DEPLOY
@@ -111,7 +109,7 @@ class Functions(Case):
 
     @needs("chromium")
     def test_at_their_edges(self):
-        with browser.browser(Path.cwd()) as it:
+        with browser.tab() as it:
             it.open((DEPLOY / "www/clerk.html").as_uri())
             for status, said in STATUSES.items():
                 with self.subTest(status=status):
@@ -128,6 +126,11 @@ class Functions(Case):
             found = it.run(f"{KNOWN} return waitsFor(arguments[0])", waiting)
             self.assertIn("Waiting too, by simon: A holder leaves: A 2, ", found)
             self.assertIn("resigned", found)
+            self.assertNotIn("asked for the same before", found)
+            found = it.run(f"{KNOWN} return waitsFor(arguments[0])", waiting | {"too_early": [
+                {"name": "berta", "time": "2026-11-29T21:00:00+01:00"}]})
+            self.assertIn("berta asked for the same before (", found)
+            self.assertIn("have berta ask again", found)
             # The former result counts as long as less than three stations are closed.
             for closed, is_former in ((0, True), (2, True), (3, False), (4, False)):
                 with self.subTest(closed=closed):
@@ -158,7 +161,7 @@ class Functions(Case):
 
     @needs("chromium")
     def test_with_a_setup(self):
-        with browser.browser(Path.cwd()) as it:
+        with browser.tab() as it:
             it.open((DEPLOY / "www/clerk.html").as_uri())
             it.run(KNOWN)
             for votes, blank, spoiled, wanted in UNUSUAL:
@@ -206,7 +209,7 @@ class Functions(Case):
 
     @needs("chromium")
     def test_what_is_asked_for_and_shown(self):
-        with browser.browser(Path.cwd()) as it:
+        with browser.tab() as it:
             it.open((DEPLOY / "www/clerk.html").as_uri())
             it.run(KNOWN)
 
@@ -248,7 +251,7 @@ class Functions(Case):
 
     @needs("chromium")
     def test_keys_links_and_drafts(self):
-        with browser.browser(Path.cwd()) as it:
+        with browser.tab() as it:
             it.open((DEPLOY / "www/clerk.html").as_uri())
             it.run(KNOWN)
             # Who types on while the page stops for a difference types nothing, and the end of that

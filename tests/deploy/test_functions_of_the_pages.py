@@ -2,8 +2,11 @@
 names at their limit. No office is asked.
 """
 
+import contextlib
 import csv
 import gzip
+import io
+import json
 import math
 import os
 import re
@@ -251,9 +254,88 @@ class Files(Case):
                 found = data.resource_of(Path(name), {})
                 self.assertEqual((found["path"], found["schema"]["primaryKey"]), (name, key))
 
+    def test_names_that_a_spreadsheet_would_compute(self):
+        """Also after white space and what no reader sees, and in another width."""
+        for name in ("=1", "+1", "-1", "@A1", " =1", "\t=1", "\r=1", "\u00a0=1", " \u00a0\t-1",
+                     "\u3000+1", "\u200b@A1", "\ufeff=1", "\uff1d1", "\uff0b1", "\uff0d1",
+                     "\uff20A1", " \uff1d1", "\u00a0\uff0b1", "\ufe62" "1"):
+            with self.subTest(name=name):
+                self.assertEqual(data.in_a_cell(name), f"'{name}")
+        for name in ("", " ", "a=1", "A +1", " A", "\u00a0A", "'=1", "\u20131", "1-1", "(+1)"):
+            with self.subTest(name=name):
+                self.assertEqual(data.in_a_cell(name), name)
+
     def test_an_object_has_what_is_not_optional(self):
         found = data.an_object({"a": {}, "b": {}, "c": {}}, "b")
         self.assertEqual(found["required"], ["a", "c"])
+
+
+class Heads(Case):
+    """The file of the heads that were shown of the record of commands."""
+
+    COLUMNS, SEVEN, NINE = "time,lines,sha256\n", *(
+        f"2026-11-29T21:14:{n:02}.120+01:00,{n},{n:064x}\n" for n in (7, 9))
+
+    def put(self, text, head=None):
+        """The head of a round with this file of heads; and what is said on the error stream."""
+        Path("record.csv").write_bytes(text)
+        time, lines, code = self.NINE.rstrip().split(",")
+        good = json.dumps({"time": time, "n": int(lines), "hash": code})
+        Path("head").write_text(good if head is None else head, encoding="utf-8")
+        with contextlib.redirect_stderr(io.StringIO()) as said:
+            found = press.put_head(Path(), Path("head"))
+        return found, said.getvalue(), Path("record.csv").read_text(encoding="utf-8")
+
+    def test_a_file_that_is_spoiled(self):
+        """The heads that are whole stay, and the new one is in a line of its own: what is none is
+        left out, and named in that round alone."""
+        whole = self.COLUMNS + self.SEVEN
+        for name, text, kept, wrong in (
+                ("whole", whole, self.SEVEN, 0),
+                ("the same", whole + self.NINE, self.SEVEN, 0),
+                ("empty", "", "", 0), ("cut in the columns", "time,li", "", 1),
+                ("cut in the hash", whole + self.NINE[:-20], self.SEVEN, 1),
+                ("cut in the number", whole + self.NINE[:29], self.SEVEN, 1),
+                ("cut at the end of the line", whole + self.NINE[:-1], self.SEVEN, 1),
+                ("no columns", self.SEVEN, self.SEVEN, 0),
+                ("a line between", f"{self.COLUMNS}\x00\ufffd\n{self.SEVEN}", self.SEVEN, 1),
+                ("a quote that is open", whole + '"' + self.NINE, self.SEVEN, 1),
+                ("a field too long for a table", whole + "x" * 200_000 + "\n", self.SEVEN, 1)):
+            with self.subTest(name=name):
+                found, said, after = self.put(text.encode())
+                self.assertEqual(after, self.COLUMNS + kept + self.NINE)
+                self.assertEqual((found["n"], found["whole"]), (9, True))
+                self.assertEqual(said, f"failed: record.csv: {wrong} of its lines are no heads of "
+                                 "a record, and are left out\n" if wrong else "")
+                self.assertEqual(self.put(after.encode()), (found, "", after))
+
+    def test_a_file_of_rubbish(self):
+        for rubbish in (bytes(range(256)) * 9, b"\x00" * 9_000, b"\xff" * 9_000, b"[" * 100_000):
+            with self.subTest(rubbish=rubbish[:9]):
+                found, said, after = self.put(rubbish)
+                self.assertEqual((found["n"], after), (9, self.COLUMNS + self.NINE))
+                self.assertIn("are no heads of a record, and are left out", said)
+
+    def test_a_folder_in_the_place_of_the_file(self):
+        """It is the one that is named."""
+        Path("record.csv").mkdir()
+        Path("head").write_text('{"time": "x", "n": 9, "hash": "9"}', encoding="utf-8")
+        with contextlib.redirect_stderr(io.StringIO()) as said:
+            self.assertIsNone(press.put_head(Path(), Path("head")))
+        self.assertTrue(said.getvalue().startswith("failed: record.csv: "), said.getvalue())
+
+    def test_a_head_that_is_none(self):
+        """It is named, the file stays as it is, and the round goes on."""
+        before = self.COLUMNS + self.SEVEN
+        good = {"time": "2026-11-29T21:14:09.120+01:00", "n": 9, "hash": "9" * 64}
+        for head in ("", "[]", "{}", "null", "[" * 100_000, *(
+                json.dumps(good | other) for other in (
+                    {"n": "9"}, {"n": True}, {"n": -9}, {"n": 9.5}, {"hash": "x" * 64},
+                    {"hash": None}, {"time": "a,b"}, {"time": ""}))):
+            with self.subTest(head=head[:99]):
+                found, said, after = self.put(before.encode(), head)
+                self.assertEqual((found, after), (None, before))
+                self.assertTrue(said.startswith("failed: head: "), said)
 
 
 class Names(Case):

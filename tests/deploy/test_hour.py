@@ -54,6 +54,14 @@ class Hour(SiteCase):
                                second + 60, second + 10**9):
                     with self.subTest(moment=moment):
                         self.assertEqual(bool(re.match(pattern, f"{moment}.000")), moment < second)
+        # A fraction of a second is over before anything is public.
+        for fraction, last in ((".000000", "59"), (".000001", "00"), (".999999", "00")):
+            with self.subTest(fraction=fraction):
+                said = printed(DEPLOY / "embargo", f"2026-11-29T20:00:00{fraction}+00:00", "--past")
+                pattern = re.search('"~(.*)" office;', said)[1]
+                second = 1_795_982_400 - (last == "59")
+                self.assertEqual([bool(re.match(pattern, f"{second + more}.000"))
+                                  for more in (-1, 0, 1)], [True, True, False])
         self.assertEqual(printed(DEPLOY / "embargo", "now"),
                          (DEPLOY / "nginx/embargo.conf").read_text(encoding="utf-8"))
 

@@ -2,6 +2,7 @@
 
 import random
 import re
+from datetime import datetime
 
 from tests.support.case import Case
 from tests.support.scripts import loaded
@@ -26,3 +27,11 @@ class HoursAtRandom(Case):
             moments += [draw.randrange(10**9, 10**10) for _ in range(20)] + [hour]
             found = [moment for moment in moments if before.match(f"{moment}.000")]
             self.assertEqual(found, [moment for moment in moments if moment < hour], hour)
+
+    def test_an_hour_within_a_second(self):
+        """Nothing is public before it."""
+        hour = datetime.fromisoformat("2026-11-29T20:00:00.600+01:00")
+        before = re.compile(re.search('"~(.*)" office', embargo.conf(hour))[1])
+        second = int(hour.timestamp())
+        found = [at for at in (second - 1, second, second + 1) if before.match(f"{at}.599")]
+        self.assertEqual(found, [second - 1, second])

@@ -3,14 +3,13 @@ the page proposes of the next paper of a pile."""
 
 import json
 import random
-from pathlib import Path
 
 from tests.support import browser
 from tests.support.case import needs
 from tests.support.clerks import said
 from tests.support.desks import done
 from tests.support.typed_slips import (
-    ENTER, FIELD, TEXTS, VALUES, TypedCase, keys, place, setup_of,
+    ENTER, FIELD, TEXTS, VALUES, TypedCase, place, setup_of,
 )
 
 # Thirty stations of a town, two of each section.
@@ -51,7 +50,7 @@ def sent(it, language, words="lodged"):
 
 class KeysOfEntries(TypedCase):
     def choose(self, it, language, *pressed):
-        keys(it, *pressed, ENTER)
+        it.keys(*pressed, ENTER)
         said(it, TEXTS[language]["now"])
         self.assertEqual(it.run(FIELD), "slip")
 
@@ -61,7 +60,7 @@ class KeysOfEntries(TypedCase):
         station is proposed, and the last figure of the slip's code is enough. It takes at most 36
         keys on the average; the seconds are the model's."""
         office = self.published(setup_of(codes=STATIONS))
-        with browser.browser(Path.cwd()) as it, self.page(it, "en", office):
+        with browser.tab() as it, self.page(it, "en", office):
             it.run(COUNT)
             counts = []
             for number, (code, slip, figures) in enumerate(pile()):
@@ -69,7 +68,7 @@ class KeysOfEntries(TypedCase):
                 in_order = number > 1
                 self.choose(it, "en", "" if number else f"{section.lstrip('0')}{table.lower()}")
                 self.assertEqual(it.run("return shown.station"), code)
-                keys(it, slip[-1] if in_order else slip, ENTER, *typed(figures))
+                it.keys(slip[-1] if in_order else slip, ENTER, *typed(figures))
                 counts.append(it.run(PRESSED))
                 sent(it, "en")
             lodged = [json.loads(office.ask("GET", f"/station/{code}")[1]) for code in STATIONS]
@@ -91,13 +90,13 @@ class KeysOfEntries(TypedCase):
         way round."""
         names = f"station,name\n{STATIONS[1]},Escuela Ausiàs March\n"
         figures = typed(next(pile())[2])
-        with browser.browser(Path.cwd()) as it:
+        with browser.tab() as it:
             for language, texts in TEXTS.items():
                 office = self.published(setup_of(codes=STATIONS), stations=names)
                 with self.subTest(language=language), self.page(it, language, office):
                     self.assertEqual(it.run(PROPOSED), ["", "", ""])
                     self.choose(it, language, "1a")
-                    keys(it, "r108", ENTER, *figures)
+                    it.keys("r108", ENTER, *figures)
                     sent(it, language)
                     named = f"{STATIONS[1]}, Escuela Ausiàs March"
                     self.assertEqual(it.run(PROPOSED), [
@@ -108,24 +107,24 @@ class KeysOfEntries(TypedCase):
                     self.choose(it, language)
                     self.assertEqual((it.run(PROPOSED), it.run(f"{SLIP}.placeholder")),
                                      (["", STATIONS[1], ""], ""))
-                    keys(it, "r109", ENTER, *figures)
+                    it.keys("r109", ENTER, *figures)
                     sent(it, language)
                     # Who presses Enter too often is at the slip, and has typed nothing.
                     self.choose(it, language)
                     self.assertEqual(it.text("#lodge-help"),
                                      place(texts["slip_proposed"], slip="r110"))
-                    keys(it, ENTER * 5)
+                    it.keys(ENTER * 5)
                     self.assertEqual((it.run(FIELD), it.run(f"{SLIP}.validationMessage"),
                                       it.run(VALUES, "lodge")), ("slip", texts["slip_end"],
                                                                  [""] * 12))
                     self.ends(it, language)
-                    keys(it, "0", ENTER, *figures)
+                    it.keys("0", ENTER, *figures)
                     sent(it, language)
                     # Somebody else entered the next two, which the page knows of one.
                     for code in STATIONS[3:5]:
                         done(office, f"/station/{code}/lodge", {
                             "slip": code, "votes": [50] * 8, "blank": 0, "spoiled": 0})
-                    keys(it, ENTER)
+                    it.keys(ENTER)
                     said(it, texts["now"])
                     self.assertEqual((it.run("return shown.station"), it.run(FIELD),
                                       it.run(PROPOSED)[1:]), (STATIONS[3], "station",
@@ -143,11 +142,11 @@ class KeysOfEntries(TypedCase):
                           ("207", "r207"), ("r1100", "r1100"), ("x7", "x7"), ("4000", "4000")):
             with self.subTest(end=end):
                 it.run(f"{SLIP}.select()")
-                keys(it, end, ENTER)
+                it.keys(end, ENTER)
                 said(it, place(texts["slip_jumps"], slip=slip, proposed="r110",
                                station=STATIONS[2]))
                 self.assertEqual((it.run(value), it.run(FIELD)), (slip, "slip"))
-        keys(it, ENTER)
+        it.keys(ENTER)
         self.assertEqual(it.run("return document.activeElement.name"), "votes")
         it.run(f"{SLIP}.focus(); {SLIP}.select()".replace("return ", ""))
 
@@ -164,7 +163,7 @@ class KeysOfEntries(TypedCase):
                 # These are not numbered one after the other, or no more.
                 (("r108", "r110"), "", {}), (("r108", "s109"), "", {}), (("x", "y"), "", {}),
                 (("r1", "r2", "s3"), "", {}))
-        with browser.browser(Path.cwd()) as it, self.page(
+        with browser.tab() as it, self.page(
                 it, "en", self.published(setup_of(codes=STATIONS))):
             for slips, proposed, ends in rows:
                 with self.subTest(slips=slips):
@@ -181,13 +180,13 @@ class KeysOfEntries(TypedCase):
         for code, slip in (("15b", "r130"), ("15a", "r129")):
             self.choose(it, language, code)
             # The station was typed: the slip need not follow.
-            keys(it, slip, ENTER, *figures)
+            it.keys(slip, ENTER, *figures)
             sent(it, language)
         self.assertEqual(it.run(PROPOSED)[2], STATIONS[-3])
         self.choose(it, language)
         self.assertEqual(it.text("#lodge-help"),
                          place(texts["slip_proposed"], slip="r128"))
-        keys(it, "8", ENTER, *figures)
+        it.keys("8", ENTER, *figures)
         sent(it, language)
         self.assertEqual(it.run(PROPOSED)[2], STATIONS[-4])
 
@@ -196,7 +195,7 @@ class KeysOfEntries(TypedCase):
         """To whoever enters a slip a second time, and where one entry is enough: there the codes
         that are typed are all that ties the figures to their station."""
         figures = typed(next(pile())[2])
-        with browser.browser(Path.cwd()) as it:
+        with browser.tab() as it:
             for entry, name, role in (("single", "clara", "clerk"), ("double", "sara", "second")):
                 office = self.published(setup_of(entry, STATIONS))
                 with self.subTest(entry=entry, role=role), self.page(it, "en", office, name, role):
@@ -206,7 +205,7 @@ class KeysOfEntries(TypedCase):
                         self.choose(it, "en", end)
                         self.assertEqual((it.run(PROPOSED), it.text("#lodge-help")),
                                          (["", code, ""], ""))
-                        keys(it, f"r{number}", ENTER, *figures)
+                        it.keys(f"r{number}", ENTER, *figures)
                         sent(it, "en", "lodged" if role == "clerk" else "same_closed")
                         self.assertEqual(it.run(PROPOSED), ["", code, ""])
                         it.run("document.getElementById('station').select()")

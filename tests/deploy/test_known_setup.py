@@ -2,10 +2,10 @@
 taken for these."""
 
 import json
-import subprocess
 import sys
 from pathlib import Path
 
+from tests.support import tools
 from tests.support.case import needs
 from tests.support.desks import answering_desk, recording_desk
 from tests.support.office import PROFILE, constituency, party_list, station, with_stations
@@ -31,7 +31,7 @@ def setup_json(text, folder="."):
 
 
 def replay(record, *words):
-    done = subprocess.run(
+    done = tools.run(
         [DEPLOY / "replay", *words], input=record, capture_output=True, text=False, timeout=60
     )
     return done.returncode, done.stdout.decode(), done.stderr.decode()

@@ -12,13 +12,13 @@ import io
 import json
 import os
 import re
-import subprocess
 import sys
 import tempfile
 import unittest
 from pathlib import Path
 from unittest import mock
 
+from tests.support import tools
 from tests.support.record import chained
 
 ROOT = Path(__file__).resolve().parents[2]
@@ -58,18 +58,22 @@ REFUSED = [
     (
         'code = "c2"',
         'code = "c1"',
-        "constituency 2 c1: constituency c1 comes twice, first at constituency 1 c1",
+        "constituency 2: constituency c1 comes twice, first at constituency 1 c1",
     ),
     (
         'code = "c2"',
         'code = "C1"',
         "constituency C1 and c1 at constituency 1 c1 differ in capitals alone",
     ),
-    ('code = "s3"', 'code = "s1"', "station s1 comes twice, first at constituency 1 c1, station 1"),
+    (
+        'code = "s3"',
+        'code = "s1"',
+        "station s1 comes twice, first at constituency 1 c1, station 1 s1",
+    ),
     ('code = "s3"', 'code = "S1"', "differ in capitals alone, which the proxy does not tell apart"),
     ('code = "s3"', 'code = "s 3"', "'s 3' is no code"),
     ('code = "B"', 'code = "A"', "constituency 1 c1, list 2: list A comes twice"),
-    ("electors = 300", "electors = 0", "constituency 1 c1, station 1: electors is 0"),
+    ("electors = 300", "electors = 0", "constituency 1 c1, station 1 s1: electors is 0"),
     ("electors = 300", "electors = 1000001", "electors is 1000001"),
     ("electors = 300", "electors = true", "electors is True"),
     ("electors = 300", "", "electors is missing"),
@@ -98,7 +102,7 @@ REFUSED = [
         "1,001 of candidates, and 1,000 is the limit",
     ),
     ('candidates = ["Ana"]', 'candidates = [""]', "candidates is ''"),
-    ('method = "dhondt"', 'method = "droop"', "profile 1: method is 'droop'"),
+    ('method = "dhondt"', 'method = "droop"', "profile 1 p: method is 'droop'"),
     ("threshold = 0", "threshold = 10001", "threshold is 10001"),
     ('base = "valid"', "", "base is missing"),
     ('base = "valid"', 'base = "valid"\nlot = "coin"', "lot is 'coin'"),
@@ -116,7 +120,7 @@ class Case(unittest.TestCase):
 
     def ran(self, *words, status=0, given=None):
         """Runs a program: its standard output, and its standard error."""
-        done = subprocess.run(
+        done = tools.run(
             list(map(str, words)),
             input=given,
             capture_output=True,
@@ -256,7 +260,7 @@ class Divided(Case):
     def test_a_folder_of_another_division(self):
         self.write(TWO)
         self.split(2)
-        done = subprocess.run(
+        done = tools.run(
             [ROOT / "deploy/split", "setup.toml", "1", "parts"],
             capture_output=True,
             text=True,

@@ -1,9 +1,9 @@
 """Passwords of names of which one begins like another."""
 
 import os
-import subprocess
 from pathlib import Path
 
+from tests.support import tools
 from tests.support.case import Case
 from tests.support.running import PATIENCE
 from tests.support.site import DEPLOY
@@ -12,7 +12,7 @@ from tests.support.site import DEPLOY
 class NamesAlike(Case):
     def given(self, name):
         """Gives a name of the staff a password."""
-        done = subprocess.run(
+        done = tools.run(
             [DEPLOY / "password", "staff", name],
             capture_output=True,
             text=True,

@@ -11,6 +11,7 @@ import time
 from contextlib import suppress
 from importlib.util import find_spec
 from pathlib import Path
+from unittest import mock
 
 from tests.support.case import ROOT, Case, needs
 from tests.support.office import with_stations
@@ -24,6 +25,7 @@ from tests.support.packages import (
     unpacked,
 )
 from tests.support.running import PATIENCE, until
+from tests.support.scripts import loaded
 
 ONE, OTHER = "results.example.org", "senate-2026.example.org"
 SETUP = with_stations(2)
@@ -70,6 +72,9 @@ class InAFolder(Case):
         self.assertEqual((root / f"etc/office/{ONE}/setup.toml").read_text(), SETUP)
         self.assertEqual((root / f"etc/office/{ONE}/ports").read_text(),
                          "# Written by office-site.\nDESK=8101\nREAD=8201\n")
+        self.assertIn('desk = "127.0.0.1:8101"\nclosed_to = "www-data"\n'
+                      'rules = "/etc/office/ports.nft"\n',
+                      (root / f"etc/office/{ONE}/status.toml").read_text())
         for file in ("office.db", "setup.json", "certificate.pem", "staff.htpasswd", "site.conf"):
             with self.subTest(file=file):
                 self.assertEqual(len([name for name in before if name.endswith(f"/{file}")]), 1)
@@ -95,6 +100,59 @@ class InAFolder(Case):
         self.assertEqual((status, passwords_in(said), tree(root)), (0, {}, before))
 
     @needs("dpkg-deb", "git", "openssl")
+    def test_looks_that_a_board_has_changed(self):
+        """They stay where a site is taken away. Where it comes back with another port, it is said
+        that they look at the former one."""
+        root = self.unpacked()
+        self.assertEqual(office_site(root, ONE, "setup.toml", "--port", "8101")[0], 0)
+        looks = root / f"etc/office/{ONE}/status.toml"
+        changed = looks.read_text(encoding="utf-8").replace("days = 14", "days = 30")
+        looks.write_text(changed, encoding="utf-8")
+        self.assertEqual(office_site(root, "--remove", ONE)[0], 0)
+        self.assertEqual(looks.read_text(encoding="utf-8"), changed)
+        for port, is_said in (("8101", False), ("8102", True)):
+            with self.subTest(port=port):
+                status, _, said = office_site(root, ONE, "--port", port)
+                self.assertEqual((status, looks.read_text(encoding="utf-8")), (0, changed))
+                self.assertEqual(f"{looks.relative_to(root)} names no desk at 127.0.0.1:{port}, "
+                                 "which is the site's: change it" in said, is_said, said)
+                self.assertEqual(office_site(root, "--remove", ONE)[0], 0)
+
+    def test_a_site_that_is_stopped(self):
+        """None of its units is left that failed: its last look did, perhaps, and calls nobody."""
+        Path("bin").mkdir()
+        fake = Path("bin/systemctl")
+        fake.write_text('#!/bin/sh\necho "$@" >> said\n[ "$1" != reset-failed ]\n',
+                        encoding="utf-8")
+        fake.chmod(0o755)
+        office_site_script = loaded("office-site")
+        it = office_site_script.Machine("/")
+        it.has_services = True
+        with mock.patch.dict(os.environ, PATH=f"{Path.cwd()}/bin:{os.environ['PATH']}"):
+            office_site_script.stop(it, ONE)
+        said = Path("said").read_text(encoding="utf-8").splitlines()
+        self.assertEqual([line.split()[0] for line in said], ["disable", "stop", "reset-failed"])
+        self.assertEqual(said[-1].split()[1:], [f"{unit}@{ONE}.service" for unit in (
+            *SERVICES, "office-backup", "office-status")])
+
+    @needs("dpkg-deb", "git", "openssl")
+    def test_a_name_that_is_a_station_of_another_site(self):
+        """Sites that share names and passwords: what is a station of one is no name of the staff of
+        another, since the station would be shut out."""
+        root = self.unpacked()
+        Path("other.toml").write_text(SETUP.replace('"s1"', '"Ana"'), encoding="utf-8")
+        self.assertEqual(office_site(root, ONE, "setup.toml", "--port", "8101")[0], 0)
+        self.assertEqual(office_site(root, OTHER, "other.toml", "--port", "8102",
+                                     "--passwords-of", ONE)[0], 0)
+        before = tree(root)
+        status, out, said = office_site(root, ONE, "--name", "clerk:ana")
+        self.assertEqual((status, out, said), (
+            1, "", f"office-site: ana is called as a station of {OTHER}, which has the same "
+                   "names and passwords: choose another name\n"))
+        self.assertEqual(tree(root), before)
+        self.assertEqual(office_site(root, ONE, "--name", "clerk:eva")[0], 0)
+
+    @needs("dpkg-deb", "git", "openssl")
     def test_what_is_refused(self):
         """Each fault is said, and nothing is there that was not before."""
         root = self.unpacked()
@@ -116,9 +174,14 @@ class InAFolder(Case):
                f"{name} means something else in the files of the proxy: choose another name")
               for name in ("default", "include", "logout")),
             (["--begin-again", ONE], 1, f"there is no site {ONE}"),
+            *(([name, "setup.toml"], 1, f"/etc/office/{name} is the place of another file")
+              for name in ("ports.nft", "setup.toml", "status.toml", "backup.env")),
+            (["notes.txt", "setup.toml"], 1, "/var/log/office/notes.txt is the place of another "
+             "file: choose another name for the site"),
         )
-        for folder in ("etc/office", "var/lib/office"):
-            (root / folder).mkdir(parents=True)
+        for folder in ("etc/office", "var/lib/office", "var/log/office"):
+            (root / folder).mkdir(parents=True, exist_ok=True)
+        (root / "var/log/office/notes.txt").write_text("notes", encoding="utf-8")
         before = tree(root)
         for words, status, fault in rows:
             with self.subTest(words=words):

@@ -4,11 +4,11 @@ import contextlib
 import json
 import re
 import signal
-import subprocess
 import sys
 import time
 from pathlib import Path
 
+from tests.support import tools
 from tests.support.case import PROGRAM, needs
 from tests.support.office import SETUP, constituency, party_list, profile, station
 from tests.support.pages import read
@@ -100,7 +100,7 @@ class Offices(SiteCase):
             self.assertEqual([line["office"] for line in front.record(42)].count(1), 3 + 2 * 10)
             # Those acts over three new offices.
             fresh, record = served("again"), (front.folder / "log/commands.log").read_bytes()
-            done = subprocess.run(
+            done = tools.run(
                 [DEPLOY / "replay", *(f"http://127.0.0.1:{desk.port}" for desk in fresh)],
                 input=record, capture_output=True, text=False, timeout=PATIENCE)
             self.assertEqual(done.returncode, 0, done)

@@ -212,3 +212,55 @@ class Package(Case):
                            "--json=short", f"./{unit}.service")
                 found = {line["name"] for line in json.loads(said) if line["set"] is False}
                 self.assertEqual((found - may, may - found), (set(), set()))
+
+
+class BeforeAnUpgrade(Case):
+    prefix = "office-before-an-upgrade-"
+    # In the place of systemctl: units and their states are in `units`, and no copy of a site is
+    # made whose name is among $WITHOUT.
+    SYSTEMCTL = """#!/bin/sh
+case "$1" in
+list-units)
+    for state in $(echo "$*" | sed 's/.*--state=\\([a-z,]*\\).*/\\1/; y/,/ /'); do
+        grep " $state\\$" units | sed 's/ [a-z]*$/ loaded/'
+    done ;;
+start)
+    echo "$2" >> said
+    site=${2#*@}
+    case " $WITHOUT " in *" ${site%.service} "*) exit 1 ;; esac ;;
+is-active) grep -q "^$3 active\\$" units ;;
+esac
+"""
+
+    def before_an_upgrade(self, without):
+        """The script of the package with systemd, and the copies that it asked for."""
+        text = (ROOT / "deploy/package/prerm").read_text(encoding="utf-8")
+        Path("prerm").write_text(text.replace("/run/systemd/system", ".").replace(
+            "/usr/lib/office", "lib"), encoding="utf-8")
+        Path("said").unlink(missing_ok=True)
+        done = subprocess.run(
+            ["sh", "prerm", "upgrade", "1.0"], capture_output=True, text=True, timeout=PATIENCE,
+            env={**os.environ, "PATH": f"{Path.cwd()}/bin:{os.environ['PATH']}",
+                 "WITHOUT": without})
+        return done.returncode, done.stderr, Path("said").read_text(encoding="utf-8").split()
+
+    def test_a_copy_of_each_office(self):
+        """Also of one that failed or is about to start, which stops no upgrade where there can be
+        no copy of it; without a copy of one that runs there is none."""
+        Path("bin").mkdir()
+        Path("lib").mkdir()
+        Path("bin/systemctl").write_text(self.SYSTEMCTL, encoding="utf-8")
+        Path("bin/systemctl").chmod(0o755)
+        Path("units").write_text("office@runs.service active\noffice@starts.service activating\n"
+                                 "office@failed.service failed\noffice@ended.service inactive\n",
+                                 encoding="utf-8")
+        copies = [f"office-backup@{site}.service" for site in ("runs", "starts", "failed")]
+        self.assertEqual(self.before_an_upgrade(""), (0, "", copies))
+        status, said, asked = self.before_an_upgrade("starts failed")
+        self.assertEqual((status, asked), (0, copies))
+        self.assertEqual(said, "".join(
+            f"office: office@{site}.service has no copy: journalctl -u office-backup@{site}.service"
+            " says why\n" for site in ("starts", "failed")))
+        status, said, asked = self.before_an_upgrade("runs")
+        self.assertEqual((status, asked), (1, copies[:1]))
+        self.assertTrue(said.endswith("says why\noffice: nothing was changed\n"), said)

@@ -413,7 +413,7 @@ class PagesOfAnEvening(SiteCase):
             press(port, *site_folder(site=SPANISH), folder="es")
         with four() as (_, port):
             press(port, "--setup", "setup.toml", folder="four")
-        with browser.browser(Path.cwd()) as it:
+        with browser.tab() as it:
             for folder in ("pages", "es"):
                 for name in ("con-c1", "con-c2"):
                     it.open((Path.cwd() / f"{folder}/{name}.html").as_uri())
@@ -457,7 +457,7 @@ class PagesOfAnEvening(SiteCase):
             for state, act, body in acts:
                 done(office, f"/station/s1/{act}", body)
                 press(port, "--setup", "setup.toml", folder=state)
-        with browser.browser(Path.cwd()) as it:
+        with browser.tab() as it:
             for folder, left in (("none", []), ("received", ["received"]), ("queried", ["queried"]),
                                  ("corrected", ["corrected"])):
                 it.open((Path.cwd() / folder / "count.html").as_uri())

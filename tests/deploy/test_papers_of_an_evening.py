@@ -3,10 +3,10 @@
 import hashlib
 import json
 import re
-import subprocess
 import sys
 from pathlib import Path
 
+from tests.support import tools
 from tests.support.case import ROOT
 from tests.support.papers import ELECTED, HASH, LISTS, OfPapers, paper, papers
 from tests.support.recorder import command, recorder_alone
@@ -24,9 +24,9 @@ class OfTheProgram(OfPapers):
         with serving(EXAMPLES) as desk:
             readme_election(desk)
             self.assertEqual(backup("office.db", "copies")[0], 0)
-            subprocess.run([sys.executable, DEPLOY / "press.py", f"http://127.0.0.1:{desk.port}",
-                            "pages", "--setup", "setup.toml"], check=True, timeout=PATIENCE,
-                           capture_output=True)
+            tools.run([sys.executable, DEPLOY / "press.py", f"http://127.0.0.1:{desk.port}",
+                       "pages", "--setup", "setup.toml"], check=True, timeout=PATIENCE,
+                      capture_output=True)
         [copy] = Path("copies").glob("*.db")
         papers("acts", str(copy), "out")
         self.assert_has(paper("out", "act-proclamation-*"), *LISTS, *ELECTED)
@@ -52,7 +52,7 @@ class OfTheProgram(OfPapers):
             {"slip": "r101", "votes": [120, 85, 40, 22, 5], "blank": 4, "spoiled": 2})
         con, stations = "/con/montehondo", re.findall(r'code = "(\d.*)"', EXAMPLES)
         Path("setup.toml").write_text(EXAMPLES, encoding="utf-8")
-        subprocess.run([DEPLOY / "setup-json", "setup.toml", ".", "codes.conf"], check=True)
+        tools.run([DEPLOY / "setup-json", "setup.toml", ".", "codes.conf"], check=True)
         Path("recorder").mkdir()
         with serving(EXAMPLES) as desk, recorder_alone(desk.port, "--setup", "setup.json"):
             rows = (ROOT / "examples/returns.csv").read_bytes()

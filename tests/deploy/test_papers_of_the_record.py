@@ -1,9 +1,9 @@
 """The papers that a board signs, with the record of commands: incidents, times, who is gone."""
 
 import hashlib
-import subprocess
 from pathlib import Path
 
+from tests.support import tools
 from tests.support.papers import (
     COPY, OfPapers, copy_of, done, paper, papers, recorded,
 )
@@ -141,8 +141,8 @@ class OfTheRecord(OfPapers):
                      "commands.log")
         # The record of this setup, as the recorder begins one.
         Path("setup.toml").write_text(EXAMPLES, encoding="utf-8")
-        subprocess.run([DEPLOY / "setup-json", "setup.toml", ".", "codes.conf"], check=True,
-                       timeout=PATIENCE)
+        tools.run([DEPLOY / "setup-json", "setup.toml", ".", "codes.conf"], check=True,
+                  timeout=PATIENCE)
         recorded(setup=hashlib.sha256(Path("setup.json").read_bytes()).hexdigest())
         papers("acts", COPY, "out", "--record", "commands.log")
         self.assertIn("up to line 63", paper("out", "act-count-*").text)

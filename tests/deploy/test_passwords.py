@@ -5,6 +5,7 @@ import concurrent.futures
 import hashlib
 import os
 import re
+import resource
 import stat
 import subprocess
 from pathlib import Path
@@ -14,7 +15,7 @@ from tests.support.case import needs
 from tests.support.clerks import SLIP, choose_station, office_with_pages, said, type_slip
 from tests.support.desks import recording_desk
 from tests.support.office import with_stations
-from tests.support.proxy import proxy
+from tests.support.proxy import password, proxy
 from tests.support.running import PATIENCE, until
 from tests.support.site import BOTH, DEPLOY, NAME, SiteCase
 
@@ -100,6 +101,23 @@ class Passwords(SiteCase):
             self.assertTrue(all(re.fullmatch("[A-Za-z0-9_-]{0,32}", line["name"])
                                 for line in front.refused()))
             self.assertEqual(messages, [])
+
+    def test_passwords_of_a_country(self):
+        """Each of 60,008 stations gets one, in less than five minutes of the processor."""
+        folder = Path("office")
+        folder.mkdir()
+        Path("names.toml").write_text("[[constituency]]\n" + "".join(
+            f'[[constituency.station]]\ncode = "p{n:05}"\n' for n in range(60_008)))
+        before = resource.getrusage(resource.RUSAGE_CHILDREN)
+        done = password(folder.resolve(), "stations", "--all", run=subprocess.run)
+        after = resource.getrusage(resource.RUSAGE_CHILDREN)
+        # (not by the clock, since the disk of a busy machine may take ten times that)
+        took = after.ru_utime + after.ru_stime - before.ru_utime - before.ru_stime
+        self.assertEqual((done.returncode, done.stderr, len(set(done.stdout.split())),
+                          len(os.listdir(folder / "stations"))), (0, "", 2 * 60_008, 60_008))
+        print(f"passwords for 60,008 stations: {took:.1f} s of the processor")
+        self.assertGreater(took, 0)
+        self.assertLess(took, 300)
 
     @needs("openssl", "nginx")
     def test_a_password_for_whom_nobody_knows(self):

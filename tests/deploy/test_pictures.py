@@ -65,14 +65,6 @@ def try_faults(it, page, seen, tried):
 TAB, ENTER = "\ue004", "\ue007"
 
 
-def keys(it, *pressed):
-    """Presses keys, one after the other, as a keyboard does."""
-    actions = [{"type": kind, "value": key} for key in "".join(pressed)
-               for kind in ("keyDown", "keyUp")]
-    it.of_session("POST", "/actions",
-                  {"actions": [{"type": "key", "id": "keys", "actions": actions}]})
-
-
 FOCUS = in_page("focus.js")
 
 
@@ -136,7 +128,7 @@ class Pictures(Case):
         stops = []
         while not stops or stops[-1] != wanted:
             self.assertLess(len(stops), most, f"{wanted} is not reached by keys: {stops}")
-            keys(it, TAB)
+            it.keys(TAB)
             name, outlined, inside = it.run(FOCUS)
             self.assertEqual((outlined, inside), (True, True), name)
             stops.append(name)
@@ -150,35 +142,35 @@ class Pictures(Case):
         office = office_of(BOTH)
         with modelled(BOTH) as (_, port):
             press(port, "--setup", "setup.toml")
-        with browser.browser(Path.cwd()) as it:
+        with browser.tab() as it:
             with clerks_site(office, "clara", "clerk") as address:
                 opened(it, address)
                 it.size(1280, 900)
                 # It is where somebody types first.
                 self.assertEqual(it.run("return document.activeElement.id"), "station")
-                keys(it, "s1", TAB)
+                it.keys("s1", TAB)
                 it.wait("return document.activeElement.name === 'slip'")
-                keys(it, "p1", TAB, "100", TAB, "99", TAB, "1", TAB, "0", TAB, "200", ENTER)
+                it.keys("p1", TAB, "100", TAB, "99", TAB, "1", TAB, "0", TAB, "200", ENTER)
                 it.wait(READY, "Lodged.")
                 it.wait("return document.activeElement.id === 'station'")
                 self.tabbed(it, "Close this return")
-                keys(it, ENTER)
+                it.keys(ENTER)
                 self.assertEqual(it.accept(), "Close the return of s1?")
                 it.wait(READY, "Done.")
                 it.wait("return document.activeElement.id === 'station'")
                 self.tabbed(it, "logout")
-                keys(it, ENTER)
+                it.keys(ENTER)
                 it.wait("return document.querySelector('h1').textContent === 'You are logged out'")
                 self.assertEqual(it.run("return document.querySelectorAll('button, input').length"),
                                  0)
             with clerks_site(office, "berta", "board") as address:
                 opened(it, address)
                 self.tabbed(it, "con")
-                keys(it, "T")
+                it.keys("T")
                 it.wait("return document.getElementById('con').value === 'c1'")
                 it.wait(READY, "This is what the office has now.")
                 self.tabbed(it, "Certify this constituency")
-                keys(it, ENTER)
+                it.keys(ENTER)
                 self.assertEqual(it.accept(), "Certify Twin Town?")
                 it.wait(READY, "Done.")
                 # Its form is gone, and its receipt is what is to be read.
@@ -192,7 +184,7 @@ class Pictures(Case):
         """Each link, field and table that can be moved is reached in the order of the page, and is
         seen when it is; nothing holds the focus."""
         press_pages()
-        with browser.browser(Path.cwd()) as it:
+        with browser.tab() as it:
             for width in (1280, 390):
                 with self.subTest(width=width):
                     for file in ("index", "con-montehondo", "stations-montehondo-1", "count"):

@@ -41,7 +41,7 @@ class Places(SiteCase):
         page, text = page_of("place-norte-1.html"), shown_text(read("place-norte-1.html"))
         self.assertEqual(page.tables["Votes of each list here"], [
             ["List", "votes", "share"], ["A Alpha", "60", "50.00%"], ["B Beta", "50", "41.67%"],
-            ["C Gamma", "5", "4.17%"]])
+            ["C Gamma", "5", "4.17%"], ["Blank votes", "5", "4.17%"]])
         self.assertEqual(page.tables["Returns station by station"][1:], [
             ["n1 School <old>, hall", "500", "60", "50", "5", "5", "1"]])
         for sentence in ("\u2068Alpha\u2069 has the most votes here, 50.00%.", "Turnout: 24.20%.",
@@ -216,7 +216,8 @@ class Places(SiteCase):
             with self.subTest(name=name):
                 tables = page_of(name).tables
                 rows = tables["Votes of each list here"][1:]
-                self.assertEqual([row[0][:1] for row in rows], lists)
+                self.assertEqual([row[0] for row in rows][-1:], ["Blank votes"])
+                self.assertEqual([row[0][:1] for row in rows[:-1]], lists)
                 heads = tables["Returns station by station"][0]
                 self.assertEqual([head for head in heads if head in ("A", "B")], lists)
 
@@ -342,7 +343,7 @@ class Shown(SiteCase):
             for file in Path("four").glob("*.html"):
                 file.write_text(file.read_text(encoding="utf-8").replace(old, new),
                                 encoding="utf-8")
-        with browser.browser(Path.cwd()) as it:
+        with browser.tab() as it:
             for file in ("index", "con-norte", "con-oeste", "place-norte-1", "places-norte-1",
                          "list-B", "elected-1", "embed", "embed-oeste"):
                 with self.subTest(file=file):

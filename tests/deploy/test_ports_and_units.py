@@ -115,9 +115,15 @@ class Ports(Safeguards):
             "office-press": (False, True),
         }
         print(found, file=sys.stderr) if found != wanted else None
+        # `status` sees whether the rules are there.
+        looks = [module("status_looks").look_at_port("127.0.0.1:8080", "nobody", "", "1").says]
+        subprocess.run(["nft", "flush", "ruleset"], check=True, timeout=PATIENCE)
+        looks.append(module("status_looks").look_at_port("127.0.0.1:8080", "nobody", "", "1").says)
         for listener in listeners:
             listener.close()
-        return int(found != wanted)
+        said = ["nobody is refused", "nobody reaches it: its rules are not loaded"]
+        print(looks, file=sys.stderr) if looks != said else None
+        return int(found != wanted or looks != said)
 
     @needs("nft", "ip", "grep")
     def test_open_port_of_office_site(self):

@@ -11,13 +11,14 @@ from tests.support.case import ROOT
 from tests.support.desks import answering_desk, done, modelled
 from tests.support.office import PROFILE, profile, with_stations
 from tests.support.pages import (
-    REOPENED, RESULT, TWIN, WITHDRAWN, page_of, press, read, renamed, results_of,
-    shown_text, site_folder,
+    REOPENED, RESULT, TWIN, WITHDRAWN, Page, page_of, press, read, renamed, results_of,
+    shown_text, site_folder, with_lists,
 )
 from tests.support.record import LODGED
 from tests.support.running import PATIENCE, until
 from tests.support.site import DEPLOY, SiteCase, plain, ran, serving
 
+BOTH = 'language = "en"\nlanguages = ["es"]\n'
 # Three seats of two lists with as many votes, by the lot B, A: the rule, those of each list, and
 # whether the page says that the order is turned round.
 LOTS = (("dhondt", "fixed", [1, 2], False), ("dhondt", "alternating", [2, 1], True),
@@ -40,7 +41,8 @@ class PressPages(SiteCase):
                          [["List", "seats"], ["A Alpha", "1"], ["B Beta", "2"], ["Total", "3"]])
         self.assertEqual(
             page.tables["Votes of each list"][1:],
-            [["A Alpha", "100", "50.00%", "yes"], ["B Beta", "100", "50.00%", "yes"]])
+            [["A Alpha", "100", "50.00%", "yes"], ["B Beta", "100", "50.00%", "yes"],
+             ["Blank votes", "0", "0.00%", "–"]])
         self.assertEqual(page.tables["Holders of the seats"][1:],
                          [["A", "1", "Ana"], ["B", "1", "Bea"], ["B", "–", "empty"]])
         self.assertEqual(page.tables["Awards in order"][1:], [
@@ -171,6 +173,67 @@ class PressPages(SiteCase):
                                      [["A Alpha", "1"], ["B Beta", "2"]])
         self.assertEqual(read("con-c1.csv").splitlines()[1:],
                          ["A,Alpha,100,50.00,yes,,1", "B,Beta,100,50.00,yes,,2"])
+
+    def test_blank_votes_are_below_the_lists(self):
+        """With their share, where shares are of the valid votes; once something is counted."""
+        Path("setup.toml").write_text(with_stations(1), encoding="utf-8")
+        Path("lists.toml").write_text(with_stations(1).replace('"valid"', '"lists"'),
+                                      encoding="utf-8")
+        some, none = RESULT | {"blank": 9}, with_lists(WITHDRAWN, votes=[0, 0]) | {"closed": 0}
+        # 9 of 209 are 4.306.. per cent; and 9 of 200 + 9 is no share of the votes for lists.
+        for words, result, row in (
+                (("--setup", "setup.toml"), some, ["9", "4.31%", "–"]),
+                ((), some, ["9", "4.30%", "–"]),
+                (("--setup", "lists.toml"), some | {"base": "lists"}, ["9", "–", "–"]),
+                ((), some | {"base": "lists"}, ["9", "–", "–"]),
+                (("--setup", "setup.toml"), none, None)):
+            with self.subTest(words=words, row=row):
+                with answering_desk(TWIN | results_of(result)) as (port, _):
+                    press(port, *words, *site_folder(site=BOTH))
+                for caption, head, page in (
+                        ("Votes of each list", "Blank votes", read("con-c1.html")),
+                        ("Votos por candidatura", "Votos en blanco", read("es/con-c1.html"))):
+                    rows = Page(page).tables[caption]
+                    of_language = [cell.replace(".", ",").replace("%", " %") if head[1] == "o"
+                                   else cell for cell in row or ()]
+                    self.assertEqual([one for one in rows if one[0] == head],
+                                     [[head, *of_language]] if row else [])
+                    if row:
+                        self.assertEqual((len(rows), rows[-1][0]), (4, head))
+
+    def test_a_certificate_after_reopenings(self):
+        """It says that it is one, and which certificate before it is withdrawn."""
+        past = [{"edition": 3, "seats": [2, 1]}, {"edition": 6, "seats": [3, 0]}]
+        for many, said in (
+                (0, ("Certified in edition 9: 3 seats.", "Proclamados 3 escaños (versión 9).")),
+                (1, ("Certified in edition 9: 3 seats. Reopened and certified again: the "
+                     "certificate of edition 3 is withdrawn.",
+                     "Proclamados 3 escaños (versión 9). Se reabrió el escrutinio y se proclamó de "
+                     "nuevo: la proclamación anterior (versión 3) está anulada.")),
+                (2, ("Certified in edition 9: 3 seats. Reopened 2 times and certified again: the "
+                     "certificate before this one, of edition 6, is withdrawn.",
+                     "Proclamados 3 escaños (versión 9). Se reabrió el escrutinio 2 veces y se "
+                     "proclamó de nuevo: la proclamación anterior (versión 6) está anulada."))):
+            with self.subTest(many=many):
+                result = RESULT | {"edition": 9, "past": past[:many]}
+                with answering_desk(TWIN | results_of(result)) as (port, _):
+                    press(port, *site_folder(site=BOTH))
+                pages = [shown_text(read(name)) for name in ("con-c1.html", "es/con-c1.html")]
+                for page, words, again in zip(pages, said, ("certified again", "de nuevo")):
+                    self.assertEqual(again in page, many > 0)
+                    self.assertIn(words, page)
+
+    def test_what_the_width_of_a_bar_is(self):
+        """Half of the votes, or all of them where a list has more."""
+        for votes, full in ((100, 50), (101, 100)):
+            with self.subTest(votes=votes):
+                result = with_lists(RESULT, votes=[votes, 200 - votes])
+                with answering_desk(TWIN | results_of(result)) as (port, _):
+                    press(port, *site_folder(site=BOTH))
+                self.assertIn(f"The full width of a bar is {full}% of the votes.",
+                              shown_text(read("con-c1.html")))
+                self.assertIn(f"El ancho completo de una barra es el {full}\u00a0% de los votos.",
+                              read("es/con-c1.html"))
 
     def test_a_page_of_a_part_of_the_votes(self):
         """While returns are open the page says so where the votes are, and not once all are

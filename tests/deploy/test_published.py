@@ -11,6 +11,7 @@ import time
 from datetime import datetime
 from pathlib import Path
 
+from tests.support import tools
 from tests.support.case import needs
 from tests.support.desks import answering_desk
 from tests.support.office import with_stations
@@ -66,14 +67,19 @@ class Published(SiteCase):
                     Path("head").write_text(read("head", ".").replace(f"{n:064x}", hash_of),
                                             encoding="utf-8")
                 with answering_desk(TWIN) as (port, _):
-                    round_of = subprocess.run([sys.executable, DEPLOY / "press.py",
-                                               f"http://127.0.0.1:{port}", "pages", *words],
-                                              capture_output=True, text=True, timeout=PATIENCE,
-                                              check=True)
+                    round_of = tools.run([sys.executable, DEPLOY / "press.py",
+                                          f"http://127.0.0.1:{port}", "pages", *words],
+                                         capture_output=True, text=True, timeout=PATIENCE,
+                                         check=True)
                 self.assertEqual(
                     "of the record, and pages/record.csv has more, or another" in round_of.stderr,
                     named)
         self.assertEqual([row[1] for row in rows_of("record.csv")[1:]], ["7", "9", "8", "9", "10"])
+        # A pipe in the place of the head is not waited for.
+        os.rename("head", "kept")
+        os.mkfifo("head")
+        publish(TWIN, "--head", "head")
+        self.assertNotIn("record", json.loads(read("manifest.json")))
         # Without a head it has none, and an office that does not answer leaves it as it was.
         publish(TWIN)
         last = read("manifest.json")

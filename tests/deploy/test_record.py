@@ -11,6 +11,7 @@ import subprocess
 import unittest
 from pathlib import Path
 
+from tests.support import tools
 from tests.support.case import needs
 from tests.support.desks import answer_of, desk_with, recording_desk
 from tests.support.office import with_stations
@@ -90,9 +91,9 @@ class Record(SiteCase):
             self.assertEqual(self.check(front)[0], 0)
 
     def check(self, front, *words):
-        done = subprocess.run([DEPLOY / "replay", "--check", *words],
-                              input=(front.folder / "log/commands.log").read_bytes(),
-                              capture_output=True, timeout=PATIENCE)
+        done = tools.run([DEPLOY / "replay", "--check", *words],
+                         input=(front.folder / "log/commands.log").read_bytes(),
+                         capture_output=True, timeout=PATIENCE)
         self.assertEqual(done.stderr, b"")
         return done.returncode, done.stdout.decode()
 
@@ -189,8 +190,8 @@ class Record(SiteCase):
         lines = chained(*entries).splitlines(keepends=True)
 
         def checked(changed, *words):
-            done = subprocess.run([DEPLOY / "replay", "--check", *words], input=b"".join(changed),
-                                  capture_output=True, timeout=PATIENCE)
+            done = tools.run([DEPLOY / "replay", "--check", *words], input=b"".join(changed),
+                             capture_output=True, timeout=PATIENCE)
             self.assertEqual(done.stderr, b"")
             found = re.findall(rb"^line (\d+):", done.stdout, re.M)
             return done.returncode, set(map(int, found)), done.stdout.split()[-1].decode()
@@ -230,9 +231,9 @@ class Record(SiteCase):
         Path("long.csv").write_text(f"time,lines,sha256\n{'x' * 200_000}\n", encoding="utf-8")
         for file in ("other.csv", "nonesuch.csv", "long.csv"):
             with self.subTest(file=file):
-                self.assertEqual(subprocess.run([DEPLOY / "replay", "--check", "--shown", file],
-                                                input=b"", capture_output=True,
-                                                timeout=PATIENCE).returncode, 2)
+                self.assertEqual(tools.run([DEPLOY / "replay", "--check", "--shown", file],
+                                           input=b"", capture_output=True,
+                                           timeout=PATIENCE).returncode, 2)
 
     @needs("nginx", "openssl")
     def test_the_head_of_the_record_on_the_pages(self):

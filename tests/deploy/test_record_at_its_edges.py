@@ -122,14 +122,14 @@ class Revisions(Case):
                       {"to": 2 * number - 1, "status": 200, "answer": "{}"}]
         with contextlib.closing(sqlite3.connect(":memory:")) as it:
             it.executescript("""
-                CREATE TABLE counts (station, item, n); CREATE TABLE cons (con, edition, certified);
-                CREATE TABLE returns (station, rev, status, slip);
-                CREATE TABLE gone (con, list, place); CREATE TABLE lots (con, list, place);
-                CREATE TABLE setup (text);
+                CREATE TABLE counts (station, item, n); CREATE TABLE lots (con, list, place);
+                CREATE TABLE cons (con, edition, certified, note);
+                CREATE TABLE returns (station, rev, status, slip, note);
+                CREATE TABLE gone (con, list, place, note); CREATE TABLE setup (text);
                 INSERT INTO counts VALUES ('s1', 1, 1), ('s1', 2, 2), ('s1', 0, 0), ('s1', 61, 0);
-                INSERT INTO cons VALUES ('c1', 1, 0);
+                INSERT INTO cons VALUES ('c1', 1, 0, '');
             """)
-            it.execute("INSERT INTO returns VALUES ('s1', ?, ?, 'p1')", (len(acts), status))
+            it.execute("INSERT INTO returns VALUES ('s1', ?, ?, 'p1', '')", (len(acts), status))
             it.execute("INSERT INTO setup VALUES (?)", (SETUP,))
             it.commit()
             with mock.patch.object(entries.sqlite3, "connect", lambda *_, **__: it):

@@ -15,6 +15,7 @@ from datetime import datetime
 from pathlib import Path
 from unittest import mock
 
+from tests.support import tools
 from tests.support.case import needs
 from tests.support.desks import answer_of, desk_with, recording_desk, whole_message
 from tests.support.proxy import proxy
@@ -225,9 +226,9 @@ class Recorder(SiteCase):
                 if not round_of:
                     with open("commands.log", "ab") as it:
                         it.write(b'{"n": 201, "ti')
-        done = subprocess.run([DEPLOY / "replay", "--check"],
-                              input=Path("commands.log").read_bytes(), capture_output=True,
-                              timeout=PATIENCE)
+        done = tools.run([DEPLOY / "replay", "--check"],
+                         input=Path("commands.log").read_bytes(), capture_output=True,
+                         timeout=PATIENCE)
         self.assertEqual((done.returncode, done.stdout.splitlines()[0], done.stdout.count(b"\n")),
                          (1, b'line 201: not a line of a record: {"n": 201, "ti', 2))
         self.assertIn(b"to look at 1; lines 401, ", done.stdout)
@@ -252,9 +253,9 @@ class Recorder(SiteCase):
                              (len(lines) + len(lines.split(b"\n")[0]) + 1, resource.RLIM_INFINITY))
             self.assertEqual([command("/station/s5/close"), len(messages)], [200, 3])
         self.assertIn("the answer to 6 is not recorded", Path("said").read_text())
-        done = subprocess.run([DEPLOY / "replay", "--check"],
-                              input=Path("commands.log").read_bytes(), capture_output=True,
-                              timeout=PATIENCE)
+        done = tools.run([DEPLOY / "replay", "--check"],
+                         input=Path("commands.log").read_bytes(), capture_output=True,
+                         timeout=PATIENCE)
         cut, unanswered, end = done.stdout.decode().splitlines()
         self.assertEqual(done.returncode, 1, done)
         self.assertTrue(cut.startswith("line 3: not a line of a record"), done)

@@ -13,6 +13,11 @@ from tests.support.site import SiteCase
 
 FOUND = ("return [...document.querySelectorAll('.found a')].map((e) => [e.textContent, "
          "e.getAttribute('href')])")
+KNOWN = """const known = [localStorage.getItem("a"), document.cookie, document.hidden,
+  document.hasFocus()];
+localStorage.setItem("a", "b");
+document.cookie = "c=d";
+return known;"""
 SAID = "return document.querySelector('.renew output').textContent.includes(arguments[0])"
 
 
@@ -23,7 +28,7 @@ class RenewedPages(SiteCase):
         station is shown. Without scripts there is no field."""
         with four() as (_, port):
             press(port, "--setup", "setup.toml", *site_folder(stations=PLACES), folder="four")
-        with browser.browser(Path.cwd()) as it, web_server(Path.cwd()) as site:
+        with browser.tab() as it, web_server(Path.cwd()) as site:
             for typed, wanted in (
                 ("OEST", [["Óeste <3>", "con-oeste.html"]]),
                 ("alcaniz", [["Alcañiz", "place-este-1.html"]]),
@@ -50,7 +55,7 @@ class RenewedPages(SiteCase):
     def test_a_page_that_renews_itself(self):
         """It shows each change, and says so; the focus stays. Once somebody does not want it,
         nothing changes, on other pages too."""
-        with four() as (office, port), browser.browser(Path.cwd()) as it:
+        with four() as (office, port), browser.tab() as it:
             press(port, "--setup", "setup.toml")
             with web_server(Path.cwd()) as site:
                 it.open(f"{site}/pages/con-oeste.html")
@@ -73,6 +78,24 @@ class RenewedPages(SiteCase):
                 it.open(f"{site}/pages/con-oeste.html")
                 it.click(".renew input")
                 it.wait("return document.querySelector('.renew input').checked")
-            # The site is gone.
-            it.run("document.dispatchEvent(new Event('visibilitychange'))")
-            it.wait(SAID, "The site was not reached")
+            # The site is gone. (What the page asked for before may come later than this.)
+            it.wait(f"document.dispatchEvent(new Event('visibilitychange')); {SAID}",
+                    "The site was not reached")
+
+    @needs("chromium")
+    def test_a_browser_that_a_test_used_before(self):
+        """It has one tab, which is the one that is looked at, and knows nothing of what pages
+        stored before: those of other sites, and those of the same one."""
+        Path("page.html").write_text("<title>A page</title>", encoding="utf-8")
+        sessions = set()
+        with web_server(Path.cwd()) as site:
+            for another in (True, False, False):
+                with browser.tab() as it:
+                    sessions.add(it.session)
+                    self.assertEqual(len(it.of_session("GET", "/window/handles")), 1)
+                    it.open(f"{site}/page.html")
+                    self.assertEqual([it.run(KNOWN), it.run(KNOWN)],
+                                     [[None, "", False, True], ["b", "c=d", False, True]])
+                    if another:
+                        it.of_session("POST", "/window/new", {"type": "tab"})
+        self.assertEqual(len(sessions), 1)

@@ -4,9 +4,9 @@ import collections
 import hashlib
 import json
 import re
-import subprocess
 import time
 
+from tests.support import tools
 from tests.support.case import ROOT, needs
 from tests.support.desks import answer_of, answering_desk, desk_with, recording_desk
 from tests.support.proxy import office_and_proxy, proxy
@@ -117,7 +117,13 @@ class Replay(SiteCase):
             self.assertEqual(status, 1, said)
             self.assertTrue(said.endswith(f"\nsent 23, to look at 23; {end}"), said)
             self.assertIn('"word":"stale"', said)
+            # By their time the office has all of them: the last is to be looked at.
+            line = (front.folder / "log/commands.log").read_bytes().splitlines()[-1]
+            said_of_last = ("left out by their time: 25 that were done. The answer to the last is "
+                            f"line 57, of {json.loads(line)['time']}: does the copy have it?")
             self.assertEqual(replay(desk, front, "--since", "2100-01-01T00:00:00+00:00"),
+                             (1, f"{said_of_last}\nsent 0, to look at 1; {end}"))
+            self.assertEqual(replay(desk, front, "--after", "57"),
                              (0, f"sent 0, to look at 0; {end}"))
             self.assertEqual(replay(desk, front, "--since", record[0]["time"])[1], said)
         self.assertEqual(rows("again.db"), rows("office.db"))
@@ -164,10 +170,12 @@ class Replay(SiteCase):
             self.assertEqual(messages, [b"cut", b"last"])
         for words in ("127.0.0.1:8080", "localhost:8080", "https://127.0.0.1",
                       "http://127.0.0.1 --since 2026-11-26T22:14:00", "",
+                      "http://127.0.0.1 --since 2026-11-26T22:14:00+00:00 --after 1",
+                      "http://127.0.0.1 --after -1",
                       "--check http://127.0.0.1"):
             with self.subTest(words=words):
-                done = subprocess.run([DEPLOY / "replay", *words.split()], input=record,
-                                      capture_output=True, timeout=PATIENCE)
+                done = tools.run([DEPLOY / "replay", *words.split()], input=record,
+                                 capture_output=True, timeout=PATIENCE)
                 self.assertEqual((done.returncode, done.stdout, b"usage:" in done.stderr),
                                  (2, b"", True))
 
@@ -212,9 +220,31 @@ class Replay(SiteCase):
             self.assertEqual(said.splitlines()[0],
                              "line 5: the clock was put back before it. What was answered from "
                              "here on is sent, whatever its time")
-            self.assertIn("\nsent 4, to look at 1; lines 10, ", said)
+            self.assertIn("\nleft out by their time: 1 that were done. The answer to the last is "
+                          "line 2, of 2026-11-26T22:13:00.000+00:00: does the copy have it?\n"
+                          "sent 4, to look at 2; lines 10, ", said)
             # Over a new office it is nothing to look at.
             self.assertEqual((replayed(port, chained(*entries))[0], len(messages)), (0, 9))
+
+    def test_what_was_answered_after_a_line(self):
+        """It is sent, whatever its time, also where it was asked for before that line; and what has
+        no answer is named wherever it is."""
+        entries = [a_command(f"{n}", f"/station/s{n}/close") for n in range(1, 5)]
+        answers = [{"to": n, "status": 200, "answer": ""} for n in range(1, 4)]
+        record = chained(*entries[:2], answers[0], entries[2], answers[1],
+                         answers[2] | {"to": 4, "time": "2026-11-26T21:00:00.000+00:00"},
+                         entries[3])
+        for after, bodies in ((0, [b"1", b"2", b"3"]), (3, [b"2", b"3"]), (5, [b"3"]), (7, [])):
+            with self.subTest(after=after), recording_desk() as (port, messages):
+                status, said = replayed(port, record, "--after", f"{after:08}")
+                self.assertEqual((status, [body for _, body in messages]), (1, bodies), said)
+                self.assertEqual([line[:7] for line in said.splitlines()], ["line 7:", "sent " + (
+                    f"{len(bodies)},")], said)
+        # A record that lacks its end, or another one's.
+        with recording_desk() as (port, messages):
+            status, said = replayed(port, chained(*entries[:1], answers[0]), "--after", "3")
+        self.assertEqual((status, messages, said.splitlines()[0]), (1, [], (
+            "line 3: it is not there: this record lacks its end, or the copy is another's")))
 
     @needs("nginx", "openssl")
     def test_a_record_of_odd_requests(self):

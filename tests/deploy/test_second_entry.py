@@ -31,6 +31,20 @@ def press_keys(it, *keys):
 
 class SecondEntry(SiteCase):
     @needs("chromium", "nginx", "openssl")
+    def test_a_page_whose_browser_has_another_name_by_now(self):
+        """It was opened by a clerk, and the browser gives the password of a second. The recorder
+        refuses the lodge, by an answer without a text: nothing was done, and the page says so."""
+        with office_with_a_second(TWICE) as (_, front), clerks_browser(front, "bruno") as it:
+            choose_station(it, "s1")
+            it.command("Network.setExtraHTTPHeaders",
+                       headers={"Authorization": front.authorization("sara")})
+            enter(it, "lodge", SLIP)
+            said(it, "Your name may not do this.")
+            self.assertNotIn("may have been done", it.text("#said"))
+            self.assertEqual([(line["name"], line["status"]) for line in front.record(1)],
+                             [("sara", 403)])
+
+    @needs("chromium", "nginx", "openssl")
     def test_a_second_entry(self):
         """Wrong, of another slip, right, and sent twice: the page says what it is, and asks for no
         return."""

@@ -257,14 +257,19 @@ class Services(SiteCase):
                 if name == "s1":
                     self.assertEqual(backup("office.db", ".")[::2], (0, ""))
         [copy] = Path().glob("office-*.db")
-        copy.rename("office-20261126T221400Z.db")
-        record = chained(a_command(bodies["s2"], "/station/s2/lodge"),
-                         {"to": 1, "status": 200, "answer": '{"ok":"lodged","rev":1}'})
+        copy.rename("office-20261126T221400Z-00001234.db")
+        # The second one's time is before that of the copy: the clock was put back.
+        lines = [entry for name in bodies for entry in (
+            a_command(bodies[name], f"/station/{name}/lodge"),
+            {"status": 200, "answer": '{"ok":"lodged","rev":1}'})]
+        record = chained(lines[0], lines[1] | {"to": 1}, *(
+            line | {"time": "2026-11-26T22:13:00.000+00:00"} for line in (
+                lines[2], lines[3] | {"to": 3})))
         Path("commands.log").write_bytes(record)
 
         shutil.copy(SYSTEMCTL, "bin")
         with serving(with_stations(2), "lib/office.db") as fresh:
-            places = {"8080": fresh.port, "-o office -g office ": "",
+            places = {"8080": fresh.port, "-o office -g office ": "", "--after 1234": "--after 2",
                       "-o office-recorder -g office-recorder ": "", "tar -C /": "tar -C new",
                       "/usr/local/lib/office/": f"{DEPLOY}/", "/var/lib/office": "lib",
                       "/var/log/office": "log", "/etc/office/setup.toml": "setup.toml",

@@ -6,18 +6,18 @@ With OFFICE_PROGRAM, the path of a built program, it reads the setups too.
 """
 
 import re
-import subprocess
 import time
 import tomllib
 import unittest
 
+from tests.support import tools
 from tests.support.tables_case import COLUMNS, ROOT, SETUP, TABLES, TOOL, Case
 
 
 class Setups(Case):
     def test_montehondo_comes_out_byte_for_byte(self):
         command = [TOOL, "--rule", "loreg", "--language", "en", ROOT / "examples/tables"]
-        done = subprocess.run(command, capture_output=True, text=True, timeout=600)
+        done = tools.run(command, capture_output=True, text=True, timeout=600)
         text, said = done.stdout, done.stderr
         self.assertEqual(done.returncode, 0, said)
         self.assertEqual(text, (ROOT / "examples/setup.toml").read_text(encoding="utf-8"))

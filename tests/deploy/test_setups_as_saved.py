@@ -2,10 +2,10 @@
 
 import json
 import os
-import subprocess
 import sys
 from pathlib import Path
 
+from tests.support import tools
 from tests.support.case import Case
 from tests.support.office import DOUBLE, LISTS, PROFILE, constituency, station
 from tests.support.running import PATIENCE
@@ -39,8 +39,8 @@ OTHERS = {
 
 def run(name, *words, text=b""):
     environment = {**os.environ, "PASSWORDS": "names", "SETUP": "setup.toml"}
-    done = subprocess.run([sys.executable, DEPLOY / name, *words], input=text, env=environment,
-                          capture_output=True, timeout=PATIENCE)
+    done = tools.run([sys.executable, DEPLOY / name, *words], input=text, env=environment,
+                     capture_output=True, timeout=PATIENCE)
     return done.returncode, done.stdout.decode(), done.stderr.decode()
 
 

@@ -35,6 +35,11 @@ def web_server(folder):
         def log_message(self, *_):
             pass
 
+        def send_head(self):
+            # A file of the same second is not taken for the one before.
+            del self.headers["If-Modified-Since"]
+            return super().send_head()
+
     with http.server.ThreadingHTTPServer(("127.0.0.1", 0),
                                          functools.partial(Quiet, directory=folder)) as server:
         threading.Thread(target=server.serve_forever, daemon=True).start()
@@ -75,7 +80,7 @@ class ShownPages(SiteCase):
 
     @needs("chromium")
     def test_how_the_press_pages_are_shown(self):
-        with browser.browser(Path.cwd()) as it:
+        with browser.tab() as it:
             for name, answers in (("certified", TWIN), ("reopened", REOPENED),
                                   ("sixty-lists", sixty_lists())):
                 with self.subTest(name=name, answers=answers):
@@ -122,7 +127,7 @@ class ShownPages(SiteCase):
         """Bars, how much is counted and the colours of the lists are seen, light and dark."""
         with answering_desk(TWIN) as (port, _):
             press(port)
-        with browser.browser(Path.cwd()) as it:
+        with browser.tab() as it:
             it.open((Path.cwd() / "pages/con-c1.html").as_uri())
             for colours in ("light", "dark"):
                 it.command("Emulation.setEmulatedMedia", media="", features=[
@@ -139,7 +144,7 @@ class ShownPages(SiteCase):
         with four() as (_, port):
             press(port, "--setup", "setup.toml", folder="four")
         many_stations()
-        with browser.browser(Path.cwd()) as it, web_server(Path.cwd()) as site:
+        with browser.tab() as it, web_server(Path.cwd()) as site:
             it.open(f"{site}/four/elected-1.html")
             elected = ["B1", "B2", "A1", "A2", "B1"]
             self.assertEqual(it.run(heads), elected)

@@ -2,11 +2,11 @@
 
 import os
 import re
-import subprocess
 import sys
 import tomllib
 from pathlib import Path
 
+from tests.support import tools
 from tests.support.countries import four, many_stations, sixty_lists
 from tests.support.desks import answering_desk, done
 from tests.support.pages import TWIN, page_of, press, read, shown_text, site_folder
@@ -28,9 +28,9 @@ def contrast(one, other):
 class SiteFiles(SiteCase):
     def refused_site(self, port, words, **files):
         """A folder with this file is refused, in these words."""
-        found = subprocess.run([sys.executable, DEPLOY / "press.py", f"http://127.0.0.1:{port}",
-                                "wrong", *site_folder(**files)], capture_output=True, text=True,
-                               timeout=PATIENCE)
+        found = tools.run([sys.executable, DEPLOY / "press.py", f"http://127.0.0.1:{port}",
+                           "wrong", *site_folder(**files)], capture_output=True, text=True,
+                          timeout=PATIENCE)
         self.assertEqual(found.returncode, 1, found)
         self.assertIn(words, found.stderr, found)
         self.assertNotIn("Traceback", found.stderr, found)

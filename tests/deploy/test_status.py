@@ -8,6 +8,7 @@ Small servers take the place of the desk, the reader and the recorder; the copie
 """
 
 import contextlib
+import getpass
 import hashlib
 import http.client
 import http.server
@@ -28,6 +29,7 @@ import unittest
 from datetime import datetime, timedelta
 from pathlib import Path
 
+from tests.support import tools
 from tests.support.running import is_listened_to
 from tests.support.scripts import module
 
@@ -175,7 +177,7 @@ seconds = 1800
 
     def status(self, *words):
         first = (sys.executable, DEPLOY / "status", "--config", self.folder / "status.toml")
-        done = subprocess.run([*first, *words], capture_output=True, text=True, timeout=300)
+        done = tools.run([*first, *words], capture_output=True, text=True, timeout=300)
         return done.returncode, done.stdout, done.stderr
 
     def parts(self, status):
@@ -226,6 +228,29 @@ seconds = 1800
     def test_a_desk_that_is_shut(self):
         self.desk.status = 503
         self.assert_wrong("desk", "it answers with status 503")
+
+    def test_a_port_that_is_open(self):
+        """A user whom the rules of the ports keep from the desk reaches it where they are not
+        loaded. With --open-port there are none."""
+        user = "nobody" if os.geteuid() == 0 else getpass.getuser()
+        desk, rules = f"127.0.0.1:{self.desk.server_port}", self.folder / "ports.nft"
+        rules.write_text("table inet office {\n", encoding="utf-8")
+        more = f'"\nclosed_to = "{user}"\nrules = "{rules}'
+        self.configure(desk=desk + more)
+        self.assert_wrong("port", f"^{user} reaches it: its rules are not loaded$")
+        rules.write_text("# Every program on this computer .. (--open-port).\n", encoding="utf-8")
+        self.assertEqual(self.parts(0)["port"]["says"],
+                         "every program of this computer reaches it (--open-port)")
+        rules.unlink()
+        self.assert_wrong("port", f"^{rules} cannot be read: ")
+        self.configure(desk=f'{desk}"\nclosed_to = "no-such-user')
+        self.assert_wrong("port", "^there is no user no-such-user$")
+        # Refused, as where the desk is not there: that is a fault of the desk.
+        with socket.create_server(("127.0.0.1", 0)) as other:
+            closed = other.getsockname()[1]
+        self.configure(desk=f'127.0.0.1:{closed}"\nclosed_to = "{user}')
+        self.assert_wrong("desk", "it does not answer")
+        self.assertEqual(self.parts(1)["port"]["says"], f"{user} is refused")
 
     def test_a_reader_that_does_not_answer(self):
         (self.folder / "reader.sock").unlink()
@@ -300,6 +325,22 @@ seconds = 1800
         (self.folder / "pages/manifest.json").unlink()
         self.assert_wrong("pages", "manifest.json cannot be read")
 
+    def test_pages_and_copies_ahead_of_the_clock(self):
+        """Those of before the clock was put back may be hours old: nobody knows. Some seconds are
+        nothing."""
+        self.publish(-3 * 3600)
+        self.assert_wrong("pages", "they are 3 hours ahead of the clock, which was put back")
+        self.publish(-20)
+        self.assertTrue(self.parts(0)["pages"]["well"])
+        for seconds, is_well in ((3 * 3600 + 60, False), (20, True)):
+            later = time.time() + seconds
+            os.utime(self.copy, (later, later))
+            if is_well:
+                self.assertTrue(self.parts(0)["backup"]["well"])
+            else:
+                self.assert_wrong("backup", "was up to date 3 hours ahead of the clock, which was "
+                                  "put back, and agrees")
+
     def test_pages_that_are_no_files(self):
         """The user of the pages writes them, and root reads them: a pipe is not waited for, a link
         not followed, and what has no end not read."""
@@ -308,10 +349,22 @@ seconds = 1800
         file.rename(kept)
         for made in (lambda: os.mkfifo(file), lambda: file.symlink_to("/dev/zero"),
                      lambda: file.symlink_to(kept),
-                     lambda: (file.touch(), os.truncate(file, 1 << 40))):
+                     lambda: (file.touch(), os.truncate(file, 1 << 40)),
+                     lambda: file.write_text("[" * 100_000)):
             file.unlink(missing_ok=True)
             made()
             self.assert_wrong("pages", "manifest.json cannot be read")
+
+    def test_a_record_and_a_head_that_are_no_files(self):
+        """The user of the recorder writes both, and root reads them."""
+        for file, said, *more in ((self.record, "no file"), (self.head, "be read", "[" * 10**5)):
+            for made in (lambda: os.mkfifo(file), lambda: file.symlink_to("/dev/zero"),
+                         *(lambda text=text: file.write_text(text) for text in more)):
+                file.unlink()
+                made()
+                self.assert_wrong("record", said)
+            file.unlink()
+            self.put_lines()
 
     def test_copies_that_are_old_do_not_agree_or_are_not_there(self):
         old = time.time() - 3 * 3600
@@ -342,7 +395,7 @@ seconds = 1800
         self.copy.unlink()
         for _ in range(2):
             words = (sys.executable, DEPLOY / "backup", database, folder)
-            subprocess.run(words, check=True, capture_output=True)
+            tools.run(words, check=True, capture_output=True)
             [copy] = folder.iterdir()
             self.assertLess(time.time() - copy.stat().st_mtime, 60)
             os.utime(copy, (old, old))

@@ -10,6 +10,7 @@ import subprocess
 import sys
 from pathlib import Path
 
+from tests.support import tools
 from tests.support.case import ROOT
 from tests.support.pages import PAGE_BYTES, REOPENED, TWIN, Page
 from tests.support.rounds import DEPLOY, OfPages, copy_of_deploy
@@ -91,6 +92,11 @@ class Faults(OfPages):
                 ("templates/foot.html", '{% include "x.html" %}', "templates: x.html"),
                 ("logo.svg", "x" * 6_001, "logo.svg: 6001 bytes, and a logo may have 6000"),
                 ("site.css", "</style><script>", "site.css: a style has no </"),
+                ("templates/paper.css", b"/* \xff */", "templates: paper.css: not UTF-8"),
+                ("templates/foot.html", b"\xff", "templates: foot.html: not UTF-8"),
+                ("stations.csv", f"station,name\ns1,{'x' * 131_073}\n",
+                 "stations.csv: field larger than field limit"),
+                ("site.toml", f"x = {'9' * 4_301}", "site.toml: Exceeds the limit"),
                 ("site.toml", 'contact = 3', "site.toml: contact is 3: write a text in quotes"),
                 ("site.toml", 'accessibility = "javascript:alert(1)"',
                  "site.toml: accessibility is not an address such as ")):
@@ -113,7 +119,7 @@ class Faults(OfPages):
                 said = self.publish(TWIN, {"templates/foot.html": text}, status=1)
                 self.assertRegex(said, f"^failed: templates: .*'{attribute}'.* unsafe")
                 self.site_of({"templates/act_count.html": text})
-                done = subprocess.run(
+                done = tools.run(
                     [sys.executable, DEPLOY / "papers", "count", ROOT / "examples/montehondo.db",
                      "acts", "--site", "site"],
                     capture_output=True, text=True, timeout=120, check=False)
@@ -127,15 +133,18 @@ class Faults(OfPages):
         self.assertEqual(self.pages(), before)
 
     def test_a_python_without_jinja2(self):
-        """Which the option -S makes: it has the standard library alone."""
-        for name, *words in (["press.py", "http://127.0.0.1:1", "pages"],
-                             ["setup-json", "setup.toml", "."]):
-            with self.subTest(program=name):
-                done = subprocess.run([sys.executable, "-S", "-E", DEPLOY / name, *words],
-                                      capture_output=True, text=True, timeout=60, check=False)
-                self.assertEqual((done.returncode, done.stdout, done.stderr), (
-                    1, "", "failed: Python lacks the module jinja2: "
-                    "apt-get install python3-jinja2\n"))
+        """Which the option -S makes: it has the standard library alone, and setup-json needs no
+        more."""
+        def ran(name, *words):
+            done = subprocess.run([sys.executable, "-S", "-E", DEPLOY / name, *words],
+                                  capture_output=True, text=True, timeout=60, check=False)
+            return done.returncode, done.stdout, done.stderr
+
+        self.assertEqual(ran("press.py", "http://127.0.0.1:1", "pages"), (
+            1, "", "failed: Python lacks the module jinja2: apt-get install python3-jinja2\n"))
+        status, said, wrong = ran("setup-json", "setup.toml", ".")
+        self.assertEqual((status, wrong), (0, ""))
+        self.assertIn("map $http_office_setup $is_other_setup {", said)
 
 
 class Escaping(OfPages):
@@ -193,3 +202,13 @@ class Escaping(OfPages):
                 used = re.search(rf"[.({{= ]{name}\(", python + html.replace(
                     f"macro {name}(", ""))
                 self.assertTrue(used)
+
+    def test_no_two_templates_say_the_same(self):
+        """Seven lines that two of them have are a macro."""
+        first = {}
+        for file in sorted(DEPLOY.glob("templates/*.html")):
+            lines = [line.strip() for line in file.read_text(encoding="utf-8").splitlines()]
+            for start in range(len(lines) - 6):
+                with self.subTest(template=file.name, line=start + 1):
+                    same = tuple(lines[start:start + 7])
+                    self.assertEqual(first.setdefault(same, file.name), file.name)

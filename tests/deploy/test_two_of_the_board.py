@@ -5,13 +5,12 @@ import contextlib
 import json
 import signal
 import socket
-import subprocess
 import threading
 import tomllib
 from datetime import UTC, datetime, timedelta
 from pathlib import Path
 
-from tests.support import model
+from tests.support import model, tools
 from tests.support.case import needs
 from tests.support.clerks import clerks_browser, confirmed, said
 from tests.support.desks import answer_of, desk_with, done, recording_desk
@@ -321,8 +320,8 @@ def answer(to, status=200):
 class Tools(Safeguards):
     def entries(self, lines, *words):
         Path("setup.toml").write_text(SETUP, encoding="utf-8")
-        ran = subprocess.run([DEPLOY / "entries", "setup.toml", *words], input=chained(*lines),
-                             capture_output=True, timeout=PATIENCE)
+        ran = tools.run([DEPLOY / "entries", "setup.toml", *words], input=chained(*lines),
+                        capture_output=True, timeout=PATIENCE)
         self.assertEqual(ran.stderr, b"")
         return ran.returncode, ran.stdout.decode().splitlines()[:-1]
 
@@ -367,6 +366,40 @@ class Tools(Safeguards):
                        f"{first} is not the same request of another name, within the hour before"))
                 self.assertIn("c1: certify by simon alone (2026-11-29T21:10:00.000+00:00)", said_of)
 
+    def test_returns_that_changed_between_both_names(self):
+        """The first name saw other figures than those that are certified."""
+        def of_s1(act, **body):
+            return a_command(json.dumps(body), f"/station/s1/{act}") | {
+                "time": "2026-11-29T21:05:00.000+00:00"}
+
+        slip = {"slip": "p1", "votes": [9, 1], "blank": 0, "spoiled": 0}
+        closed = [of_s1("lodge", **slip), answer(1), of_s1("close", rev=1), answer(3)]
+        others = [of_s1("query", rev=2, note="9 or 1?"), answer(6),
+                  of_s1("correct", rev=3, **slip | {"votes": [1, 9]}), answer(8),
+                  of_s1("close", rev=4), answer(10)]
+        said = "s1 changed after the first of these asked"
+        for act, body in ACTS.items():
+            with self.subTest(act=act):
+                first, both = waits("berta", act, body), second("simon", 5, act, body)
+                self.assertEqual(self.entries([*closed, first, *others, both, answer(12)]), (
+                    1, [f"c1: {act} by berta and simon (2026-11-29T21:10:00.000+00:00): {said}"]))
+                # A command that was refused changed nothing, nor did one before both.
+                refused = [of_s1("query", rev=7, note="9 or 1?"), answer(6, 409)]
+                self.assertEqual(self.entries([*closed, first, *refused, both, answer(8)]),
+                                 (0, []))
+        # The edition changed, as after a reopening and another certificate.
+        reopened = [a_command('{"edition":2,"note":"sum"}', "/con/c1/reopen"), answer(6)]
+        first, both = (one("vacate", ACTS["vacate"]) for one in (
+            lambda *act: waits("berta", *act), lambda *act: second("simon", 5, *act)))
+        self.assertEqual(self.entries([*closed, first, *reopened, both, answer(8)]), (
+            1, ["c1: vacate by berta and simon (2026-11-29T21:10:00.000+00:00): c1 changed after "
+                "the first of these asked"]))
+        self.assertEqual(self.entries([*closed, reopened[0], answer(5), first, both | {"first": 7},
+                                       answer(8)]), (0, []))
+        # Of a certificate that was refused nothing has to be looked at.
+        lines = [*closed, waits("berta"), *others, second("simon", 5), answer(12, 409)]
+        self.assertEqual(self.entries(lines), (0, []))
+
     def test_a_first_name_is_used_up(self):
         lines = [waits("berta"), second("simon", 1), answer(2, 409), second("carla", 1)]
         status, said_of = self.entries([*lines, answer(4)])
@@ -384,8 +417,8 @@ class Tools(Safeguards):
         Path("setup.toml").write_text(SETUP.replace("seats = 3\n", 'seats = 3\nentry = "double"\n'),
                                       encoding="utf-8")
         lines = [waits("berta"), second("simon", 1), answer(2)]
-        ran = subprocess.run([DEPLOY / "entries", "setup.toml"], input=chained(*lines),
-                             capture_output=True, timeout=PATIENCE)
+        ran = tools.run([DEPLOY / "entries", "setup.toml"], input=chained(*lines),
+                        capture_output=True, timeout=PATIENCE)
         self.assertEqual((ran.returncode, ran.stdout.decode().splitlines()[0]), (
             1, "c1: certified by berta and simon (2026-11-29T21:10:00.000+00:00), edition 2, "
                "over s1"))
@@ -398,8 +431,8 @@ class Tools(Safeguards):
             self.assertEqual((status, said_of.split(";")[0]), (0, "sent 1, to look at 0"))
             self.assertEqual([(head.split(b" ")[1], body) for head, body in messages],
                              [(b"/con/c1/certify", b'{"edition":1}')])
-        checked = subprocess.run([DEPLOY / "replay", "--check"], input=chained(*lines),
-                                 capture_output=True, timeout=PATIENCE)
+        checked = tools.run([DEPLOY / "replay", "--check"], input=chained(*lines),
+                            capture_output=True, timeout=PATIENCE)
         self.assertEqual(checked.returncode, 0)
 
     def test_the_records_of_the_recorder(self):
@@ -411,8 +444,8 @@ class Tools(Safeguards):
         lines = Path("commands.log").read_bytes()
         self.assertEqual(len(lines.splitlines()), 3)
         for words in (("entries", "setup.toml", "--two-of-board"), ("replay", "--check")):
-            ran = subprocess.run([DEPLOY / words[0], *words[1:]], input=lines, timeout=PATIENCE,
-                                 capture_output=True)
+            ran = tools.run([DEPLOY / words[0], *words[1:]], input=lines, timeout=PATIENCE,
+                            capture_output=True)
             self.assertEqual((words, ran.returncode), (words, 0), ran)
 
 

@@ -17,7 +17,7 @@ from tests.support.scripts import in_page
 from tests.support.shown import PICTURES
 from tests.support.typed_slips import (
     CODES, DOWN, ENTER, ESCAPE, FIELD, LISTS, LODGED, PAGES, TAB, TEXTS, TYPED, UP, VALUES,
-    TypedCase, keys, place, setup_of,
+    TypedCase, place, setup_of,
 )
 
 # Of a form the upper edge of its first field and the lower one of its button; of what is said the
@@ -44,7 +44,7 @@ class TypedSlips(TypedCase):
     def test_codes_as_they_are_typed(self):
         """In any capitals, without hyphens, or an end that only one station of the constituency
         has; the code of the station that is shown, typed again, asks for it again."""
-        with browser.browser(Path.cwd()) as it:
+        with browser.tab() as it:
             for language in PAGES:
                 with (self.subTest(language=language),
                       self.page(it, language, self.published(setup_of())) as texts):
@@ -54,7 +54,7 @@ class TypedSlips(TypedCase):
                                         ("s9", "s9")):
                         it.run("document.getElementById('station').focus(); "
                                "document.getElementById('station').select()")
-                        keys(it, typed, ENTER)
+                        it.keys(typed, ENTER)
                         said(it, texts["now"])
                         self.assertEqual((it.run("return document.getElementById('station').value"),
                                           it.run("return shown.station"), it.run(FIELD)),
@@ -63,10 +63,10 @@ class TypedSlips(TypedCase):
                            "e.dispatchEvent(new Event('change'))")
                     said(it, texts["now"])
                     it.run("document.getElementById('station').focus()")
-                    keys(it, "5", ENTER)
+                    it.keys("5", ENTER)
                     said(it, place(texts["no_station"]))
                     it.run("document.getElementById('station').select()")
-                    keys(it, "a", ENTER)
+                    it.keys("a", ENTER)
                     several = place(texts["several_stations"], typed="a",
                                     stations=", ".join([CODES[0], CODES[2], CODES[3]]))
                     said(it, several)
@@ -76,7 +76,7 @@ class TypedSlips(TypedCase):
     def test_a_code_that_is_typed_again(self):
         """The slip comes back corrected: its return is asked for again, and the second entry is
         compared with what is recorded now, at once."""
-        with browser.browser(Path.cwd()) as it:
+        with browser.tab() as it:
             offices = []
 
             def lodged():
@@ -87,24 +87,24 @@ class TypedSlips(TypedCase):
             for language in PAGES:
                 with (self.subTest(language=language),
                       self.page(it, language, lodged(), "sara", "second") as texts):
-                    keys(it, "5a", ENTER)
+                    it.keys("5a", ENTER)
                     said(it, texts["now"])
                     done(offices[-1], f"/station/{CODES[0]}/query", {"rev": 1, "note": "blank"})
                     done(offices[-1], f"/station/{CODES[0]}/correct", {"rev": 2, **LODGED})
                     it.run("document.getElementById('station').focus(); "
                            "document.getElementById('station').select()")
-                    keys(it, "5a", ENTER)
+                    it.keys("5a", ENTER)
                     said(it, texts["now"])
                     self.assertEqual((it.run(FIELD), it.text("#confirm-rev")),
                                      ("slip", texts["compared_later"]))
-                    keys(it, "r101", ENTER, *[f"{typed}{ENTER}" for typed in TYPED])
+                    it.keys("r101", ENTER, *[f"{typed}{ENTER}" for typed in TYPED])
                     said(it, texts["same_closed"])
 
     @needs("chromium")
     def test_who_types_on_after_a_slip_that_differs(self):
         """Nothing of the next 25 slips is taken, and nothing is sent: the page stops until
         somebody says what to do with the one that differs."""
-        with browser.browser(Path.cwd()) as it:
+        with browser.tab() as it:
             offices = []
 
             def lodged():
@@ -116,9 +116,9 @@ class TypedSlips(TypedCase):
             for language in PAGES:
                 with (self.subTest(language=language),
                       self.page(it, language, lodged(), "sara", "second") as texts):
-                    keys(it, "5a", ENTER)
+                    it.keys("5a", ENTER)
                     said(it, texts["now"])
-                    keys(it, "r101", ENTER, *[f"{typed}{ENTER}" for typed in
+                    it.keys("r101", ENTER, *[f"{typed}{ENTER}" for typed in
                                               ["85", "120", *TYPED[2:]]])
                     said(it, texts["differs_blind"])
                     before = it.run(VALUES, "confirm")
@@ -133,22 +133,22 @@ class TypedSlips(TypedCase):
                         it.size(1366, 768)
                         it.picture(PICTURES / f"stopped-{texts['language']}.png")
                     for n in range(25):
-                        keys(it, f"{CODES[n % 4]}{ENTER}r{n}{ENTER}",
+                        it.keys(f"{CODES[n % 4]}{ENTER}r{n}{ENTER}",
                              *[f"{typed}{ENTER}" for typed in TYPED])
                     self.assertEqual((it.run(VALUES, "confirm"), it.run(asked), it.run(FIELD),
                                       it.text("#stopped-typed")),
                                      (before, many, "stopped-compare", texts["typed_for_nothing"]))
                     # On purpose: the paper is compared, with what was typed; or it is put aside.
-                    keys(it, ENTER)
+                    it.keys(ENTER)
                     self.assertEqual((it.run(FIELD), it.run(VALUES, "confirm")), ("slip", before))
                     it.click("#confirm fieldset > button")
                     said(it, texts["differs_blind"])
-                    keys(it, ESCAPE)
+                    it.keys(ESCAPE)
                     self.assertEqual((it.run(FIELD), it.run(VALUES, "confirm"),
                                       it.visible("#stopped")), ("station", [""] * 12, False))
-                    keys(it, "5b", ENTER)
+                    it.keys("5b", ENTER)
                     said(it, texts["now"])
-                    keys(it, "r101", ENTER, *[f"{typed}{ENTER}" for typed in TYPED])
+                    it.keys("r101", ENTER, *[f"{typed}{ENTER}" for typed in TYPED])
                     said(it, texts["same_closed"])
                     states = [json.loads(offices[-1].ask("GET", f"/station/{code}")[1])["status"]
                               for code in CODES]
@@ -158,28 +158,28 @@ class TypedSlips(TypedCase):
     def test_from_field_to_field(self):
         """Enter and the arrows lead from the slip to the total, and Enter there sends; a field that
         is empty or wrong is not left by Enter; the code of another station is no slip."""
-        with browser.browser(Path.cwd()) as it:
+        with browser.tab() as it:
             for language in PAGES:
                 with (self.subTest(language=language),
                       self.page(it, language, self.published(setup_of())) as texts):
-                    keys(it, "5a", ENTER)
+                    it.keys("5a", ENTER)
                     said(it, texts["now"])
                     place_of = ("return [...document.querySelectorAll('#lodge input')]"
                                 ".indexOf(document.activeElement)")
-                    keys(it, CODES[1], ENTER)
+                    it.keys(CODES[1], ENTER)
                     said(it, place(texts["slip_is_station"], slip=CODES[1], station=CODES[0]))
                     self.assertEqual(it.run(place_of), 0)
-                    keys(it, "r101", ENTER, ENTER)
+                    it.keys("r101", ENTER, ENTER)
                     self.assertEqual((it.run(place_of), it.run(
                         "return document.activeElement.validationMessage")), (1, texts["fill_in"]))
-                    keys(it, "120", DOWN, "x", ENTER)
+                    it.keys("120", DOWN, "x", ENTER)
                     self.assertEqual(it.run(place_of), 2)
-                    keys(it, UP)
+                    it.keys(UP)
                     self.assertEqual(it.run(place_of), 1)
-                    keys(it, *[f"{typed}{ENTER}" for typed in [*TYPED[:-1], "1"]])
+                    it.keys(*[f"{typed}{ENTER}" for typed in [*TYPED[:-1], "1"]])
                     said(it, place(texts["wrong_total"], sum=364, typed=1))
                     self.assertEqual(it.text("#lodge-fault"), place(texts["adds_up_to"], sum=364))
-                    keys(it, *[f"{typed}{ENTER}" for typed in TYPED])
+                    it.keys(*[f"{typed}{ENTER}" for typed in TYPED])
                     said(it, texts["lodged"])
                     self.assertEqual(it.run(FIELD), "station")
 
@@ -190,7 +190,7 @@ class TypedSlips(TypedCase):
             it.size(width, 768)
             it.run("document.getElementById('station').focus(); "
                    "document.getElementById('station').select()")
-            keys(it, "5a", ENTER)
+            it.keys("5a", ENTER)
             said(it, texts["now"])
             self.assertEqual(it.text("#place"), "\n".join(
                 [CODES[0], "Escuela Ausiàs March", "Carrer Major 3",
@@ -211,7 +211,7 @@ class TypedSlips(TypedCase):
         """Of 1366 and of 1024 by 768 points: a first entry, a second one, and a correction beside
         the return that is queried for a long reason."""
         names = f"station,name,place\n{CODES[0]},Escuela Ausiàs March,Carrer Major 3\n"
-        with browser.browser(Path.cwd()) as it:
+        with browser.tab() as it:
             for language in PAGES:
                 office = self.published(setup_of(), stations=names)
                 with (self.subTest(language=language),
@@ -231,7 +231,7 @@ class TypedSlips(TypedCase):
     def test_a_draft(self):
         """Figures that a clerk typed are there after the window was closed, until they were sent;
         of a second entry nothing is kept, and no other name finds it."""
-        with browser.browser(Path.cwd()) as it:
+        with browser.tab() as it:
             for language in PAGES:
                 texts, office = TEXTS[language], self.published(setup_of())
                 shutil.copy(DEPLOY / "www" / PAGES[language], "deploy/www/clerk.html")
@@ -243,29 +243,29 @@ class TypedSlips(TypedCase):
                         it.open("about:blank")
                         it.open(again)
                         said(it, texts["now"])
-                        keys(it, "5a", ENTER)
+                        it.keys("5a", ENTER)
                         said(it, texts["now"])
 
                     opened()
-                    keys(it, "r101", ENTER, *[f"{typed}{ENTER}" for typed in TYPED[:5]])
+                    it.keys("r101", ENTER, *[f"{typed}{ENTER}" for typed in TYPED[:5]])
                     opened()
                     self.assertEqual(it.run(VALUES, "lodge"),
                                      ["r101", *TYPED[:5], *[""] * 6])
                     self.assertIn(texts["draft"].split("{")[0], it.text("#return"))
                     it.run("document.querySelectorAll('#lodge .counts input')[5].focus()")
-                    keys(it, *[f"{typed}{ENTER}" for typed in TYPED[5:]])
+                    it.keys(*[f"{typed}{ENTER}" for typed in TYPED[5:]])
                     said(it, texts["lodged"])
                     self.assertEqual(it.run("return localStorage.length"), 0)
                 with pictures.clerks_site(office, "sara", "second") as address:
                     opened(address)
-                    keys(it, "r101", ENTER, *[f"{typed}{ENTER}" for typed in TYPED[:5]])
+                    it.keys("r101", ENTER, *[f"{typed}{ENTER}" for typed in TYPED[:5]])
                     self.assertEqual(it.run("return localStorage.length"), 0)
                     it.run("document.getElementById('confirm').reset()")
 
     @needs("chromium")
     def test_the_list_is_renewed(self):
         """The stations that are not closed are those of the last answer, whoever closed them."""
-        with browser.browser(Path.cwd()) as it:
+        with browser.tab() as it:
             offices = []
 
             def fresh():
@@ -293,7 +293,7 @@ class TypedSlips(TypedCase):
     def test_what_waits(self):
         """Whoever sees to it that all is closed is shown what waits, since when and by whom, that a
         second entry differs, and who typed how much; whoever makes these is not offered it."""
-        with browser.browser(Path.cwd()) as it:
+        with browser.tab() as it:
             for language in PAGES:
                 office = self.published(setup_of())
                 done(office, f"/station/{CODES[1]}/lodge", LODGED)
@@ -338,7 +338,7 @@ class TypedSlips(TypedCase):
                 CODES[2]: [command(7, "confirm", 409, {"refused": 7, "word": "differs"})]}
         histories = {code: {"whole": True, "commands": [one, *more.get(code, [])]}
                      for code, one in lodged.items()}
-        with browser.browser(Path.cwd()) as it:
+        with browser.tab() as it:
             for language in PAGES:
                 office = self.published(setup_of())
                 for code in CODES:
@@ -362,25 +362,25 @@ class TypedSlips(TypedCase):
     def test_a_slip_that_is_queried(self):
         """The figures of a second entry go with the paper that is put aside: nobody asks whether
         they may go, and they are typed again once the return was corrected."""
-        with browser.browser(Path.cwd()) as it:
+        with browser.tab() as it:
             for language in PAGES:
                 office = self.published(setup_of())
                 for code in CODES:
                     done(office, f"/station/{code}/lodge", LODGED)
                 with (self.subTest(language=language),
                       self.page(it, language, office, "sara", "second") as texts):
-                    keys(it, "5a", ENTER)
+                    it.keys("5a", ENTER)
                     said(it, texts["now"])
-                    keys(it, "r101", ENTER, *[f"{typed}{ENTER}" for typed in
+                    it.keys("r101", ENTER, *[f"{typed}{ENTER}" for typed in
                                               ["85", "120", *TYPED[2:]]])
                     said(it, texts["differs_blind"])
-                    keys(it, ENTER)
+                    it.keys(ENTER)
                     it.type("#query input[name=note]", "120 and 85")
-                    keys(it, ENTER)
+                    it.keys(ENTER)
                     said(it, texts["is_done"])
                     self.assertEqual((it.run(VALUES, "confirm"), it.run(FIELD)),
                                      ([""] * 12, "station"))
-                    keys(it, "5b", ENTER)
+                    it.keys("5b", ENTER)
                     said(it, texts["now"])
                     self.assertEqual(it.run("return shown.station"), CODES[1])
 
@@ -388,17 +388,17 @@ class TypedSlips(TypedCase):
     def test_a_tick_by_keys(self):
         """Tab, the space bar and Enter send what the paper says though it is unusual."""
         figures = [*TYPED[:8], "60", "2", str(420)]
-        with browser.browser(Path.cwd()) as it:
+        with browser.tab() as it:
             for language in PAGES:
                 with (self.subTest(language=language),
                       self.page(it, language, self.published(setup_of())) as texts):
-                    keys(it, "5a", ENTER)
+                    it.keys("5a", ENTER)
                     said(it, texts["now"])
-                    keys(it, "r101", ENTER, *[f"{typed}{ENTER}" for typed in figures])
+                    it.keys("r101", ENTER, *[f"{typed}{ENTER}" for typed in figures])
                     one = texts["figures"]["one"]
                     said(it, place(texts["unusual"], figures=one))
                     self.assertEqual(it.run(FIELD), "blank")
-                    keys(it, TAB, " ", ENTER)
+                    it.keys(TAB, " ", ENTER)
                     said(it, texts["lodged"])
 
     @needs("chromium")
@@ -408,7 +408,7 @@ class TypedSlips(TypedCase):
         names = f"station,name,place\n{CODES[0]},Escuela Ausiàs March,Carrer Major 3\n"
         asked = ("return performance.getEntriesByType('resource').filter((one) => "
                  "one.name.endsWith('/site.json')).length")
-        with browser.browser(Path.cwd()) as it:
+        with browser.tab() as it:
             for language in PAGES:
                 office = self.published(setup_of(), stations=names)
                 Path("pages/site.json").rename("site.json")
@@ -421,7 +421,7 @@ class TypedSlips(TypedCase):
                             it.run("siteAgain = 0")
                         it.run("document.getElementById('station').focus(); "
                                "document.getElementById('station').select()")
-                        keys(it, "5a", ENTER)
+                        it.keys("5a", ENTER)
                         said(it, texts["now"])
                         self.assertEqual((it.text("#place") == place_of, it.run(asked)),
                                          (not again, 1 + again))
@@ -433,7 +433,7 @@ class TypedSlips(TypedCase):
         rows = f"station,slip,blank,spoiled,{','.join(code for code, _, _ in LISTS)}\n"
         file = Path("returns.csv").resolve()
         file.write_text(f"{rows}{CODES[0]},p1,0,x,{'1,' * 7}1\n{CODES[1]},p2,0,0,{'9,' * 7}9\n")
-        with browser.browser(Path.cwd()) as it:
+        with browser.tab() as it:
             for language in PAGES:
                 with (self.subTest(language=language),
                       self.page(it, language, self.published(setup_of())) as texts):
@@ -455,7 +455,7 @@ class Unusual(Case):
         tenth of right returns are called unusual, in the first hour by a former result and later by
         closed returns. A lost digit is seen mostly, and two exchanged figures the more often the
         more is known."""
-        with browser.browser(Path.cwd()) as it:
+        with browser.tab() as it:
             it.open((DEPLOY / "www/clerk.html").as_uri())
             found = it.run(ALARMS)
         print(found)

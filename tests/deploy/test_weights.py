@@ -87,7 +87,7 @@ class Weights(SiteCase):
         rows = {caption: len(cells) - 1 for caption, cells in found.items()}
         quotients = [f"Quotients of each list, seats {first} to {min(first + 7, 42)}"
                      for first in range(1, 43, 8)]
-        self.assertEqual(rows, {"Seats of each list": 61, "Votes of each list": 60,
+        self.assertEqual(rows, {"Seats of each list": 61, "Votes of each list": 61,
                                 "Returns of the stations": 1, "Holders of the seats": 100,
                                 "Awards in order": 100, **dict.fromkeys(quotients, 60),
                                 "Votes that a list lacked for one seat more, whatever lot is "
@@ -149,7 +149,8 @@ class Weights(SiteCase):
                         pages = self.certified_pages(setup, votes, folder)
                         codes = [f"LIST-{n:02}-{'X' * 8} {name}" for n in range(60)]
                         for caption, wanted in (("Seats of each list", [*codes, "Total"]),
-                                                ("Votes of each list", codes)):
+                                                ("Votes of each list",
+                                                 [*codes, "Blank votes"])):
                             with self.subTest(caption=caption, wanted=wanted):
                                 self.assertEqual([row[0] for row in rows_of_pages(pages, caption)],
                                                  wanted)

@@ -161,6 +161,7 @@ class Links(DocumentCase):
             "not-source",
         }
         of_the_kit |= {"malloc", "nice"}
+        words |= of_the_kit
         calls = {
             name
             for path in found_in("crates/*/src/**/*.rt")
@@ -188,6 +189,6 @@ class Links(DocumentCase):
             count += len(called) + len(named_there)
             wrong += [f"{shown(path)}: {name} is called" for name in called if name not in calls]
             for name in named_there:
-                if name not in words | of_the_kit and not name.startswith(("tally_", "_")):
+                if name not in words and not name.startswith(("tally_", "_")):
                     wrong.append(f"{shown(path)}: {name}")
         self.finds_nothing(count, wrong)

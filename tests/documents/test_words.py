@@ -3,6 +3,7 @@
 import ast
 import re
 import tokenize
+from functools import cache
 
 from tests.support.case import ROOT
 from tests.support.documents import (
@@ -116,12 +117,28 @@ def words_of_code(path):
             yield number, re.sub(r"`[^`]*`", "`", text)
 
 
+@cache
+def definitions_of(path):
+    """A file of Python, its classes and its functions, as syntax trees."""
+    return [
+        node
+        for node in ast.walk(ast.parse(text_of(path)))
+        if isinstance(node, (ast.Module, ast.ClassDef, ast.FunctionDef))
+    ]
+
+
+@cache
+def comments_in(path):
+    """The comments of a file of Python, as tokens."""
+    with path.open("rb") as file:
+        return [it for it in tokenize.tokenize(file.readline) if it.type == tokenize.COMMENT]
+
+
 def docstrings_of(path):
     """The docstrings of a file of Python, each with its line."""
-    for node in ast.walk(ast.parse(text_of(path))):
-        if isinstance(node, (ast.Module, ast.ClassDef, ast.FunctionDef)):
-            if said := ast.get_docstring(node):
-                yield node.body[0].lineno, said
+    for node in definitions_of(path):
+        if said := ast.get_docstring(node):
+            yield node.body[0].lineno, said
 
 
 def documentation_of(path):
@@ -135,14 +152,12 @@ def words_of_python(path):
     """The words of a file of Python, each with its line: its comments, its docstrings and the
     names of its tests.
     """
-    with path.open("rb") as file:
-        for token in tokenize.tokenize(file.readline):
-            if token.type == tokenize.COMMENT:
-                yield token.start[0], re.sub(r"`[^`]*`", "`", token.string)
+    for token in comments_in(path):
+        yield token.start[0], re.sub(r"`[^`]*`", "`", token.string)
     for number, said in docstrings_of(path):
         # (a name in back quotes may be broken over lines)
         yield number, re.sub(r"`[^`]*`", "`", said)
-    for node in ast.walk(ast.parse(text_of(path))):
+    for node in definitions_of(path):
         if isinstance(node, ast.FunctionDef) and node.name.startswith("test_"):
             yield node.lineno, node.name.replace("_", " ")
 
@@ -165,10 +180,9 @@ def comments_of_script(path):
 
 def comments_of_python(path):
     """The comments of a file of Python that are lines of their own."""
-    with path.open("rb") as file:
-        for token in tokenize.tokenize(file.readline):
-            if token.type == tokenize.COMMENT and token.line.lstrip().startswith("#"):
-                yield token.start[0], token.line.rstrip("\n")
+    for token in comments_in(path):
+        if token.line.lstrip().startswith("#"):
+            yield token.start[0], token.line.rstrip("\n")
 
 
 def words_of_edit(path):

@@ -66,6 +66,13 @@ class Order(Quiet):
         self.assertEqual(
             runner.begun, ["needed", "long", "middle", "short", "alone", "alone too"])
 
+    def test_the_first_in_the_line_is_the_next_to_begin(self):
+        """Whoever waits for room takes the first one then, and none was chosen before."""
+        runner = Noted(1, 6, None)
+        names = [f"s{n:02}" for n in range(40, 0, -1)]
+        runner.run_all([part(name, int(name[1:]), 50) for name in reversed(names)])
+        self.assertEqual((runner.begun, runner.most), (names, 1))
+
     def test_nothing_runs_beside_one_that_is_alone(self):
         found = {}
         runner = Noted(4, 6, None, wait=lambda one, beside: found.update({one.name: beside}))
@@ -151,6 +158,22 @@ class Results(Quiet):
         self.assertFalse(thread.is_alive())
         self.assertEqual([one.failed for one in results], [1, 1])
         self.assertFalse(Path("second").exists())
+
+
+class Names(Case):
+    def test_what_a_name_stands_for(self):
+        parts = [*run.suites(), *run.programs()]
+        memory = [f"bench/refused_{of}.py" for of in ("memory", "requests", "program")]
+        for name, wanted in (
+            ("import", ["program/test_import"]), ("deploy/limits", ["deploy/test_limits"]),
+            ("tests/deploy/test_limits.py", ["deploy/test_limits"]), ("bench", memory),
+            ("bench/refused_program.py", memory[2:]), ("nonesuch", []),
+        ):
+            with self.subTest(name=name):
+                self.assertEqual([part.name for part in run.named(parts, name)], wanted)
+        found = [part.name for part in run.named(parts, "launcher")]
+        self.assertIn("launcher/test_suites", found)
+        self.assertEqual({name.split("/")[0] for name in found}, {"launcher"})
 
 
 class Stored(Quiet):

@@ -3,12 +3,11 @@
 import itertools
 import json
 import random
-import subprocess
 import sys
 import tomllib
 from pathlib import Path
 
-from tests.support import model
+from tests.support import model, tools
 from tests.support.beside import (
     CON_REPORTS,
     LOOKS_AT_ALL,
@@ -106,7 +105,7 @@ def published_and_read_back(plain, setup):
         "--returns",
         "published",
     )
-    counted = subprocess.run(
+    counted = tools.run(
         [*words, "--lots", "lots"], capture_output=True, text=True, timeout=PATIENCE
     )
     seats = (
@@ -120,7 +119,7 @@ def published_and_read_back(plain, setup):
             for con, won in seats
         ),
     )
-    without = subprocess.run(words, capture_output=True, text=True, timeout=PATIENCE)
+    without = tools.run(words, capture_output=True, text=True, timeout=PATIENCE)
     same((without.returncode, without.stdout.count("a lot is missing")), (1, len(plain.cons)))
 
 

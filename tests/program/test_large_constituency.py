@@ -9,13 +9,12 @@ import itertools
 import os
 import resource
 import statistics
-import subprocess
 import sys
 import tomllib
 from pathlib import Path
 
 from tests.program.test_limits import WITHOUT_A_DISK
-from tests.support import model
+from tests.support import model, tools
 from tests.support.beside import LOOKS_AT_ALL, get, post, shown_as
 from tests.support.case import ROOT
 from tests.support.costs import FEWEST, has_taken
@@ -194,7 +193,7 @@ def published_and_read_back(towns):
         it.command("an import at once", imports, {"lodged": it.count}, text, db=again)
         same(show("returns", db=again), Ran(0, text, ""))
         words = ("--setup", "setup.toml", "--returns", f"published-{it.count}")
-        found = subprocess.run(
+        found = tools.run(
             [sys.executable, ROOT / "examples/recount.py", *words],
             capture_output=True,
             text=True,

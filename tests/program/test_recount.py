@@ -2,10 +2,10 @@
 
 import os
 import shutil
-import subprocess
 import sys
 from pathlib import Path
 
+from tests.support import tools
 from tests.support.case import ROOT
 from tests.support.desk import Desk, take
 from tests.support.office import SETUP, THREE_STATIONS
@@ -28,7 +28,7 @@ from tests.support.twin_town import SCRIPT, SEATS, twin_town
 
 
 def cannot_be_counted(name):
-    ran = subprocess.run(
+    ran = tools.run(
         [sys.executable, ROOT / "examples/recount.py", name],
         capture_output=True,
         text=True,
@@ -94,7 +94,7 @@ class Recount(ProgramCase):
                     "--returns",
                     "published",
                 )
-                counted = subprocess.run(words, capture_output=True, text=True, timeout=PATIENCE)
+                counted = tools.run(words, capture_output=True, text=True, timeout=PATIENCE)
                 self.assertEqual(
                     Ran(counted.returncode, counted.stdout, counted.stderr),
                     Ran(1, "c1 A 2 B 1 (1 of 1 stations; a lot is missing)\n", ""),

@@ -1,8 +1,11 @@
 """`examples/recount.py` on elections that are worked by hand, and beside a search of all seats."""
 
+import contextlib
 import importlib.util
 import io
 import itertools
+import re
+import sqlite3
 import sys
 from contextlib import redirect_stderr, redirect_stdout
 from fractions import Fraction
@@ -256,9 +259,50 @@ class OfReturns(Case):
             setup.replace("seats = 3", "seats = 501"),
             setup.replace("seats = 3", "seats = 0"),
             setup.replace("seats = 3", "seats = true"),
+            setup.replace("seats = 3", "seats = 3.0"),
+            setup.replace('base = "valid"\n', 'base = "valid"\nlot = "coin"\n'),
+            setup.replace('profile = "d0"\n', 'profile = "d0"\nsize = "huge"\n'),
+            setup.replace("threshold = 0\n", ""),
         ):
             with self.subTest(setup=wrong):
+                self.assertNotEqual(wrong, setup)
                 self.cannot_be_counted(self.given(wrong, c1=good))
+
+    def test_numbers_of_a_setup_at_their_limits(self):
+        """One that is outside them is named; the others are counted."""
+        setup, rows = profile("d0") + town(), ("AB", "c1-1,p,0,0,10,20", "c1-2,q,0,0,1,1")
+        for key, least, most, of in (
+            ("threshold", 0, 10_000, ""),
+            ("seats", 1, 500, ""),
+            ("electors", 1, 1_000_000, " of c1-1"),
+            ("agents", 0, 1_000, " of c1-2"),
+        ):
+            self.assertEqual(key in setup, key != "agents")
+            for value in (least, most, least - 1, most + 1, f"{most}.0", "true", f'"{least}"'):
+                with self.subTest(key=key, value=value):
+                    line = f"{key} = {value}\n"
+                    changed = re.sub(f"{key} = .*\n", line, setup, count=1)
+                    ran = self.given(setup + line if key == "agents" else changed, c1=rows)
+                    if value in (least, most):
+                        self.assertIn(ran.status, (0, 1), ran)
+                        continue
+                    self.cannot_be_counted(ran)
+                    self.assertIn(f"c1: {key}{of}: ", ran.err)
+                    self.assertTrue(ran.err.endswith(f" is not {least} to {most}\n"), ran.err)
+
+    def test_more_lists_than_a_constituency_may_have(self):
+        """The 61st has the number of spoiled votes in a database."""
+        for lists in (60, 61):
+            codes = [f"L{n}" for n in range(lists)]
+            town_of = constituency("c1", "Town", 1, "d0") + "".join(
+                party_list(code, "List", "Ana") for code in codes) + station("s1")
+            rows = (codes, f"s1,p,0,0,2{',1' * (lists - 1)}")
+            ran = self.given(profile("d0") + town_of, c1=rows)
+            if lists == 60:
+                self.assertEqual((ran.status, ran.out[:9]), (0, "c1 L0 1 L"), ran)
+                continue
+            self.cannot_be_counted(ran)
+            self.assertIn("c1: lists: 61 is not 1 to 60", ran.err)
 
     def cannot_be_counted(self, ran):
         self.assertEqual((ran.status, ran.out, ran.err.count("\n")), (2, "", 1))
@@ -360,6 +404,19 @@ class OfDatabases(ProgramCase):
                     spoiled(f"c1 differs:{differs}\n", db)
                 else:
                     self.assertEqual(counted(db), Ran(0, "c1 agrees\n", ""))
+
+    def test_numbers_below_0(self):
+        """As of a table without its CHECK, which no office opens: its sums agree."""
+        new()
+        close_return("s1", "c1", [100, 100])
+        with contextlib.closing(sqlite3.connect("office.db")) as it:
+            it.execute("PRAGMA writable_schema = 1")
+            it.execute("UPDATE sqlite_master SET sql = replace(sql, ' CHECK (n >= 0)', '')")
+            it.commit()
+        self.assertEqual(counted("office.db"), Ran(0, "c1 agrees\n", ""))
+        for table in ("counts", "totals"):
+            change(f"UPDATE {table} SET n = -9 WHERE item = 0")
+        spoiled("c1 differs: numbers below 0\n")
 
     def test_more_votes_than_electors(self):
         new()

@@ -1,8 +1,8 @@
 """The audit of seats, as a module and as a command."""
 
-import subprocess
 import sys
 
+from tests.support import tools
 from tests.support.program import Ran
 from tests.support.running import PATIENCE
 from tests.support.scripts import module
@@ -14,9 +14,9 @@ SEED = "31415926535897932384"
 METHODS = ("dhondt", "sainte-lague", "modified-sainte-lague", "hare")
 
 
-def audit(*words):
-    ran = subprocess.run([sys.executable, TOOL, *map(str, words)], capture_output=True, text=True,
-                         timeout=PATIENCE)
+def audit(*words, run=tools.run):
+    ran = run([sys.executable, TOOL, *map(str, words)], capture_output=True, text=True,
+              timeout=PATIENCE)
     return Ran(ran.returncode, ran.stdout, ran.stderr)
 
 

@@ -1,5 +1,6 @@
 """Chromium without a window, driven over the WebDriver protocol (W3C) with Python alone."""
 
+import atexit
 import base64
 import contextlib
 import http.client
@@ -8,18 +9,31 @@ import os
 import shutil
 import signal
 import subprocess
+import tempfile
 import time
 
 from tests.support.running import PATIENCE, free_port
+from tests.support.site import NAME
 
 DRIVER = shutil.which("chromedriver")
 CHROMIUM = shutil.which("chromium") or shutil.which("chromium-browser")
 # The name of an element's number in the protocol.
 KEY = "element-6066-11e4-a52e-4f735466cecf"
-# Brings a part to the middle of the window where it is outside, or another one is over its middle.
-FROM_BELOW = """const [e] = arguments, box = e.getBoundingClientRect();
-const over = document.elementFromPoint(box.x + box.width / 2, box.y + box.height / 2);
-if (!e.contains(over)) e.scrollIntoView({ block: "center" });"""
+# Where the middle of a part is. It is brought to the middle of the window before where it is
+# outside, or where another one is over it, as a line that stays at the top.
+MIDDLE = """const [css] = arguments, e = document.querySelector(css);
+const middle = () => { const [box] = e.getClientRects();
+  return [Math.floor(box.x + box.width / 2), Math.floor(box.y + box.height / 2)]; };
+const isFree = () => e.contains(document.elementFromPoint(...middle()));
+if (!isFree()) e.scrollIntoView({ block: "center" });
+if (!isFree()) throw new Error(`another part is over ${css}`);
+return middle();"""
+# Goes to a field, of which all is selected.
+FIELD = """const [css] = arguments, e = document.querySelector(css);
+e.focus();
+e.select();
+if (document.activeElement !== e) throw new Error(`${css} takes no keys`);"""
+DELETE = "\ue017"
 
 
 class Failed(Exception):
@@ -28,21 +42,32 @@ class Failed(Exception):
 
 class Browser:
     def __init__(self, port, session=None):
-        self.port, self.session, self.patience = port, session, PATIENCE
+        self.session, self.patience = session, PATIENCE
+        self.connection = http.client.HTTPConnection("127.0.0.1", port)
 
     def ask(self, method, path, body=None):
-        connection = http.client.HTTPConnection("127.0.0.1", self.port, timeout=self.patience)
-        with contextlib.closing(connection):
-            connection.request(method, path, None if body is None else json.dumps(body),
-                               {"Content-Type": "application/json"})
-            answer = connection.getresponse()
+        self.connection.timeout = self.patience
+        if self.connection.sock:
+            self.connection.sock.settimeout(self.patience)
+        try:
+            self.connection.request(method, path, None if body is None else json.dumps(body),
+                                    {"Content-Type": "application/json"})
+            answer = self.connection.getresponse()
             value = json.loads(answer.read())["value"]
+        except BaseException:
+            # (what comes later is no answer to the next question)
+            self.connection.close()
+            raise
         if answer.status != 200:
             raise Failed(f"{path}: {value['error']}: {value['message'].splitlines()[0]}")
         return value
 
     def of_session(self, method, path, body=None):
         return self.ask(method, f"/session/{self.session}{path}", body)
+
+    def go_to(self, window):
+        """Goes to a window or a tab, which is what all else is asked of from then on."""
+        self.of_session("POST", "/window", {"handle": window})
 
     def open(self, url):
         self.of_session("POST", "/url", {"url": url})
@@ -63,17 +88,28 @@ class Browser:
     def find(self, css):
         return self.of_session("POST", "/element", {"using": "css selector", "value": css})[KEY]
 
+    def act(self, kind, actions):
+        """Lets a keyboard or a mouse do this, one after the other."""
+        self.of_session("POST", "/actions",
+                        {"actions": [{"type": kind, "id": kind, "actions": actions}]})
+
+    def keys(self, *pressed):
+        """Presses keys, one after the other, as a keyboard does."""
+        self.act("key", [{"type": kind, "value": key} for key in "".join(pressed)
+                         for kind in ("keyDown", "keyUp")])
+
     def click(self, css):
-        """Presses a part. One that is not seen, as under a line that stays at the top, is brought
-        to the middle of the window before, as somebody who presses it does."""
-        found = self.find(css)
-        self.run(FROM_BELOW, {KEY: found})
-        self.of_session("POST", f"/element/{found}/click", {})
+        """Presses a part. One that is not seen is brought to the middle of the window before, as
+        somebody who presses it does."""
+        x, y = self.run(MIDDLE, css)
+        self.act("pointer", [{"type": "pointerMove", "x": x, "y": y},
+                             {"type": "pointerDown", "button": 0},
+                             {"type": "pointerUp", "button": 0}])
 
     def type(self, css, text):
-        found = self.find(css)
-        self.of_session("POST", f"/element/{found}/clear", {})
-        self.of_session("POST", f"/element/{found}/value", {"text": text})
+        """Types a text into a field, in the place of what is there."""
+        self.run(FIELD, css)
+        self.keys(text or DELETE)
 
     def text(self, css):
         return self.of_session("GET", f"/element/{self.find(css)}/text")
@@ -138,6 +174,47 @@ class Browser:
         file.write_bytes(base64.b64decode(shot["data"]))
 
 
+# The browsers that no test uses now, each with what ends it.
+IDLE = []
+
+
+def for_tabs():
+    """A browser for tests that come one after the other, and what ends it: at the latest, the end
+    of the suite."""
+    held = contextlib.ExitStack()
+    folder = held.enter_context(
+        tempfile.TemporaryDirectory(prefix="office-browser-", ignore_cleanup_errors=True))
+    it = held.enter_context(browser(folder, f"--host-resolver-rules=MAP {NAME} 127.0.0.1"))
+    atexit.register(held.close)
+    return it, held
+
+
+@contextlib.contextmanager
+def tab():
+    """A browser of one tab, in which nothing is stored, and which finds the tests' site on this
+    machine.
+
+    To start a browser takes a slow processor two seconds. So one that a test has left is used
+    again, unless that test failed. Two at once are two browsers.
+    """
+    it, held = IDLE.pop() if IDLE else for_tabs()
+    with contextlib.ExitStack() as unless_well:
+        unless_well.callback(held.close)
+        yield it
+        # What its pages stored, of all sites, and what it kept of their files.
+        it.command("Storage.clearDataForOrigin", origin="*", storageTypes="all")
+        it.command("Network.clearBrowserCache")
+        old = it.of_session("GET", "/window/handles")
+        new = it.of_session("POST", "/window/new", {"type": "tab"})["handle"]
+        for window in old:
+            it.go_to(window)
+            it.of_session("DELETE", "/window")
+        it.go_to(new)
+        it.command("Page.bringToFront")
+        unless_well.pop_all()
+    IDLE.append((it, held))
+
+
 @contextlib.contextmanager
 def browser(folder, *words, **environment):
     """A browser with a profile of its own in the folder, and this added to its environment; it is
@@ -162,6 +239,7 @@ def browser(folder, *words, **environment):
         # The browser too, where it was started and no session of it is known.
         os.killpg(driver.pid, signal.SIGTERM)
         driver.wait(timeout=PATIENCE)
+        it.connection.close()
 
 
 def capabilities(words):

@@ -4,6 +4,7 @@ import functools
 import os
 import shutil
 import signal
+import sys
 import tempfile
 import time
 import unittest
@@ -15,6 +16,11 @@ from tests.support.running import take_signals
 ROOT = Path(__file__).resolve().parent.parent.parent
 # The seconds after which a test fails.
 LONGEST = 7200
+# Tools begin by the `python3` of the PATH. It is the one that runs the tests, and no script in its
+# place that first looks for one, as some machines have it.
+if sys.executable and os.path.realpath(shutil.which("python3") or "") != os.path.realpath(
+        sys.executable):
+    os.environ["PATH"] = f"{os.path.dirname(sys.executable)}:{os.environ.get('PATH', '')}"
 # Servers such as nginx are mostly where only the administrator's PATH has them.
 FOLDERS = f"{os.environ.get('PATH', '')}:/usr/sbin:/usr/local/sbin"
 

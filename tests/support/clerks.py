@@ -2,7 +2,6 @@
 
 import contextlib
 import json
-from pathlib import Path
 
 from tests.support import browser
 from tests.support.office import LISTS, PROFILE, constituency, party_list, station
@@ -16,9 +15,7 @@ from tests.support.site import NAME, plain, same, serving
 def clerks_browser(front, name, words="This is what the office has now."):
     """A browser of somebody who gave name and password, with the clerks' page, once it says
     this."""
-    folder = Path.cwd() / f"browser-{name}"
-    folder.mkdir()
-    with browser.browser(folder, f"--host-resolver-rules=MAP {NAME} 127.0.0.1") as it:
+    with browser.tab() as it:
         # A driver cannot answer the question for name and password: the browser sends them as it
         # does once they were given.
         it.command("Network.enable")

@@ -24,6 +24,28 @@ def answering(port):
     raise AssertionError("nobody listens")
 
 
+def answer_from(connection):
+    """The status, the fields and the body of an answer, which has the length that it says."""
+    found = b""
+    while b"\r\n\r\n" not in found:
+        if not (piece := connection.recv(65536)):
+            raise http.client.RemoteDisconnected(f"an answer that ends: {found}")
+        found += piece
+    head, _, text = found.partition(b"\r\n\r\n")
+    first, *lines = head.decode("latin-1").split("\r\n")
+    protocol, status, _ = first.split(" ", 2)
+    same(protocol, "HTTP/1.1", first)
+    fields = dict(line.split(": ", 1) for line in lines)
+    parts, left = [text], int(fields["Content-Length"]) - len(text)
+    while left > 0:
+        if not (piece := connection.recv(min(left, 1 << 20))):
+            raise http.client.IncompleteRead(b"".join(parts), left)
+        parts.append(piece)
+        left -= len(piece)
+    same(left, 0, first)
+    return int(status), fields, b"".join(parts).decode()
+
+
 class Desk:
     """The program as it serves."""
 
@@ -41,12 +63,13 @@ class Desk:
 
     def ask(self, method, path, body=None):
         """The status, the fields and the body of an answer."""
-        connection = http.client.HTTPConnection("127.0.0.1", self.port, timeout=PATIENCE)
-        connection.request(method, path, body)
-        answer = connection.getresponse()
-        found = answer.status, dict(answer.getheaders()), answer.read().decode()
-        connection.close()
-        return found
+        sent = b"" if body is None else body if isinstance(body, bytes) else body.encode("latin-1")
+        head = f"{method} {path} HTTP/1.1\r\nHost: 127.0.0.1:{self.port}\r\n"
+        if body is not None or method == "POST":
+            head += f"Content-Length: {len(sent)}\r\n"
+        with socket.create_connection(("127.0.0.1", self.port), timeout=PATIENCE) as it:
+            it.sendall(f"{head}\r\n".encode("latin-1") + sent)
+            return answer_from(it)
 
     def get(self, path, text):
         status, fields, body = self.ask("GET", path)

@@ -151,9 +151,10 @@ class Copy:
         (self.root / "docs").mkdir()
         if (ROOT / "docs/help.txt").exists():
             shutil.copy(ROOT / "docs/help.txt", self.root / "docs")
-        for part in sorted(ROOT.glob("crates/*/*")):
-            if part.name in PARTS:
-                shutil.copytree(part, self.root / part.relative_to(ROOT))
+        parts = sorted(part.relative_to(ROOT) for part in ROOT.glob("crates/*/*")
+                       if part.name in PARTS)
+        # (one program copies these thousands of files in half the time)
+        subprocess.run(["cp", "-rp", "--parents", *parts, self.root], cwd=ROOT, check=True)
         self.plan(plan)
         self.tries(TRIED)
         self.end("")

@@ -5,6 +5,8 @@ Tests compare the program with it. It keeps all in dictionaries and counts every
 request.
 """
 
+import heapq
+import itertools
 import json
 import math
 import re
@@ -132,18 +134,21 @@ class Poll:
     def quotient(self, votes, k):
         return votes * (self.scale // self.divisor(k))
 
+    def pairs_of(self, n):
+        """The pairs of a list and one of its seats: their quotients fall."""
+        votes = self.votes[n]
+        for k in range(1, self.seats + 1):
+            yield self.quotient(votes, k), votes, -self.place(n, k), n, k
+
     @cached_property
     def pairs(self):
         """The pairs of an eligible list and one of its seats, those of a greater quotient first,
-        then of more votes, then by place.
+        then of more votes, then by place: as many as the seats, twice, and one of each list. Beyond
+        the seats are those that are equal to the last one, at most one of a list, and those that a
+        list would have to overtake, which are fewer than the seats without its own.
         """
-        votes = self.votes
-        found = [
-            (self.quotient(votes[n], k), votes[n], -self.place(n, k), n, k)
-            for n in self.eligible
-            for k in range(1, self.seats + 1)
-        ]
-        return sorted(found, reverse=True)
+        found = heapq.merge(*map(self.pairs_of, self.eligible), reverse=True)
+        return list(itertools.islice(found, 2 * self.seats + len(self.votes)))
 
     def claims(self):
         """Under Hare the claims to a seat that the whole quotas leave, those of a greater remainder
@@ -198,7 +203,8 @@ class Poll:
         """
         if held == self.seats:
             return None
-        lowest = [pair for pair in self.pairs if pair[3] != n][self.seats - held - 1]
+        others = (pair for pair in self.pairs if pair[3] != n)
+        lowest = next(itertools.islice(others, self.seats - held - 1, None))
         least = -(-lowest[0] // self.quotient(1, held + 1))
         # With an equal quotient the list of more votes is above.
         enough = least if (self.quotient(least, held + 1), least) > lowest[:2] else least + 1

@@ -4,10 +4,10 @@ import base64
 import hashlib
 import html.parser
 import re
-import subprocess
 import sys
 from pathlib import Path
 
+from tests.support import tools
 from tests.support.running import PATIENCE
 from tests.support.site import DEPLOY, same
 
@@ -79,7 +79,7 @@ REOPENED = TWIN | results_of(WITHDRAWN)
 
 def press(port, *words, folder="pages", status=0):
     """Runs press.py once; its last line."""
-    done = subprocess.run(
+    done = tools.run(
         [sys.executable, DEPLOY / "press.py", f"http://127.0.0.1:{port}", folder, *words],
         capture_output=True, text=True, timeout=PATIENCE)
     assert done.returncode == status, f"status {done.returncode}: {done.stdout}{done.stderr}"

@@ -15,6 +15,7 @@ import unicodedata
 from html.parser import HTMLParser
 from pathlib import Path
 
+from tests.support import tools
 from tests.support.case import ROOT
 from tests.support.office import party_list, station
 from tests.support.record import chained
@@ -142,8 +143,8 @@ def large(lists, stations):
 
 def papers(*words, status=0, program=DEPLOY / "papers", **how):
     """Runs the tool; what it says on both streams."""
-    done = subprocess.run([program, *words], capture_output=True, text=True, timeout=PATIENCE,
-                          check=False, **how)
+    done = tools.run([program, *words], capture_output=True, text=True, timeout=PATIENCE,
+                     check=False, **how)
     assert (done.returncode, "Traceback" in done.stderr) == (status, False), (
         f"status {done.returncode}, wanted {status}: {done.stdout}{done.stderr}")
     return done.stdout, done.stderr

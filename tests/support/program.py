@@ -1,6 +1,7 @@
 """Running the program, and the databases that it makes."""
 
 import contextlib
+import functools
 import hashlib
 import os
 import shutil
@@ -11,6 +12,7 @@ import tomllib
 import unittest
 from pathlib import Path
 
+from tests.support import tools
 from tests.support.case import PROGRAM, ROOT, Case
 from tests.support.office import SETUP, TABLES, constituency, party_list, profile, station
 from tests.support.running import PATIENCE, free_port
@@ -128,7 +130,7 @@ def certify(con, edition, seats, lot=(), db="office.db"):
 
 
 def recount(db="office.db", text="c1 agrees\n", status=0):
-    ran = subprocess.run(
+    ran = tools.run(
         [sys.executable, ROOT / "examples/recount.py", db],
         capture_output=True,
         text=True,
@@ -147,6 +149,12 @@ def spoiled(text, db="office.db"):
     recount(db, text, 1)
 
 
+@functools.cache
+def codes_of(setup):
+    """The codes of the constituencies of a setup, which is as long as 8 MiB in some tests."""
+    return [con["code"] for con in tomllib.loads(setup)["constituency"]]
+
+
 def offices():
     """Each office's database in this folder and below it, with the codes of its constituencies."""
     for file in sorted(Path(".").rglob("*")):
@@ -159,8 +167,7 @@ def offices():
         uri = f"{file.resolve().as_uri()}?mode=ro&immutable=1"
         with contextlib.closing(sqlite3.connect(uri, uri=True)) as it:
             if it.execute("SELECT name FROM sqlite_master WHERE name = 'setup'").fetchall():
-                setup = tomllib.loads(it.execute("SELECT text FROM setup").fetchone()[0])
-                yield file, [con["code"] for con in setup["constituency"]]
+                yield file, codes_of(it.execute("SELECT text FROM setup").fetchone()[0])
 
 
 def recount_all():

@@ -18,6 +18,7 @@ import tempfile
 import time
 from pathlib import Path
 
+from tests.support import tools
 from tests.support.case import find
 from tests.support.running import PATIENCE, free_port, until
 from tests.support.site import DEPLOY, NAME, Answer, printed, ran, same, serving
@@ -37,9 +38,9 @@ def filled(text, pairs):
 STAFF = "clara clerk;\nbruno clerk;\nberta board;\n"
 
 
-def password(folder, *words):
+def password(folder, *words, run=tools.run):
     """Runs the script that gives passwords, for the names of a folder."""
-    return subprocess.run(
+    return run(
         [DEPLOY / "password", *words], capture_output=True, text=True, timeout=3 * PATIENCE,
         env={**os.environ, "PASSWORDS": str(folder), "SETUP": "names.toml"})
 

@@ -4,17 +4,17 @@ import base64
 import hashlib
 import json
 import os
-import subprocess
 
+from tests.support import tools
 from tests.support.running import PATIENCE
 from tests.support.site import DEPLOY, same
 
 
 def replayed(port, record, *words):
     # A character that cannot be encoded is an error here, whatever the locale is.
-    done = subprocess.run([DEPLOY / "replay", f"http://127.0.0.1:{port}", *words], input=record,
-                          capture_output=True, timeout=PATIENCE,
-                          env={**os.environ, "PYTHONIOENCODING": "ascii:strict"})
+    done = tools.run([DEPLOY / "replay", f"http://127.0.0.1:{port}", *words], input=record,
+                     capture_output=True, timeout=PATIENCE,
+                     env={**os.environ, "PYTHONIOENCODING": "ascii:strict"})
     same(done.stderr, b"")
     return done.returncode, done.stdout.decode()
 

@@ -2,11 +2,11 @@
 
 import contextlib
 import shutil
-import subprocess
 import sys
 import tempfile
 from pathlib import Path
 
+from tests.support import tools
 from tests.support.case import ROOT, Case
 from tests.support.desks import answering_desk
 from tests.support.office import with_stations
@@ -27,7 +27,7 @@ class OfPages(Case):
         """The lines that a round of press.py wrote on its error stream."""
         words = ["--site", "site"] if self.site_of(site) else []
         with answering_desk(answers) as (port, _):
-            done = subprocess.run(
+            done = tools.run(
                 [sys.executable, program, f"http://127.0.0.1:{port}", folder, "--setup",
                  "setup.toml", *words], capture_output=True, text=True, timeout=120, check=False)
         self.assertEqual((done.returncode, "Traceback" in done.stderr), (status, False), done)
@@ -39,7 +39,7 @@ class OfPages(Case):
         for name, text in (files or {}).items():
             file = Path("site", name)
             file.parent.mkdir(parents=True, exist_ok=True)
-            file.write_text(text, encoding="utf-8")
+            file.write_bytes(text if isinstance(text, bytes) else text.encode())
         return files is not None
 
     def pages(self, folder="pages"):

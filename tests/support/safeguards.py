@@ -7,6 +7,7 @@ import subprocess
 import sys
 from pathlib import Path
 
+from tests.support import tools
 from tests.support.case import Case
 from tests.support.office import DOUBLE, LISTS, PROFILE, constituency, station
 from tests.support.proxy import STAFF, Proxy
@@ -32,8 +33,8 @@ class Safeguards(Case):
 
 def run(name, *words, data=b"", status=0):
     """The output and the errors of a script of deploy/, with this status."""
-    done = subprocess.run([DEPLOY / name, *words], input=data, capture_output=True,
-                          timeout=PATIENCE)
+    done = tools.run([DEPLOY / name, *words], input=data, capture_output=True,
+                     timeout=PATIENCE)
     said = done.stdout.decode(), done.stderr.decode()
     assert done.returncode == status, (name, words, done.returncode, said)
     return said

@@ -1,11 +1,16 @@
 """Modules and scripts of `deploy/`, as tests import them."""
 
+import atexit
+import functools
 import importlib
 import importlib.machinery
 import importlib.util
+import shutil
 import sys
+import tempfile
 
 from tests.support.case import ROOT
+from tests.support.programs.forked_tools import keep_templates
 from tests.support.site import DEPLOY
 
 # The modules of deploy/ import one another by these names.
@@ -15,9 +20,20 @@ PROGRAMS = ROOT / "tests/support/programs"
 IN_PAGES = ROOT / "tests/support/in_pages"
 
 
+@functools.cache
+def keep_compiled_templates():
+    """Templates are compiled once in a suite, as by runs of tools (tools.py)."""
+    folder = tempfile.mkdtemp(prefix="office-templates-")
+    atexit.register(shutil.rmtree, folder, ignore_errors=True)
+    keep_templates(folder)
+
+
 def module(name):
     """A module of deploy/."""
-    return importlib.import_module(name)
+    found = importlib.import_module(name)
+    if "jinja2" in sys.modules:
+        keep_compiled_templates()
+    return found
 
 
 def loaded(name):

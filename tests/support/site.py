@@ -12,6 +12,7 @@ import subprocess
 import unittest
 from pathlib import Path
 
+from tests.support import tools
 from tests.support.case import PROGRAM, ROOT, Case
 from tests.support.office import TABLES, with_stations
 from tests.support.running import PATIENCE, free_port
@@ -39,7 +40,7 @@ def same(found, wanted):
 
 
 def ran(*words, status=0):
-    done = subprocess.run(words, capture_output=True, text=True, timeout=PATIENCE)
+    done = tools.run(words, capture_output=True, text=True, timeout=PATIENCE)
     assert done.returncode == status, (f"{words}: status {done.returncode}, "
                                        f"{done.stdout}{done.stderr}")
     return done.stdout + done.stderr
@@ -47,8 +48,8 @@ def ran(*words, status=0):
 
 def printed(*words):
     """The output of a program, without its standard error."""
-    return subprocess.run(words, capture_output=True, text=True, timeout=PATIENCE,
-                          check=True).stdout
+    return tools.run(words, capture_output=True, text=True, timeout=PATIENCE,
+                     check=True).stdout
 
 
 def new(setup, db="office.db"):

@@ -40,14 +40,6 @@ VALUES = ("return [...document.querySelectorAll('#' + arguments[0] + ' input')]"
 FIELD = "const e = document.activeElement; return e.name || e.id"
 
 
-def keys(it, *pressed):
-    """Presses keys, one after the other, as a keyboard does."""
-    actions = [{"type": kind, "value": key} for key in "".join(pressed)
-               for kind in ("keyDown", "keyUp")]
-    it.of_session("POST", "/actions",
-                  {"actions": [{"type": "key", "id": "keys", "actions": actions}]})
-
-
 def place(text, **values):
     """A text of the page with its places filled in."""
     return text.format(**values)

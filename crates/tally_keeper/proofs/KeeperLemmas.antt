@@ -13,7 +13,7 @@ use Rattle.tally_returns.specs.declared.reply.LodgeReply.TheVariants.{Lodged, Sa
 use Rattle.tally_returns.specs.declared.reply.Reply.{Reply}
 use Rattle.tally_keeper.specs.Events.{answers_of, as_answer, asks_of, lodge_answers, lodge_commands}
 use Rattle.tally_returns_rows.specs.Import.{RowAnswer, answers, count_of, returns_after_import}
-use Rattle.tally_keeper.specs.Keeper.{Event, HappensInTurn, Happens, IsImport, IsNotTaken, IsTaken, Runs, failed_import, request, requests, whole_import}
+use Rattle.tally_keeper.specs.Keeper.{Event, HappensInTurn, Happens, IsFailed, IsImport, IsNotTaken, IsTaken, Runs, failed_import, request, requests, whole_import}
 use Rattle.tally_returns_rows.specs.declared.import.ImportCount.{ImportCount}
 use Rattle.tally_returns_rows.specs.declared.import.Row.{Row}
 use Rattle.tally_returns_rows.specs.declared.import.Row.TheVariants as row
@@ -88,6 +88,12 @@ happen-run setup s t (event ∷ events) is = go is.0 is.1 is.2 (λ next rest. ha
     go (Some next) step rest later = taken-run setup s next t event events step (later next rest)
     go None step rest later = absurd (shut-stays setup events t rest)
 
+-- what met the failure of a disk was not taken
+failed-passed : (event : Event) → IsFailed event → IsNotTaken event
+failed-passed (request ask r) is = inr is
+failed-passed (whole_import rows answered count) is = is
+failed-passed (failed_import fault) is = tt
+
 -- a keeper that was shut takes nothing: the state stays
 idle-run : (setup : List Constituency) (s : State) (events : List Event) → HappensInTurn setup None events None → IsRun setup s (asks_of events) (answers_of events) s
 idle-run setup s [] is = refl
@@ -109,7 +115,7 @@ shut-run setup s (event ∷ events) is = go is.0 is.1 is.2 (λ next rest. shut-r
         → ((next : State) → HappensInTurn setup (Some next) events None → (t : State) × IsRun setup next (asks_of events) (answers_of events) t)
         → (t : State) × IsRun setup s (asks_of (event ∷ events)) (answers_of (event ∷ events)) t
     go (Some next) step rest later = let end = later next rest in (end.0, taken-run setup s next end.0 event events step end.1)
-    go None step rest later = (s, passed-run setup s s event events step (idle-run setup s events rest))
+    go None step rest later = (s, passed-run setup s s event events (failed-passed event step) (idle-run setup s events rest))
 
 -- in any case
 pub some-run : (setup : List Constituency) (s : State) (new : Option State) (events : List Event) → HappensInTurn setup (Some s) events new

@@ -6,6 +6,7 @@ use Rattle.tally_returns.specs.State.{State, stations_of}
 use Rattle.tally_machine_law.specs.Step.{IsAnswered, IsNotAccepted}
 use Rattle.tally_returns.specs.declared.ask.Ask.{Ask}
 use Rattle.tally_returns.specs.declared.refusal.Refusal.{Refusal}
+use Rattle.tally_returns.specs.declared.refusal.Refusal.TheVariants as refusal
 use Rattle.tally_returns.specs.declared.reply.Reply.{Reply}
 use Rattle.tally_returns_rows.specs.Import.{RowAnswer, IsCodedRow, answers, returns_after_import}
 use Rattle.tally_returns_rows.specs.Import.{count_of}
@@ -46,12 +47,19 @@ IsNotTaken (request ask r) = IsNotAccepted r
 IsNotTaken (whole_import rows answered count) = ⊥
 IsNotTaken (failed_import fault) = Unit {0}
 
+-- a request or an import was answered that the database failed
+abbrev pub IsFailed : Event → Type 0
+IsFailed (request ask r) = r ≡ Err refusal.Store
+IsFailed (whole_import rows answered count) = ⊥
+IsFailed (failed_import fault) = fault ≡ Store
+
 -- What happens to a keeper, and the state that it then has. It has none where a disk that failed
--- has shut it: what met that failure was not taken, also where its commit may have been made, and a
--- keeper that was shut stays so and takes nothing.
+-- has shut it: what met that failure was not taken, also where its commit may have been made, and
+-- was answered that the database failed. A keeper that was shut stays so and takes nothing. So
+-- whatever is answered that memory is out has changed nothing.
 abbrev pub Happens : List Constituency → Option State → Event → Option State → Type 0
 Happens setup (Some s) event (Some t) = IsTaken setup s event t
-Happens setup (Some s) event None = IsNotTaken event
+Happens setup (Some s) event None = IsFailed event
 Happens setup None event (Some t) = ⊥
 Happens setup None event None = IsNotTaken event
 

@@ -38,14 +38,15 @@ IsReturnsRefusal setup con why =
     ((why ≡ NoConstituency) × (constituency_with con setup ≡ None)) ⊎ IsOwnRefusal why
 
 -- The stations of the constituency of a code are shown with the returns of the keeper's content,
--- which stays. A keeper that is shut, or that a failed disk shuts then, shows none.
+-- which stays. A keeper that is shut shows none, nor does one that a failed disk shuts then, which
+-- says that its database failed.
 abbrev pub ShowsReturns : List Constituency → Option State → List ℕ
     → Result (Vec StationRow Global) Refusal → Option State → Type 0
 ShowsReturns setup (Some s) con (Ok rows) (Some t) =
     (t ≡ s) × (found : Constituency) × (constituency_with con setup ≡ Some found)
     × (rows.items ≡ station_rows s.returns found)
 ShowsReturns setup (Some s) con (Err why) (Some t) = (t ≡ s) × IsReturnsRefusal setup con why
-ShowsReturns setup (Some s) con (Err why) None = IsOwnRefusal why
+ShowsReturns setup (Some s) con (Err why) None = why ≡ Store
 ShowsReturns setup None con (Err why) None = IsOwnRefusal why
 ShowsReturns setup (Some s) con (Ok rows) None = ⊥
 ShowsReturns setup None con (Ok rows) new = ⊥

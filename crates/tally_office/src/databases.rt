@@ -4,7 +4,8 @@
 ghost use Rattle.std.specs.Prelude.{◌≡◌, ◌==◌, false, not, length, IfErr, IfOk, Ok};
 ghost use Rattle.sqlite.specs.Held.{state};
 ghost use Rattle.tally_rules.specs.Reading.{setup_of_text};
-ghost use Rattle.tally_office_trouble.specs.Trouble.{IsTroubleOfDatabase};
+ghost use Rattle.tally_office_commands.specs.Made.{IsMakingTrouble};
+ghost use Rattle.tally_office_trouble.specs.Trouble.{IsTroubleOfDatabase, create_trouble};
 
 use sqlite::{Alter, Connection, Error, ErrorCode, FileFrom, FileStore, Wary};
 use std::alloc::Global;
@@ -240,6 +241,7 @@ fn create<S: Alter + Drop>(
 ) -> Result<Store<S>, (Connection<S>, CreateFault, bool)>
     requires { conn.in_transaction ≡ false }
     ensures setup { IfOk result (λ office. setup_of_text text.now ≡ Ok office.setup) }
+    ensures trouble { IfErr result (λ e. IsMakingTrouble text.now (create_trouble e.1)) }
     ensures tables { IfErr result (λ e.
         e.2 ≡ not (length (state S.Store e.0).now.schema.tables == 0)) }
 {

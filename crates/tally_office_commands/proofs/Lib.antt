@@ -4,3 +4,5 @@ pub mod ImportLemmas
 pub mod WrittenLemmas
 pub mod DoneLemmas
 pub mod OtherLemmas
+pub mod MakeLemmas
+pub mod FailedLemmas

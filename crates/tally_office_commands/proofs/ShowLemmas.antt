@@ -1,5 +1,5 @@
 -- Why something that the office has is not shown.
-use Rattle.std.proofs.Common.{◌≡◌, ◌∙◌, ℕ, List, Option, Some, None, Ok, Err, option_map, refl, sym, ap, subst, inl, inr}
+use Rattle.std.proofs.Common.{◌≡◌, ◌∙◌, ℕ, List, Option, Some, None, Result, Ok, Err, IfErr, option_map, refl, sym, ap, subst, inl, inr}
 use Rattle.tally_setup.specs.Constituency.{Constituency}
 use Rattle.tally_setup.specs.Setup.{constituency_with}
 use Rattle.tally_returns.specs.State.{State}
@@ -49,7 +49,7 @@ pub con-refused : (setup : List Constituency) (old new : Option State) (code : L
 con-refused setup (Some s) (Some t) code found why is (inl step) =
     absurd (con-step s t code why found (subst (λ o. IsConStepSeen o s (ShowCon code) (Err why) t) is step))
 con-refused setup (Some s) (Some t) code found why is (inr (none, kept)) = none
-con-refused setup (Some s) None code found why is none = none
+con-refused setup (Some s) None code found why is none = inr none
 con-refused setup None (Some t) code found why is h = absurd h
 con-refused setup None None code found why is none = none
 
@@ -70,7 +70,7 @@ con-trouble setup old new code which found why is happens = go (con-refused setu
 progress-refused : (setup : List Constituency) (old new : Option State) (why : Refusal) → Happens setup old (request ShowProgress (Err why)) new → IsNotAccepted (Err why)
 progress-refused setup (Some s) (Some t) why (inl (answered, after)) = cc
 progress-refused setup (Some s) (Some t) why (inr (none, kept)) = none
-progress-refused setup (Some s) None why none = none
+progress-refused setup (Some s) None why none = inr none
 progress-refused setup None (Some t) why h = absurd h
 progress-refused setup None None why none = none
 
@@ -121,3 +121,14 @@ given-none (Some why) text refused = cc
 pub withheld : (T : Type 0) (o : Option ReportFault) (why : ReportFault) → IsRefused {T = T} o (Err why) → IsWithheld o (report_trouble why)
 withheld T None why refused = ap report_trouble refused
 withheld T (Some other) why refused = let same : why ≡ other = cc in ap report_trouble same
+
+-- no fault of a report is a failed database
+pub fault-other : (why : ReportFault) (t : Trouble) → t ≡ report_trouble why → t ≡ trouble.Store → ⊥
+fault-other fault.NotCertified t is failed = cc
+fault-other fault.OtherMethod t is failed = cc
+fault-other fault.Memory t is failed = cc
+
+-- so anything may follow from one
+pub other-store : {S : Type 0} (P : Type 0) (r : Result S Trouble) → IfErr r (λ t. t ≡ trouble.Store → ⊥) → IfErr r (λ t. t ≡ trouble.Store → P)
+other-store P (Ok text) never = tt
+other-store P (Err t) never = λ failed. absurd (never failed)

@@ -1,6 +1,6 @@
 -- What a command writes: nothing where it had a trouble before, and a
 -- text of a kind where it wrote one that is of the kind.
-use Rattle.std.proofs.Common.{◌≡◌, ℕ, Bool, List, Result, Ok, Err, IfOk, IfErr, OnOk, refl, sym, subst, true, ◌⊎◌, inl, inr}
+use Rattle.std.proofs.Common.{◌≡◌, ℕ, Bool, List, Result, Ok, Err, IfOk, IfErr, OnOk, refl, sym, subst, true, false, ◌⊎◌, inl, inr}
 use Rattle.std.specs.Prelude.{IsOk}
 use Rattle.tally_office_trouble.specs.declared.trouble.Trouble.{Trouble}
 use Rattle.tally_office_trouble.specs.declared.trouble.Trouble.TheVariants as trouble
@@ -87,3 +87,7 @@ printed-closed Same Closes closed closes (inr is) = inr (subst Closes is closes)
 -- the same of a write that failed
 pub cut-closed : {S : Type 0} (Closes : Bool → Type 0) (closed : Bool) (r : Result S Trouble) → Closes closed → (r ≡ Err trouble.Write → closed ≡ true) → r ≡ Err trouble.Write → Closes true
 cut-closed Closes closed r closes is failed = subst Closes (is failed) closes
+
+-- and of one that was not begun, since not all of the office was there
+pub unclosed : {S : Type 0} (Closes : Bool → Type 0) (closed : Bool) (r : Result S Trouble) → Closes closed → (r ≡ Err trouble.Store → closed ≡ false) → r ≡ Err trouble.Store → Closes false
+unclosed Closes closed r closes is failed = subst Closes (is failed) closes

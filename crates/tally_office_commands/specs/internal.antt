@@ -2,4 +2,3 @@
 pub mod Found
 pub mod Room
 pub mod Withheld
-pub mod Worked

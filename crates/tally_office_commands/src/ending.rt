@@ -40,6 +40,8 @@ pub fn close_and_print<O: Offices, W: Write>(
     ensures printed { (output.new ≡ output.old) ⊎ O.Closes offices.now db.now office true }
     ensures cut { IsOk outcome → result ≡ Err Trouble.Write
         → O.Closes offices.now db.now office true }
+    ensures unclosed { IsOk outcome → result ≡ Err Trouble.Store
+        → O.Closes offices.now db.now office false }
     ensures trouble { IfErr outcome (λ t. (result ≡ Err t) × (output.new ≡ output.old)) }
 {
     let is_closed = offices.close_office(rt, db, office);
@@ -57,6 +59,7 @@ fn print_if_closed<W: Write>(is_closed: bool, text: &str, output: &mut W) -> Res
     ensures done { OnOk result (is_closed ≡ true) }
     ensures printed { (output.new ≡ output.old) ⊎ (is_closed ≡ true) }
     ensures cut { result ≡ Err Trouble.Write → is_closed ≡ true }
+    ensures unclosed { result ≡ Err Trouble.Store → is_closed ≡ false }
     ensures written { IsWritten W.contents (λ t. t ≡ text.now) output.old output.new result }
     ensures named { IfErr result IsTroubleOfEnding }
 {

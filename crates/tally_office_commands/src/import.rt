@@ -10,6 +10,7 @@ ghost use Rattle.tally_returns_rows.specs.Delivery.{delivery};
 ghost use Rattle.tally_returns_rows.specs.Source.{row_limit};
 ghost use Rattle.tally_keeper.specs.StaysKeeper.{StaysKeeper};
 ghost use Rattle.tally_office_commands.specs.Done.{IsFileImported, IsImportedAt};
+ghost use Rattle.tally_office_commands.specs.Failed.{IsFileTrouble, IsImportFailure};
 ghost use Rattle.tally_office_commands.specs.Imported.{IsCountText, IsImportTrouble, IsImportText};
 ghost use Rattle.tally_office_commands.specs.Imported.{IsImportedComing, IsTextImported};
 ghost use Rattle.tally_office_commands.specs.Imported.{IsTextTrouble};
@@ -20,7 +21,6 @@ ghost use Rattle.tally_office_trouble.specs.Troubles.{IsTroubleOfFileImport, IsT
 ghost use Rattle.tally_office_trouble.specs.Written.{IsWritten};
 ghost use Rattle.tally_office_commands.specs.internal.Found.{IsFindTrouble};
 ghost use Rattle.tally_office_commands.specs.internal.Room.{room_of_lines};
-ghost use Rattle.tally_office_commands.specs.internal.Worked.{IsFileTrouble};
 
 use crate::ending::close_and_print;
 use crate::offices::Offices;
@@ -50,6 +50,10 @@ pub fn import_at<O: Offices, W: Write>(
         (O.Gives offices.now))
         db.now con.now csv.now sep lines) output.old output.new result }
     ensures named { IfErr result IsTroubleOfImport }
+    ensures trouble { IfErr result (IsImportFailure (known O.Office.Keeper
+        (O.Opens offices.now) (O.Finds offices.now) (O.Makes offices.now) (O.Closes offices.now)
+        (O.Gives offices.now))
+        db.now con.now csv.now sep lines) }
 {
     let mut office = match offices.open_office(rt, db) {
         Ok(office) => office,

@@ -4,9 +4,8 @@
 ghost use Rattle.std.specs.Prelude.{◌≡◌, ◌≤◌, ◌+◌, ◌++◌, [], IfErr, IsOk, OnErr, OnOk};
 ghost use Rattle.std.specs.Prelude.{string_bytes, string_len, string_capacity};
 ghost use Rattle.tally_office_commands.specs.Done.{IsMadeAt};
-ghost use Rattle.tally_office_commands.specs.Made.{constituencies_text};
+ghost use Rattle.tally_office_commands.specs.Made.{IsNewTrouble, constituencies_text};
 ghost use Rattle.tally_office_commands.specs.Offices.{known};
-ghost use Rattle.tally_office_trouble.specs.Troubles.{IsTroubleOfNew};
 ghost use Rattle.tally_office_trouble.specs.Written.{IsWritten};
 
 use crate::ending::{close_and_print, line_room};
@@ -22,7 +21,8 @@ use tally_setup::Setup;
 /// The most bytes of the line with the number of constituencies.
 pub const CONSTITUENCIES_ROOM: usize = 32;
 
-/// Makes an office of a setup, and judges the setup before it opens the database.
+/// Makes an office of a setup, and judges the setup before it opens the database. A fault of a
+/// setup is reported only of a text that has it, and where the text is a setup, none is.
 #[inline(never)]
 pub fn make_at<O: Offices, W: Write>(
     rt: &HostRuntime,
@@ -35,7 +35,7 @@ pub fn make_at<O: Offices, W: Write>(
         (O.Opens offices.now) (O.Finds offices.now) (O.Makes offices.now) (O.Closes offices.now)
         (O.Gives offices.now))
         db.now setup.now) output.old output.new result }
-    ensures named { IfErr result IsTroubleOfNew }
+    ensures trouble { IfErr result (IsNewTrouble (O.Gives offices.now setup.now)) }
 {
     let text = match read_setup_text(rt, offices, setup, &mut Watch::new()) {
         Ok(text) => text,

@@ -3,6 +3,7 @@
 ghost use Rattle.std.specs.Prelude.{◌≡◌, ℕ, List, IfErr, IfOk, Ok};
 ghost use Rattle.tally_rules.specs.Reading.{setup_of_text};
 ghost use Rattle.tally_office_trouble.specs.Trouble.{IsTroubleOfMaking, IsTroubleOfOpening};
+ghost use Rattle.tally_office_commands.specs.Made.{IsMakingTrouble};
 ghost use Rattle.tally_office_commands.specs.Offices.{AtPath, AtPort, ClosingOutcome};
 ghost use Rattle.tally_office_commands.specs.Offices.{OpeningOutcome, Resource, opening_of};
 
@@ -38,7 +39,8 @@ pub trait Offices: NamedFiles {
         ensures finds { IfOk result (λ office. Finds self.now path.now office) }
         ensures named { IfErr result IsTroubleOfOpening };
 
-    /// Makes an office of the text of a setup at a path where there is none yet, and opens it.
+    /// Makes an office of the text of a setup at a path where there is none yet, and opens it. A
+    /// text that is no setup is reported by its own first fault, and by no other.
     fn make_office(
         &self,
         rt: &HostRuntime,
@@ -48,6 +50,7 @@ pub trait Offices: NamedFiles {
         ensures makes { IfOk result (λ office. Makes self.now path.now text.now office) }
         ensures setup { IfOk result (λ office.
             setup_of_text text.now ≡ Ok (Self.Office.constituencies office)) }
+        ensures trouble { IfErr result (IsMakingTrouble text.now) }
         ensures named { IfErr result IsTroubleOfMaking };
 
     /// Listens on a port of this machine's own address.

@@ -33,6 +33,8 @@ pub fn show_result<K: Keeper>(alloc: Global, keeper: &mut K, con: &str) -> Resul
     ensures trouble { K.IsTrusted keeper.new → IfErr result (λ trouble.
         IsResultTrouble (K.constituencies keeper.old) (K.content keeper.old) con.now
         trouble (K.content keeper.new)) }
+    ensures store { K.IsTrusted keeper.new → IfErr result (λ trouble.
+        trouble ≡ Trouble.Store → K.HasDatabase keeper.old) }
 {
     let Some(code) = code_named(keeper.setup(), con) else {
         return Err(Trouble::NoConstituency);
@@ -53,6 +55,8 @@ pub fn show_results<K: Keeper>(alloc: Global, keeper: &mut K) -> Result<String, 
     ensures trouble { K.IsTrusted keeper.new → IfErr result (λ trouble.
         IsResultsTrouble (K.constituencies keeper.old) (K.content keeper.old)
         trouble (K.content keeper.new)) }
+    ensures store { K.IsTrusted keeper.new → IfErr result (λ trouble.
+        trouble ≡ Trouble.Store → K.HasDatabase keeper.old) }
 {
     match whole_views(alloc, keeper) {
         Ok(views) => line_of_results(alloc, keeper.setup(), &views),

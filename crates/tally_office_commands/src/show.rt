@@ -14,6 +14,7 @@ ghost use Rattle.tally_report.specs.Reports.{IsEnoughFor, report_fault};
 ghost use Rattle.tally_office_trouble.specs.Trouble.{IsTroubleOfDatabase, IsTroubleOfProgress};
 ghost use Rattle.tally_office_trouble.specs.Trouble.{IsTroubleOfReport};
 ghost use Rattle.tally_office_commands.specs.Done.{IsShownAt, IsTextShown};
+ghost use Rattle.tally_office_commands.specs.Failed.{IsShowFailure, IsShowTrouble};
 ghost use Rattle.tally_office_commands.specs.Offices.{known};
 ghost use Rattle.tally_office_commands.specs.Show.{AreStationsShown, IsCountryShown};
 ghost use Rattle.tally_office_commands.specs.Show.{IsCountryTrouble};
@@ -23,7 +24,6 @@ ghost use Rattle.tally_office_commands.specs.Show.{IsStationsTrouble, report_tro
 ghost use Rattle.tally_office_trouble.specs.Troubles.{IsTroubleOfShow};
 ghost use Rattle.tally_office_trouble.specs.Written.{IsWritten};
 ghost use Rattle.tally_office_commands.specs.internal.Withheld.{IsWithheld, OfCon, refusal_trouble};
-ghost use Rattle.tally_office_commands.specs.internal.Worked.{IsShowTrouble};
 
 use crate::ending::close_and_print;
 use crate::offices::Offices;
@@ -56,6 +56,10 @@ pub fn show_at<O: Offices, W: Write>(
         (O.Gives offices.now))
         db.now report (option_map (λ c. c.now) con.entry)) output.old output.new result }
     ensures named { IfErr result IsTroubleOfShow }
+    ensures trouble { IfErr result (IsShowFailure (known O.Office.Keeper
+        (O.Opens offices.now) (O.Finds offices.now) (O.Makes offices.now) (O.Closes offices.now)
+        (O.Gives offices.now))
+        db.now report (option_map (λ c. c.now) con.entry)) }
 {
     let mut office = match offices.open_office(rt, db) {
         Ok(office) => office,
@@ -81,6 +85,8 @@ fn show_in<K: Keeper>(
     ensures trouble { K.IsTrusted keeper.new → IfErr result (λ trouble.
         IsShowTrouble (K.constituencies keeper.old) (K.content keeper.old) report
         (option_map (λ c. c.now) con.entry) trouble (K.content keeper.new)) }
+    ensures store { K.IsTrusted keeper.new → IfErr result (λ trouble.
+        trouble ≡ Trouble.Store → K.HasDatabase keeper.old) }
 {
     match report {
         Shown::Progress => show_progress(rt.alloc(), keeper),
@@ -118,6 +124,8 @@ pub fn show_report<K: Keeper>(
     ensures trouble { K.IsTrusted keeper.new → IfErr result (λ trouble.
         IsReportTrouble (K.constituencies keeper.old) (K.content keeper.old) con.now which
         trouble (K.content keeper.new)) }
+    ensures store { K.IsTrusted keeper.new → IfErr result (λ trouble.
+        trouble ≡ Trouble.Store → K.HasDatabase keeper.old) }
 {
     let Some(code) = code_named(keeper.setup(), con) else {
         return Err(Trouble::NoConstituency);
@@ -138,6 +146,8 @@ pub fn show_progress<K: Keeper>(alloc: Global, keeper: &mut K) -> Result<String,
     ensures trouble { K.IsTrusted keeper.new → IfErr result (λ trouble.
         IsProgressTrouble (K.constituencies keeper.old) (K.content keeper.old)
         trouble (K.content keeper.new)) }
+    ensures store { K.IsTrusted keeper.new → IfErr result (λ trouble.
+        trouble ≡ Trouble.Store → K.HasDatabase keeper.old) }
 {
     match progress_of(keeper) {
         Ok(rows) => text_of_rows(alloc, &rows),
@@ -163,6 +173,8 @@ pub fn show_stations<K: Keeper>(
     ensures trouble { K.IsTrusted keeper.new → IfErr result (λ trouble.
         IsStationsTrouble (K.constituencies keeper.old) (K.content keeper.old) con.now
         trouble (K.content keeper.new)) }
+    ensures store { K.IsTrusted keeper.new → IfErr result (λ trouble.
+        trouble ≡ Trouble.Store → K.HasDatabase keeper.old) }
 {
     let Some(code) = code_named(keeper.setup(), con) else {
         return Err(Trouble::NoConstituency);
@@ -184,6 +196,8 @@ pub fn show_country<K: Keeper>(alloc: Global, keeper: &mut K) -> Result<String, 
     ensures trouble { K.IsTrusted keeper.new → IfErr result (λ trouble.
         IsCountryTrouble (K.constituencies keeper.old) (K.content keeper.old)
         trouble (K.content keeper.new)) }
+    ensures store { K.IsTrusted keeper.new → IfErr result (λ trouble.
+        trouble ≡ Trouble.Store → K.HasDatabase keeper.old) }
 {
     match all_views(alloc, keeper) {
         Ok(views) => text_of_country(alloc, keeper.setup(), &views),
@@ -205,6 +219,7 @@ fn text_of(
         IsEnoughFor which con view.now → IsGiven con view.now which (string_bytes text))) }
     ensures trouble { IfErr result (λ trouble. OfCon setup.now code (λ con.
         IsWithheld (report_fault con view.now which) trouble)) }
+    ensures other { IfErr result (λ trouble. trouble ≡ Trouble.Store → ⊥) }
 {
     let Some(con) = setup.con(code) else {
         return Err(Trouble::NoConstituency);

@@ -1,5 +1,5 @@
 -- A command line that is not carried out.
-use Rattle.std.proofs.Common.{◌≡◌, ℕ, List, Option, Some, None, Result, Err, IfErr, refl, sym, subst, inl, inr, codes}
+use Rattle.std.proofs.Common.{◌≡◌, ℕ, List, Option, Some, None, Result, Ok, Err, IfErr, refl, sym, subst, inl, inr, codes}
 use Rattle.tally_office_trouble.specs.Reported.{IsReported}
 use Rattle.tally_office_program.specs.Served.{IsServedText}
 use Rattle.tally_office_trouble.specs.declared.trouble.Trouble.{Trouble}
@@ -12,7 +12,7 @@ use Rattle.tally_office_trouble.specs.Written.{Bytes, IsWritten}
 use Rattle.tally_office_streams.specs.Line.{fault_status}
 use Rattle.tally_office_streams.specs.Streams.{IsOutcomeReported, Streams, command_status, streams}
 use Rattle.tally_office_streams.proofs.LineLemmas.{not-begun, not-refused, refused as refused-line}
-use Rattle.tally_office_program.specs.Commands.{NotListening, TakesCourse}
+use Rattle.tally_office_program.specs.Commands.{EndsCommand, NotListening, TakesCourse}
 use Rattle.tally_office_program.specs.Perform.{Performs, PerformsLine}
 use Rattle.tally_office_trouble.specs.Troubles.{IsTroubleOfServe}
 
@@ -25,28 +25,14 @@ without-memory k left held reported words (Some (AllotSeen w)) i o before after 
 without-memory k left held reported words (Some (RecountSeen setup con w)) i o before after so = inr (not-begun reported i o before after so)
 without-memory k left held reported words (Some (NewSeen db setup)) i o before after so = record {
   outcome = Err trouble.Memory;
-  named = inl (inl (inl refl));
+  named = (inl (inl (inl refl)), inl (inl (inl refl)));
   written = refl;
   errors = so;
   gives = refl;
   unread = refl;
 }
-without-memory k left held reported words (Some (ImportSeen db con csv sep rows)) i o before after so = record {
-  outcome = Err trouble.Memory;
-  named = inr (inl (inl (inl refl)));
-  written = refl;
-  errors = so;
-  gives = refl;
-  unread = refl;
-}
-without-memory k left held reported words (Some (ShowSeen db name con)) i o before after so = record {
-  outcome = Err trouble.Memory;
-  named = inl (inr (inr (inr (inl refl))));
-  written = refl;
-  errors = so;
-  gives = refl;
-  unread = refl;
-}
+without-memory k left held reported words (Some (ImportSeen db con csv sep rows)) i o before after so = inr (not-begun reported i o before after so)
+without-memory k left held reported words (Some (ShowSeen db name con)) i o before after so = inr (not-begun reported i o before after so)
 without-memory k left held reported words (Some (ServeSeen db port count)) i o before after so = record {
   outcome = Err trouble.Memory;
   named = inr (inl (inl refl));
@@ -85,3 +71,16 @@ pub commands : {K R W E : Type 0} (k : Known K) (left : Bytes R) (held : Bytes W
     → Performs k left held reported words old new status
 commands k left held reported words line old new status is says =
     subst (λ (l : Option LineSeen). PerformsLine k left held reported words l old new status) (sym is) says
+
+-- which trouble a command had, and why it was not done
+both : (Named Why : Trouble → Type 0) (outcome : Result (Unit {0}) Trouble) → IfErr outcome Named → IfErr outcome Why → IfErr outcome (λ t. Named t × Why t)
+both Named Why (Ok done) named why = tt
+both Named Why (Err t) named why = (named, why)
+
+-- a command over an office that was opened at a path, which reads nothing
+pub ends-command : {R W E : Type 0} (held : Bytes W) (reported : Bytes E) (IsText : List ℕ → Type 0) (Named Why : Trouble → Type 0) (i : R) (o written : W) (before after : E)
+    (outcome : Result (Unit {0}) Trouble) (status : ℕ) → IsWritten held IsText o written outcome → IfErr outcome Named → IfErr outcome Why
+    → IsOutcomeReported reported before after outcome → status ≡ command_status outcome
+    → EndsCommand held reported IsText (λ t. Named t × Why t) (streams i o before) (streams i written after) status
+ends-command held reported IsText Named Why i o written before after outcome status writes named why reports gives =
+    record { outcome = outcome; named = both Named Why outcome named why; written = writes; errors = reports; gives = gives; unread = refl }

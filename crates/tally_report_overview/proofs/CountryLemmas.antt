@@ -15,8 +15,8 @@ use Rattle.tally_returns.specs.declared.refusal.Refusal.TheVariants.{Memory, Sto
 use Rattle.tally_machine_law.specs.Outcome.{IsLawfulView}
 use Rattle.tally_machine_law.specs.Step.{IsConStepSeen, IsNotAccepted, con_answer, no_change}
 use Rattle.tally_keeper.specs.Keeper.{Happens, request}
-use Rattle.tally_keeper.specs.Shown.{AnswersShowCon, IsOwnRefusal}
-use Rattle.tally_report_overview.specs.Views.{ShowsAll, ShowsAllWhole, ShowsWhole}
+use Rattle.tally_keeper.specs.Shown.{AnswersShowCon}
+use Rattle.tally_report_overview.specs.Views.{IsUnshown, ShowsAll, ShowsAllWhole, ShowsWhole}
 
 -- ---- the constituency at a place
 
@@ -108,19 +108,20 @@ con-step : (s t : State) (code : List ℕ) (why : Refusal) (found : Constituency
 con-step s t code why found (v, decided, seen, decides, answered, after) =
     let same : Err why ≡ con_answer v (Ok no_change) = answered ∙ ap (con_answer v) decides in cc
 
-own : (why : Refusal) → IsNotAccepted (Err why) → IsOwnRefusal why
-own why (inl is) = inl (let same : why ≡ Memory = cc in same)
-own why (inr is) = inr (let same : why ≡ Store = cc in same)
+-- what was not accepted, where nothing has changed
+unshown : (old new : Option State) (why : Refusal) → IsNotAccepted (Err why) → new ≡ old → IsUnshown old why new
+unshown old new why (inl is) kept = inl (let same : why ≡ Memory = cc in same, kept)
+unshown old new why (inr is) kept = inr (let same : why ≡ Store = cc in same, inl kept)
 
 -- a constituency that the setup has is refused only where it is out of memory, or a database failed
 refused : (setup : List Constituency) (old new : Option State) (code : List ℕ) (found : Constituency) (why : Refusal) → constituency_with code setup ≡ Some found
-    → Happens setup old (request (ShowCon code) (Err why)) new → IsOwnRefusal why × ((new ≡ old) ⊎ (new ≡ None))
+    → Happens setup old (request (ShowCon code) (Err why)) new → IsUnshown old why new
 refused setup (Some s) (Some t) code found why is (inl step) =
     absurd (con-step s t code why found (subst (λ o. IsConStepSeen o s (ShowCon code) (Err why) t) is step))
-refused setup (Some s) (Some t) code found why is (inr (none, kept)) = (own why none, inl (ap Some kept))
-refused setup (Some s) None code found why is none = (own why none, inr refl)
+refused setup (Some s) (Some t) code found why is (inr (none, kept)) = unshown (Some s) (Some t) why none (ap Some kept)
+refused setup (Some s) None code found why is none = inr (let same : why ≡ Store = cc in same, inr refl)
 refused setup None (Some t) code found why is h = absurd h
-refused setup None None code found why is none = (own why none, inl refl)
+refused setup None None code found why is none = unshown None None why none refl
 
 -- no memory is not a failed database
 pub not-store : (P : Type 0) → Memory ≡ Store → P

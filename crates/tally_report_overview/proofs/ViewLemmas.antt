@@ -43,8 +43,7 @@ shown-lawful law setup (Some s) (Some t) code view found limits lawful is (inl s
     shown-at law setup s t code view found limits lawful is (subst (λ o. IsConStepSeen o s (ShowCon code) (Ok (con_shown view)) t) is step)
 shown-lawful law setup (Some s) (Some t) code view found limits lawful is (inr (inl none, kept)) = cc
 shown-lawful law setup (Some s) (Some t) code view found limits lawful is (inr (inr none, kept)) = cc
-shown-lawful law setup (Some s) None code view found limits lawful is (inl none) = cc
-shown-lawful law setup (Some s) None code view found limits lawful is (inr none) = cc
+shown-lawful law setup (Some s) None code view found limits lawful is none = cc
 shown-lawful law setup None (Some t) code view found limits lawful is h = absurd h
 shown-lawful law setup None None code view found limits lawful is (inl none) = cc
 shown-lawful law setup None None code view found limits lawful is (inr none) = cc
@@ -58,8 +57,7 @@ pub shown-kept : (setup : List Constituency) (old new : Option State) (code : Li
 shown-kept setup (Some s) (Some t) code view (inl step) = ap Some (shown-still setup s t code view (constituency_with code setup) step)
 shown-kept setup (Some s) (Some t) code view (inr (inl none, kept)) = cc
 shown-kept setup (Some s) (Some t) code view (inr (inr none, kept)) = cc
-shown-kept setup (Some s) None code view (inl none) = cc
-shown-kept setup (Some s) None code view (inr none) = cc
+shown-kept setup (Some s) None code view none = cc
 shown-kept setup None (Some t) code view h = absurd h
 shown-kept setup None None code view (inl none) = cc
 shown-kept setup None None code view (inr none) = cc

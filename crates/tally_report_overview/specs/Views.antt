@@ -10,10 +10,11 @@ use Rattle.tally_returns.specs.View.{View}
 use Rattle.tally_returns.specs.declared.ask.Ask.TheVariants.{ShowCon}
 use Rattle.tally_returns.specs.declared.progress.ProgressRow.{ProgressRow}
 use Rattle.tally_returns.specs.declared.refusal.Refusal.{Refusal}
+use Rattle.tally_returns.specs.declared.refusal.Refusal.TheVariants.{Memory, Store}
 use Rattle.tally_returns.specs.declared.reply.Reply.{Reply}
 use Rattle.tally_returns.specs.declared.reply.Reply.TheVariants as reply
 use Rattle.tally_keeper.specs.Keeper.{Happens, request}
-use Rattle.tally_keeper.specs.Shown.{AnswersShowCon, IsOwnRefusal, con_with}
+use Rattle.tally_keeper.specs.Shown.{AnswersShowCon, con_with}
 use Rattle.tally_report_names.specs.declared.report.Report.{Report}
 use Rattle.tally_report_names.specs.declared.report.Report.TheVariants as report
 
@@ -66,12 +67,17 @@ IsCountryOf setup state views =
     AllZip (λ (con : Constituency) (view : View).
     AnswersShowCon setup state con.code (Ok view) state) setup views
 
--- All constituencies are shown, and the state stays; or the office refuses to, out of memory or for
--- its database, and nothing has changed, unless a failed disk shut it then.
+-- The office does not show what it is asked for. It is out of memory, and nothing has changed; or
+-- its database failed, and nothing has changed or a failed disk has shut it.
+abbrev pub IsUnshown : Option State → Refusal → Option State → Type 0
+IsUnshown old why new = ((why ≡ Memory) × (new ≡ old))
+    ⊎ ((why ≡ Store) × ((new ≡ old) ⊎ (new ≡ None)))
+
+-- All constituencies are shown, and the state stays; or they are not, as above.
 abbrev pub ShowsAll : List Constituency → Option State → Result (Vec View Global) Refusal
     → Option State → Type 0
 ShowsAll setup old (Ok views) new = IsCountryOf setup old views.items × (new ≡ old)
-ShowsAll setup old (Err why) new = IsOwnRefusal why × ((new ≡ old) ⊎ (new ≡ None))
+ShowsAll setup old (Err why) new = IsUnshown old why new
 
 -- ---- all constituencies, with their certificates on record
 
@@ -82,9 +88,8 @@ AreSeenIn setup state views =
     AllZip (λ (con : Constituency) (view : View).
     ShowsWhole setup state con.code (Ok view) state) setup views
 
--- All constituencies are shown as they are in one state, which stays; or the office refuses to, as
--- above.
+-- All constituencies are shown as they are in one state, which stays; or they are not, as above.
 abbrev pub ShowsAllWhole : List Constituency → Option State → Result (Vec View Global) Refusal
     → Option State → Type 0
 ShowsAllWhole setup old (Ok views) new = AreSeenIn setup old views.items × (new ≡ old)
-ShowsAllWhole setup old (Err why) new = IsOwnRefusal why × ((new ≡ old) ⊎ (new ≡ None))
+ShowsAllWhole setup old (Err why) new = IsUnshown old why new

@@ -1,14 +1,17 @@
 -- A call in a transaction of its own: what was got there, and how that ended.
-use Rattle.std.proofs.Common.{◌≡◌, ◌⊎◌, ◌∙◌, inl, inr, ℕ, true, false, IsOk, IsTrue, IfErr, IfOk, OnOk, List, Result, Ok, Err, refl, sym, ap, subst, arith, true≢false}
+use Rattle.std.proofs.Common.{◌≡◌, ◌⊎◌, ◌∙◌, inl, inr, ℕ, true, false, IsOk, IsTrue, IfErr, IfOk, OnOk, List, Result, Ok, Err, refl, sym, ap, subst, subst₂, arith, true≢false}
 use Rattle.std.proofs.lemmas.Result.{IfOk-at_ok}
 use Rattle.sqlite.proofs.StateLemmas.{survives_then, survives_weaker}
-use Rattle.sqlite.specs.State.{State as Seen, HasCleanDisk, IsUnchanged, KeepsCommit, Survives}
+use Rattle.sqlite.specs.State.{State as Seen, HasCleanDisk, IsRolledBack, IsUnchanged, KeepsCommit, Survives}
 use Rattle.sqlite.specs.declared.error.Error.{Error}
+use Rattle.sqlite.specs.Held.{Held, state}
+use Rattle.sqlite_trees.specs.declared.store.Store.{Ghosts}
 use Rattle.sqlite_trees.specs.Tree.{Trees}
 use Rattle.tally_setup.specs.Constituency.{Constituency}
 use Rattle.tally_returns.specs.State.{State}
 use Rattle.tally_returns.specs.declared.ask.Ask.{Ask}
 use Rattle.tally_returns.specs.declared.refusal.Refusal.{Refusal}
+use Rattle.tally_returns.specs.declared.refusal.Refusal.TheVariants.{Store}
 use Rattle.tally_returns.specs.declared.reply.Reply.{Reply}
 use Rattle.tally_machine_law.specs.LawfulState.{IsLawfulState}
 use Rattle.tally_machine_law.specs.Step.{IsNotAccepted}
@@ -19,12 +22,12 @@ use Rattle.tally_store_schema.specs.Office.{IsInside}
 use Rattle.tally_store_rows.specs.TablesOfState.{AreTables}
 use Rattle.tally_store_open.specs.Create.{IsAsBefore}
 use Rattle.tally_store_open.specs.Office.{HasState, IsOffice}
-use Rattle.tally_store_open.proofs.EndingLemmas.{Began, rolled_back}
+use Rattle.tally_store_open.proofs.EndingLemmas.{Began}
 use Rattle.tally_store_open.proofs.UnwrittenLemmas.{LeavesCommit}
 use Rattle.tally_store.specs.Crash.{LeavesAfter, WritesNothing}
 use Rattle.tally_store.specs.Store.{IsOfLawfulState}
 use Rattle.tally_store.specs.internal.Served.{IsKnownOf}
-use Rattle.tally_store.specs.internal.Requests.{CommitsAnswer, EndsFrom, EndsRequest, EndsTransaction, IsDone, IsNothing, IsRefusedByKeeper, UndoesRequest}
+use Rattle.tally_store.specs.internal.Requests.{Answers, CommitsAnswer, EndsFrom, EndsRequest, EndsTransaction, IsDone, IsNothing, IsRefusedByKeeper}
 use Rattle.tally_store.proofs.RequestLemmas.{done_committed, done_failed, not_accepted, tables_after, unwritten_commit}
 
 -- what is so of an answer that was got, for every lawful state whose tables were there and of which
@@ -32,6 +35,64 @@ use Rattle.tally_store.proofs.RequestLemmas.{done_committed, done_failed, not_ac
 abbrev pub GotSo : {T : Type 0} → List Constituency → Known → Seen → Result (Result T Refusal) Error → (Result T Refusal → List ℕ → State → Type 0) → Type 0
 GotSo setup before bare got So =
     IfOk got (λ r. (text : List ℕ) (s : State) → IsLawfulState setup s → AreKnown setup s.returns before → AreTables setup text s bare.now.trees → So r text s)
+
+-- ---- how its transaction ended, and what is answered then
+
+-- the connection was open, and what is there is what was committed
+abbrev IsBack : Seen → Seen → Type 0
+IsBack last new = IsTrue last.is_open × (new.now ≡ last.committed) × (new.committed ≡ last.committed)
+
+-- The request is not accepted, and nothing is known. What was written was undone. Where the
+-- connection is shut it was said that the database failed.
+pub record IsUndone {T : Type 0} (got : Result (Result T Refusal) Error) (after : Known) (last new : Seen) (r : Result T Refusal) : Type 0 where
+  pub why : Refusal
+  pub is : r ≡ Err why
+  pub own : IsOwnRefusal why
+  pub forgot : IsNothing after
+  pub undone : HasCleanDisk new → IsTrue new.is_open → OnOk got (IsTrue last.in_transaction) → IsBack last new
+  pub shut : HasCleanDisk new → new.is_open ≡ false → why ≡ Store
+
+-- What was answered was committed, or it is that. A crash leaves what it could leave before, or,
+-- after an answer, what was written.
+pub record EndsAnswered {T : Type 0} (got : Result (Result T Refusal) Error) (before after : Known) (last new : Seen) (r : Result T Refusal) : Type 0 where
+  pub ended : new.in_transaction ≡ false
+  pub was_open : HasCleanDisk new → IsTrue new.is_open → IsTrue last.is_open
+  pub survives : Survives last new (λ db. IsOk got × (db ≡ last.now.trees))
+  pub how : CommitsAnswer got before after last new r ⊎ IsUndone got after last new r
+
+own_or_failed : (why said : Refusal) → IsOwnRefusal why → (said ≡ why) ⊎ (said ≡ Store) → IsOwnRefusal said
+own_or_failed why said own (inl is) = subst IsOwnRefusal (sym is) own
+own_or_failed why said own (inr failed) = inr failed
+
+back_from : (last mid new : Seen) → IsRolledBack last mid → IsTrue mid.is_open → IsAsBefore mid new → IsBack last new
+back_from last mid new undone now same = (undone.was_open now, same.now ∙ (undone.undone now).0, same.committed ∙ (undone.undone now).1)
+
+-- the end of a transaction, and the look at the connection after it
+pub ends_answered : {S T : Type 0} (g : Ghosts S) (got : Result (Result T Refusal) Error) (before after : Known) (last : Seen) (mid new : Held S) (outcome : Result (Result T Refusal) Refusal) (r : Result T Refusal)
+    → EndsTransaction got before after last (state g mid) outcome → Answers g mid new outcome r → EndsAnswered got before after last (state g new) r
+ends_answered g got before after last mid new (Ok answer) r ends is =
+    subst₂ (λ (h : Held _) y. EndsAnswered got before after last (state g h) y) (sym is.1) (sym is.0) (record { ended = ends.ended; was_open = ends.was_open; survives = ends.survives; how = inl ends.how })
+ends_answered g got before after last mid new (Err why) r ends is = record {
+  ended = is.ends.ended;
+  was_open = λ clean now. ends.was_open (early clean) (is.ends.was_open clean now);
+  survives = survives_then last (state g mid) (state g new) _ _ (λ db. IsOk got × (db ≡ last.now.trees)) (λ _ db made. made) (λ _ db none. absurd none) ends.survives is.ends.survives;
+  how = inr (record {
+    why = is.said;
+    is = is.is;
+    own = own_or_failed why is.said ends.how.own is.one;
+    forgot = ends.how.forgot;
+    undone = λ clean now inside. back_from last (state g mid) (state g new) (ends.how.undone (early clean) inside) (is.ends.was_open clean now) (is.ends.same clean now);
+    shut = is.shut;
+  });
+}
+  where
+    early : HasCleanDisk (state g new) → HasCleanDisk (state g mid)
+    early clean = omega (arith, clean, is.ends.survives.clean)
+
+back_to : (old last new : Seen) → Began old last → IsBack last new → IsAsBefore old new
+back_to old last new began back =
+    let same = began.committed back.0 in
+    record { now = back.1 ∙ same ∙ sym (began.settled (began.was_open back.0)); committed = back.2 ∙ same }
 
 -- What is known of a call in a transaction of its own, on the connection of a store: how it began,
 -- what is so of what was got there, and how it ended. A transaction of which it is so had not
@@ -46,7 +107,7 @@ pub record Ended {T : Type 0} (setup : List Constituency) (So : Result T Refusal
   pub answered_open : HasCleanDisk last → OnOk got (IsTrue bare.is_open)
   pub so : HasCleanDisk last → IsInside bare → GotSo setup before bare got So
   pub inside : (y : Result T Refusal) (text : List ℕ) (s : State) → So y text s → IsTrue last.in_transaction
-  pub ends : EndsTransaction got mid after last new r
+  pub ends : EndsAnswered got mid after last new r
 
 module _ {T : Type 0} {setup : List Constituency} {So : Result T Refusal → List ℕ → State → Type 0} {before mid after : Known} {old bare last new : Seen} {got : Result (Result T Refusal) Error} {r : Result T Refusal}
     (h : Ended setup So before mid after old bare last new got r) where
@@ -89,13 +150,13 @@ module _ {T : Type 0} {setup : List Constituency} {So : Result T Refusal → Lis
       go (Ok y) is = h.inside y text s (so_of_state y is clean text s lawful has)
       go (Err e) is = tt
 
-  pub back : UndoesRequest got after last new r → HasCleanDisk new → IsTrue new.is_open → (text : List ℕ) (s : State) → IsLawfulState setup s → HasState setup text s old → IsAsBefore old new
+  pub back : IsUndone got after last new r → HasCleanDisk new → IsTrue new.is_open → (text : List ℕ) (s : State) → IsLawfulState setup s → HasState setup text s old → IsAsBefore old new
   back up clean now text s lawful has =
       let kept = h.kept (early clean) (here text s has) in
       let was_open = rw h.begun at kept.was_open in
       let committed = rw h.begun at kept.committed in
       let began : Began old last = record { settled = λ _. sym has.settled; was_open = was_open; committed = committed } in
-      rolled_back old last new began (up.undone clean (in_transaction (early clean) text s lawful has)) now
+      back_to old last new began (up.undone clean now (in_transaction (early clean) text s lawful has))
 
   -- ---- what each of them leaves
 
@@ -140,13 +201,13 @@ module _ {T : Type 0} {setup : List Constituency} {So : Result T Refusal → Lis
     | inr up ↦ inl up.forgot
   ]
 
-  pub refused : UndoesRequest got after last new r → IsRefusedByKeeper r
+  pub refused : IsUndone got after last new r → IsRefusedByKeeper r
   refused up = subst IsRefusedByKeeper (sym up.is) up.own
 
-  pub refused_shut : HasCleanDisk new → new.is_open ≡ false → IsRefusedByKeeper r
-  refused_shut clean is = elim h.ends.how [
+  pub failed_shut : HasCleanDisk new → new.is_open ≡ false → r ≡ Err Store
+  failed_shut clean is = elim h.ends.how [
     | inl it ↦ absurd (true≢false (sym (it.shown clean).is_open ∙ is))
-    | inr up ↦ refused up
+    | inr up ↦ up.is ∙ ap Err (up.shut clean is)
   ]
 
   pub refused_or_known : OnOk got (ForgetsNone before mid) → IsRefusedByKeeper r ⊎ ForgetsNone before after
@@ -194,7 +255,7 @@ pub record Asked {T P : Type 0} (setup : List Constituency) (ask : Ask) (reply :
   pub survives : Survives bare last (λ _. ⊥)
   pub answered_open : HasCleanDisk last → OnOk got (IsTrue bare.is_open)
   pub carried : HasCleanDisk last → IsInside bare → GotSo setup before bare got (λ y text s. (p : P) × IsCarriedOut setup text s ask (reply p y) last)
-  pub ends : EndsTransaction got mid after last new r
+  pub ends : EndsAnswered got mid after last new r
 
 module _ {T P : Type 0} {setup : List Constituency} {ask : Ask} {reply : P → Result T Refusal → Result Reply Refusal} {before mid after : Known} {old bare last new : Seen} {got : Result (Result T Refusal) Error} {r : Result T Refusal}
     (h : Asked setup ask reply before mid after old bare last new got r) where
@@ -222,6 +283,9 @@ module _ {T P : Type 0} {setup : List Constituency} {ask : Ask} {reply : P → R
           let done = so_of_state ended y is clean office.2.text office.0 office.1 office.2.has in
           record { was_open = now; text = office.2.text; state = office.0; lawful = office.1; has = office.2.has; after = tables_after setup office.2.text office.0 ask (reply done.0 y) last office.2.reads done.1 }
 
+  pub shut : HasCleanDisk new → new.is_open ≡ false → r ≡ Err Store
+  shut = failed_shut ended
+
   pub answer_is : (Is : T → Type 0) → IfOk got (λ y. IfOk y Is) → IfOk r Is
   answer_is = got_is ended
 
@@ -239,9 +303,6 @@ module _ {T P : Type 0} {setup : List Constituency} {ask : Ask} {reply : P → R
       | inl it ↦ (let c = so_of_state ended r it.is (early ended clean) text s lawful has in (c.0, done_committed setup text s ask (reply c.0 r) last new c.1 (it.shown clean)))
       | inr up ↦ (any, subst (λ y. IsDone setup text s ask y new) (sym (ap (reply any) up.is ∙ plain up.why)) (done_failed setup text s ask up.why old new up.own has (back ended up clean now text s lawful has)))
     ]
-
-    pub shut : HasCleanDisk new → new.is_open ≡ false → IsNotAccepted (reply any r)
-    shut clean is = not_accepted_so r (refused_shut ended clean is)
 
     pub forgets : OnOk got (ForgetsNone before mid) → IsNotAccepted (reply any r) ⊎ ForgetsNone before after
     forgets so = elim (refused_or_known ended so) [

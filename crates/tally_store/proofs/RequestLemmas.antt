@@ -1,5 +1,5 @@
 -- What a request or an import leaves of a connection, and of a store.
-use Rattle.std.proofs.Common.{◌≡◌, ◌⊎◌, ◌∙◌, inl, inr, ℕ, Bool, true, false, IsTrue, IsErr, IfErr, IfSome, OnOk, Option, Some, None, List, [], ◌∷◌, Result, Ok, Err, refl, sym, ap, subst, subst₂, arith, true≢false}
+use Rattle.std.proofs.Common.{◌≡◌, ◌⊎◌, ◌∙◌, inl, inr, ℕ, Bool, true, false, IsTrue, IfErr, IfSome, OnOk, Option, Some, None, List, [], ◌∷◌, Result, Ok, Err, refl, sym, ap, subst, subst₂, arith, true≢false}
 use Rattle.std.specs.BTreeMap.{BTreeMap, is_at}
 use Rattle.std.specs.Map.{lookup}
 use Rattle.std.proofs.lemmas.List.Elements.{All-from_recursion}
@@ -34,6 +34,7 @@ use Rattle.tally_keeper.specs.Keeper.{Event, Happens, Imports, IsImportFault, Is
 use Rattle.tally_returns_rows.specs.Source.{Delivery}
 use Rattle.tally_returns_rows.specs.declared.import.ImportCount.{ImportCount}
 use Rattle.tally_returns_rows.specs.declared.source.ImportFault.{ImportFault}
+use Rattle.tally_returns_rows.specs.declared.source.ImportFault.TheVariants as import_fault
 use Rattle.tally_keeper.proofs.EventLemmas.{happen-lawful}
 use Rattle.tally_keeper.proofs.TreeLemmas.{get-tree}
 use Rattle.tally_store_commands.specs.internal.Inside.{IsLawfulInside, StaysInState}
@@ -206,7 +207,7 @@ pub record Served (setup : List Constituency) (old new : Seen) (ask : Ask) (r : 
   pub codes : BringsCode ask
   pub clean : HasCleanDisk new → HasCleanDisk old
   pub done : Does setup ask old new r
-  pub shut : HasCleanDisk new → new.is_open ≡ false → IsNotAccepted r
+  pub shut : HasCleanDisk new → new.is_open ≡ false → r ≡ Err refusal.Store
   pub was_open : HasCleanDisk new → IsTrue new.is_open → IsTrue old.is_open
 
 module _ (setup : List Constituency) (old new : Seen) (ask : Ask) (r : Result Reply Refusal) where
@@ -237,7 +238,7 @@ module _ (setup : List Constituency) (old new : Seen) (ask : Ask) (r : Result Re
           let office = was.office (h.clean clean) before in
           subst₂ (λ a b. Happens setup a (request ask r) b) (sym (content_is setup office.0 old views was.limits office.1 office.2 before)) (sym (content_shut setup new shut)) (h.shut clean shut)
       go false true before now = absurd (true≢false (sym (h.was_open clean now) ∙ before))
-      go false false before shut = subst₂ (λ a b. Happens setup a (request ask r) b) (sym (content_shut setup old before)) (sym (content_shut setup new shut)) (h.shut clean shut)
+      go false false before shut = subst₂ (λ a b. Happens setup a (request ask r) b) (sym (content_shut setup old before)) (sym (content_shut setup new shut)) (inr (h.shut clean shut))
 
 -- what is known of an import on the connection of a store
 pub record Took (setup : List Constituency) (old new : Seen) (d : Delivery) (r : Result ImportCount ImportFault) : Type 0 where
@@ -245,7 +246,7 @@ pub record Took (setup : List Constituency) (old new : Seen) (d : Delivery) (r :
   pub clean : HasCleanDisk new → HasCleanDisk old
   pub done : DoesImport setup d old new r
   pub fault : IfErr r (IsImportFault d)
-  pub shut : HasCleanDisk new → new.is_open ≡ false → IsErr r
+  pub shut : HasCleanDisk new → new.is_open ≡ false → r ≡ Err import_fault.Store
   pub was_open : HasCleanDisk new → IsTrue new.is_open → IsTrue old.is_open
 
 module _ (setup : List Constituency) (old new : Seen) (d : Delivery) where
@@ -274,8 +275,8 @@ module _ (setup : List Constituency) (old new : Seen) (d : Delivery) where
           let next = after_all (Ok count) office.0 was.limits office.1 office.2 done in
           subst₂ (λ a b. IsImportOf setup a d count b) (sym (content_is setup office.0 old views was.limits office.1 office.2 before)) (sym (content_is setup next.0 new views was.limits next.1 next.2 now)) done.imported
       go false true before now = absurd (true≢false (sym (h.was_open clean now) ∙ before))
-      go true false before shut = absurd (true≢false (sym (h.shut clean shut)))
-      go false false before shut = absurd (true≢false (sym (h.shut clean shut)))
+      go true false before shut = absurd (let failed = h.shut clean shut in cc)
+      go false false before shut = absurd (let failed = h.shut clean shut in cc)
   imports_after (Err fault) views was h clean = (h.fault, go old.is_open new.is_open refl refl)
     where
       go : (a b : Bool) → old.is_open ≡ a → new.is_open ≡ b → Happens setup (content_of setup old) (failed_import fault) (content_of setup new)
@@ -286,7 +287,7 @@ module _ (setup : List Constituency) (old new : Seen) (d : Delivery) where
           subst₂ (λ a b. Happens setup a (failed_import fault) b) (sym (content_is setup office.0 old views was.limits office.1 office.2 before)) (sym (content_is setup office.0 new views was.limits office.1 next now)) refl
       go true false before shut =
           let office = was.office (h.clean clean) before in
-          subst₂ (λ a b. Happens setup a (failed_import fault) b) (sym (content_is setup office.0 old views was.limits office.1 office.2 before)) (sym (content_shut setup new shut)) tt
+          subst₂ (λ a b. Happens setup a (failed_import fault) b) (sym (content_is setup office.0 old views was.limits office.1 office.2 before)) (sym (content_shut setup new shut)) (let failed = h.shut clean shut in let same : fault ≡ import_fault.Store = cc in same)
       go false true before now = absurd (true≢false (sym (h.was_open clean now) ∙ before))
       go false false before shut = subst₂ (λ a b. Happens setup a (failed_import fault) b) (sym (content_shut setup old before)) (sym (content_shut setup new shut)) tt
 

@@ -1,5 +1,5 @@
 -- What showing a constituency leaves of a connection, and of a store.
-use Rattle.std.proofs.Common.{◌≡◌, ◌⊎◌, ◌∙◌, inl, inr, ℕ, Bool, true, false, IsTrue, List, [], OnOk, Result, Ok, Err, refl, sym, subst, subst₂, true≢false, None, Some}
+use Rattle.std.proofs.Common.{◌≡◌, ◌⊎◌, ◌∙◌, inl, inr, ℕ, Bool, true, false, IsTrue, List, [], OnOk, Result, Ok, Err, ap, refl, sym, subst, subst₂, true≢false, None, Some}
 use Rattle.sqlite.specs.Effect.{Database}
 use Rattle.sqlite.specs.State.{State as Seen, HasCleanDisk, IsUnchanged}
 use Rattle.sqlite.specs.declared.error.Error.{Error}
@@ -11,9 +11,9 @@ use Rattle.tally_returns.specs.State.{State}
 use Rattle.tally_returns.specs.View.{View}
 use Rattle.tally_returns.specs.declared.ask.Ask.TheVariants.{ShowCon}
 use Rattle.tally_returns.specs.declared.refusal.Refusal.{Refusal}
+use Rattle.tally_returns.specs.declared.refusal.Refusal.TheVariants.{Store}
 use Rattle.tally_machine_law.specs.LawStatements.{ViewsAreLawful}
 use Rattle.tally_machine_law.specs.LawfulState.{IsLawfulState}
-use Rattle.tally_machine_law.specs.Step.{IsNotAccepted}
 use Rattle.tally_machine_law.proofs.LawLemmas.{answered-lawful}
 use Rattle.tally_keeper.specs.Keeper.{Happens, request}
 use Rattle.tally_keeper.specs.Shown.{AnswersShowCon, con_with}
@@ -63,7 +63,7 @@ pub record ServedView (setup : List Constituency) (old new : Seen) (con : List �
   pub ended : new.in_transaction ≡ false
   pub clean : HasCleanDisk new → HasCleanDisk old
   pub done : DoesShow setup con old new shown
-  pub shut : HasCleanDisk new → new.is_open ≡ false → IsNotAccepted (con_with [] shown)
+  pub shut : HasCleanDisk new → new.is_open ≡ false → shown ≡ Err Store
   pub was_open : HasCleanDisk new → IsTrue new.is_open → IsTrue old.is_open
 
 module _ (setup : List Constituency) (old new : Seen) (con : List ℕ) (shown : Result View Refusal) where
@@ -84,6 +84,9 @@ module _ (setup : List Constituency) (old new : Seen) (con : List ℕ) (shown : 
   unfolding after
   shows_after views was h clean = go old.is_open new.is_open refl refl
     where
+      failed : HasCleanDisk new → new.is_open ≡ false → con_with [] shown ≡ Err Store
+      failed clean shut = ap (con_with []) (h.shut clean shut)
+
       go : (b d : Bool) → old.is_open ≡ b → new.is_open ≡ d → AnswersShowCon setup (content_of setup old) con shown (content_of setup new)
       go true true before now =
           let office = was.office (h.clean clean) before in
@@ -92,10 +95,10 @@ module _ (setup : List Constituency) (old new : Seen) (con : List ℕ) (shown : 
           (done.0, subst₂ (λ a b. Happens setup a (request (ShowCon con) (con_with done.0 shown)) b) (sym (content_is setup office.0 old views was.limits office.1 office.2 before)) (sym (content_is setup next.0 new views was.limits next.1 next.2 now)) done.1.answered)
       go true false before shut =
           let office = was.office (h.clean clean) before in
-          ([], subst₂ (λ a b. Happens setup a (request (ShowCon con) (con_with [] shown)) b) (sym (content_is setup office.0 old views was.limits office.1 office.2 before)) (sym (content_shut setup new shut)) (h.shut clean shut))
+          ([], subst₂ (λ a b. Happens setup a (request (ShowCon con) (con_with [] shown)) b) (sym (content_is setup office.0 old views was.limits office.1 office.2 before)) (sym (content_shut setup new shut)) (failed clean shut))
       go false true before now = absurd (true≢false (sym (h.was_open clean now) ∙ before))
       go false false before shut =
-          ([], subst₂ (λ a b. Happens setup a (request (ShowCon con) (con_with [] shown)) b) (sym (content_shut setup old before)) (sym (content_shut setup new shut)) (h.shut clean shut))
+          ([], subst₂ (λ a b. Happens setup a (request (ShowCon con) (con_with [] shown)) b) (sym (content_shut setup old before)) (sym (content_shut setup new shut)) (inr (failed clean shut)))
 
   pub keeps_text_shown : DoesShow setup con old new shown → HasCleanDisk new → IsTrue new.is_open → KeepsText setup old new
   keeps_text_shown does clean now text s lawful has = let done = does clean now text s lawful has in (done.1.state, done.1.has)

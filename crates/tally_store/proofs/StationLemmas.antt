@@ -9,7 +9,7 @@ use Rattle.tally_setup.specs.Constituency.{Constituency}
 use Rattle.tally_setup.specs.Setup.{constituency_with}
 use Rattle.tally_returns.specs.State.{State}
 use Rattle.tally_returns.specs.declared.refusal.Refusal.{Refusal}
-use Rattle.tally_returns.specs.declared.refusal.Refusal.TheVariants.{NoConstituency}
+use Rattle.tally_returns.specs.declared.refusal.Refusal.TheVariants.{NoConstituency, Store}
 use Rattle.tally_returns.specs.declared.station_row.StationRow.{StationRow}
 use Rattle.tally_machine_law.specs.LawStatements.{ViewsAreLawful}
 use Rattle.tally_machine_law.specs.LawfulState.{IsLawfulState}
@@ -79,7 +79,7 @@ pub record ServedStations (setup : List Constituency) (old new : Seen) (con : Li
   pub ended : new.in_transaction ≡ false
   pub clean : HasCleanDisk new → HasCleanDisk old
   pub done : DoesShowReturns setup con old new shown
-  pub shut : HasCleanDisk new → new.is_open ≡ false → IsRefusedByKeeper shown
+  pub shut : HasCleanDisk new → new.is_open ≡ false → shown ≡ Err Store
   pub was_open : HasCleanDisk new → IsTrue new.is_open → IsTrue old.is_open
 
 module _ (setup : List Constituency) (old new : Seen) (con : List ℕ) (shown : Result (Vec StationRow Global) Refusal) where
@@ -97,13 +97,11 @@ module _ (setup : List Constituency) (old new : Seen) (con : List ℕ) (shown : 
   }
 
   -- a keeper that is shut shows none
-  shown_none : (r : Result (Vec StationRow Global) Refusal) → IsRefusedByKeeper r → ShowsReturns setup None con r None
-  shown_none (Ok rows) own = absurd own
-  shown_none (Err why) own = own
+  shown_none : (r : Result (Vec StationRow Global) Refusal) → r ≡ Err Store → ShowsReturns setup None con r None
+  shown_none r failed = subst (λ y. ShowsReturns setup None con y None) (sym failed) (inr refl)
 
-  shown_shut : (s : State) (r : Result (Vec StationRow Global) Refusal) → IsRefusedByKeeper r → ShowsReturns setup (Some s) con r None
-  shown_shut s (Ok rows) own = absurd own
-  shown_shut s (Err why) own = own
+  shown_shut : (s : State) (r : Result (Vec StationRow Global) Refusal) → r ≡ Err Store → ShowsReturns setup (Some s) con r None
+  shown_shut s r failed = subst (λ y. ShowsReturns setup (Some s) con y None) (sym failed) refl
 
   pub stations_shown : ViewsAreLawful → IsStored setup old → ServedStations setup old new con shown → HasCleanDisk new → ShowsReturns setup (content_of setup old) con shown (content_of setup new)
   stations_shown views was h clean = go old.is_open new.is_open refl refl

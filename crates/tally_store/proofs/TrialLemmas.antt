@@ -1,18 +1,24 @@
 -- What the trial of an import leaves of a connection, and of a store.
-use Rattle.std.proofs.Common.{◌≡◌, ◌∙◌, inl, inr, ℕ, Bool, true, false, IfErr, IsErr, IsTrue, List, [], OnOk, Result, Ok, Err, ap, arith, refl, subst, subst₂, sym, true≢false}
+use Rattle.std.proofs.Common.{◌≡◌, ◌⊎◌, ◌∙◌, inl, inr, ℕ, Bool, true, false, IfErr, IfOk, IsTrue, List, [], OnOk, Option, Some, Result, Ok, Err, ap, arith, refl, subst, subst₂, sym, true≢false}
 use Rattle.sqlite.specs.Effect.{Database}
-use Rattle.sqlite.specs.State.{State as Seen, HasCleanDisk, IsNotRun, IsRolledBack, KeepsCommit, Survives}
+use Rattle.sqlite.specs.State.{State as Seen, HasCleanDisk, IsNotRun, IsRolledBack, IsUnchanged, KeepsCommit, Survives, store_error}
 use Rattle.sqlite.specs.declared.error.Error.{Error}
+use Rattle.sqlite.specs.declared.error.Error.TheVariants.{SqlInputError}
+use Rattle.sqlite_trees.specs.declared.error.StoreError.{StoreError}
+use Rattle.sqlite_trees.specs.declared.error.StoreError.TheVariants.{OutOfMemory, Io, Corrupt, Full, Broken, Unstorable}
+use Rattle.sqlite_value.specs.Order.{Row}
 use Rattle.sqlite.proofs.StateLemmas.{survives_then}
 use Rattle.tally_setup.specs.Constituency.{Constituency}
 use Rattle.tally_returns.specs.State.{State}
 use Rattle.tally_machine_law.specs.LawStatements.{ViewsAreLawful}
-use Rattle.tally_keeper.specs.Keeper.{IsImportFault, Tries}
+use Rattle.tally_keeper.proofs.TakenLemmas.{own-last}
+use Rattle.tally_keeper.specs.Keeper.{IsImportFault, IsImportOf, Tries}
 use Rattle.tally_returns_rows.specs.NamedRows.{NamesRows}
-use Rattle.tally_returns_rows.specs.Source.{Delivery}
+use Rattle.tally_returns_rows.specs.Source.{Delivery, GaveAll}
 use Rattle.tally_returns_rows.specs.declared.import.ImportCount.{ImportCount}
 use Rattle.tally_returns_rows.specs.declared.import.NamedRow.{NamedRow}
 use Rattle.tally_returns_rows.specs.declared.source.ImportFault.{ImportFault}
+use Rattle.tally_returns_rows.specs.declared.source.ImportFault.TheVariants.{Store}
 use Rattle.tally_store_commands.specs.internal.Inside.{IsLawfulInside}
 use Rattle.tally_store_commands.specs.internal.Known.{Known}
 use Rattle.tally_store_schema.specs.Office.{IsInside}
@@ -24,9 +30,10 @@ use Rattle.tally_store_open.specs.internal.Ending.{EndsUnchanged, IsSettled}
 use Rattle.tally_store_open.proofs.EndingLemmas.{Began, rolled_back}
 use Rattle.tally_store_open.proofs.UnwrittenLemmas.{LeavesCommit}
 use Rattle.tally_store.specs.Content.{content_of}
+use Rattle.tally_store.specs.Crash.{LeavesImported}
 use Rattle.tally_store.specs.Store.{IsOfLawfulState, IsStored, KeepsText}
 use Rattle.tally_store.specs.internal.Served.{IsServed}
-use Rattle.tally_store.specs.internal.Requests.{DoesName, DoesTry}
+use Rattle.tally_store.specs.internal.Requests.{DoesImport, DoesName, DoesTry, EndsImport}
 use Rattle.tally_store.proofs.ContentLemmas.{content_is}
 use Rattle.tally_store.proofs.RequestLemmas.{Took, imports_after, state_back}
 
@@ -46,6 +53,41 @@ ends_then a b c one two = record {
   where
     early : HasCleanDisk c → HasCleanDisk b
     early clean = omega (arith, clean, two.survives.clean)
+
+-- an import with a fault, and a call after it that committed nothing
+module _ (setup : List Constituency) (d : Delivery) (a b c : Seen) (still : EndsUnchanged b c) where
+  early : HasCleanDisk c → HasCleanDisk b
+  early clean = omega (arith, clean, still.survives.clean)
+
+  pub import_then : EndsImport setup d a b → EndsImport setup d a c
+  import_then ends = record {
+    ended = still.ended;
+    was_open = λ clean now. ends.was_open (early clean) (still.was_open clean now);
+    crash = survives_then a b c _ _ (LeavesImported setup d a) (λ _ db made. made) (λ _ db none. absurd none) ends.crash still.survives;
+  }
+
+  pub still_there : (fault said : ImportFault) → DoesImport setup d a b (Err fault) → DoesImport setup d a c (Err said)
+  still_there fault said done clean now text s lawful has = state_back setup text s b c (done (early clean) (still.was_open clean now) text s lawful has) (still.same clean now)
+
+-- the fault that came, or that the database failed
+pub fault_or_failed : (d : Delivery) (fault said : ImportFault) → IsImportFault d fault → (said ≡ fault) ⊎ (said ≡ Store) → IsImportFault d said
+fault_or_failed d fault said is (inl same) = subst (IsImportFault d) (sym same) is
+fault_or_failed d fault said is (inr failed) = (is.0, is.1, inl (inr failed))
+
+-- what a trial came to, or that the database failed
+module _ (setup : List Constituency) (d : Delivery) (old mid new : Seen) (r said : Result ImportCount ImportFault) (early : HasCleanDisk new → HasCleanDisk mid) where
+  pub tried_or_failed : DoesTry setup d old mid r → (said ≡ r) ⊎ (said ≡ Err Store) → DoesTry setup d old new said
+  tried_or_failed tried (inl same) clean text s lawful has = subst (λ y. IfOk y (λ count. (after : Option State) × IsImportOf setup (Some s) d count after)) (sym same) (tried (early clean) text s lawful has)
+  tried_or_failed tried (inr failed) clean text s lawful has = subst (λ y. IfOk y (λ count. (after : Option State) × IsImportOf setup (Some s) d count after)) (sym failed) tt
+
+  pub named_or_failed : (before after : List NamedRow) → DoesName setup d old mid r before after → (said ≡ r) ⊎ (said ≡ Err Store) → DoesName setup d old new said before after
+  named_or_failed before after named (inl same) clean text s lawful has = subst (λ y. OnOk y (NamesRows setup (Some s) d before after)) (sym same) (named (early clean) text s lawful has)
+  named_or_failed before after named (inr failed) clean text s lawful has = subst (λ y. OnOk y (NamesRows setup (Some s) d before after)) (sym failed) tt
+
+pub fault_of_trial : (d : Delivery) (r said : Result ImportCount ImportFault) → IfErr r (IsImportFault d) → OnOk r (GaveAll d) → (said ≡ r) ⊎ (said ≡ Err Store) → IfErr said (IsImportFault d)
+fault_of_trial d r said fault gave (inl same) = subst (λ y. IfErr y (IsImportFault d)) (sym same) fault
+fault_of_trial d (Ok count) said fault gave (inr failed) = subst (λ y. IfErr y (IsImportFault d)) (sym failed) (own-last d Store gave (inr refl))
+fault_of_trial d (Err why) said fault gave (inr failed) = subst (λ y. IfErr y (IsImportFault d)) (sym failed) (fault_or_failed d why Store fault (inr refl))
 
 -- a transaction on the database of a store that committed nothing and was rolled back
 pub undone_ends : (setup : List Constituency) (old bare last new : Seen) → IsOfLawfulState setup old → bare ≡ record old { in_transaction = true }
@@ -94,6 +136,40 @@ not_prepared old new sql e settled (inr fails) now =
     let back = fails.3.undone now in
     (was_open, record { now = back.0 ∙ sym (settled was_open); committed = back.1 })
 
+-- a fault of the text that was given
+unfoldable pub is_of_text : Error → Bool
+is_of_text (SqlInputError fault) = true
+is_of_text _ = false
+
+not_of_store : (cause : StoreError) → is_of_text (store_error cause) ≡ false
+unfolding is_of_text
+not_of_store OutOfMemory = refl
+not_of_store Io = refl
+not_of_store Corrupt = refl
+not_of_store Full = refl
+not_of_store Broken = refl
+not_of_store Unstorable = refl
+
+-- a connection that finds a fault in a text is open
+pub open_by_fault : (old new : Seen) (sql : List ℕ) (e : Error) → is_of_text e ≡ true → IsNotRun old new sql [] e → IsTrue new.is_open
+unfolding IsNotRun
+open_by_fault old new sql e of_text (inl same) = same.1.0.is_open
+open_by_fault old new sql e of_text (inr fails) = absurd (true≢false (sym of_text ∙ ap is_of_text fails.1 ∙ not_of_store fails.0))
+
+-- what a connection is left as by a text that it was given to prepare
+module _ {X : Type 0} (P : X → Type 0) (old new : Seen) (sql : List ℕ) where
+  was_there : (r : Result X Error) → IsSettled old → IfOk r (λ s. P s × IsUnchanged old new) → IfErr r (λ e. (params : Row) → IsNotRun old new sql params e) → IsTrue new.is_open → IsTrue old.is_open × IsAsBefore old new
+  was_there (Ok s) settled ok err now = (ok.1.0.was_open, record { now = ok.1.0.now_is; committed = ok.1.0.committed_is })
+  was_there (Err e) settled ok err now = not_prepared old new sql e settled (err []) now
+
+  pub prepared_ends : (r : Result X Error) → IsSettled old → new.in_transaction ≡ false → (HasCleanDisk new → IfOk r (λ s. P s × IsUnchanged old new)) → (HasCleanDisk new → IfErr r (λ e. (params : Row) → IsNotRun old new sql params e)) → Survives old new (λ _. ⊥) → EndsUnchanged old new
+  prepared_ends r settled ended ok err survives = record {
+    ended = ended;
+    was_open = λ clean now. (was_there r settled (ok clean) (err clean) now).0;
+    same = λ clean now. (was_there r settled (ok clean) (err clean) now).1;
+    survives = survives;
+  }
+
 -- a call that committed nothing wrote nothing
 pub unwritten_ends : (setup : List Constituency) (old new : Seen) → LeavesCommit old → IsOfLawfulState setup old → EndsUnchanged old new → IsUnwritten old new
 unwritten_ends setup old new law office ends = record {
@@ -112,7 +188,7 @@ pub record Tried (setup : List Constituency) (old new : Seen) (d : Delivery) (r 
   pub ends : EndsUnchanged old new
   pub done : DoesTry setup d old new r
   pub fault : IfErr r (IsImportFault d)
-  pub shut : HasCleanDisk new → new.is_open ≡ false → IsErr r
+  pub shut : HasCleanDisk new → new.is_open ≡ false → r ≡ Err Store
 
 module _ (setup : List Constituency) (old new : Seen) where
   office_still : (s : State) → IsOffice setup s old → IsAsBefore old new → IsOffice setup s new
@@ -152,7 +228,7 @@ module _ (setup : List Constituency) (old new : Seen) where
           let next = office_still office.0 office.2 (h.ends.same clean now) in
           let done = h.done clean office.2.text office.0 office.1 office.2.has in
           subst₂ (λ a b. Tries setup a d (Ok count) b) (sym (content_is setup office.0 old views was.limits office.1 office.2 before)) (sym (content_is setup office.0 new views was.limits office.1 next now)) (done.0, done.1, refl)
-      go false shut = absurd (true≢false (sym (h.shut clean shut)))
+      go false shut = absurd (let failed = h.shut clean shut in cc)
   tries_after d (Err fault) views was h clean =
       let took : Took setup old new d (Err fault) = record {
         ended = h.ends.ended;
@@ -166,7 +242,7 @@ module _ (setup : List Constituency) (old new : Seen) where
 
   -- the rows that were named, by what the store had before
   pub named_after : (d : Delivery) (r : Result ImportCount ImportFault) (before after : List NamedRow) → ViewsAreLawful → IsStored setup old → (HasCleanDisk new → HasCleanDisk old)
-      → (HasCleanDisk new → IsTrue new.is_open → IsTrue old.is_open) → (HasCleanDisk new → new.is_open ≡ false → IsErr r) → DoesName setup d old new r before after
+      → (HasCleanDisk new → IsTrue new.is_open → IsTrue old.is_open) → (HasCleanDisk new → new.is_open ≡ false → r ≡ Err Store) → DoesName setup d old new r before after
       → HasCleanDisk new → OnOk r (NamesRows setup (content_of setup old) d before after)
   named_after d (Ok count) before after views was clean_old was_open shut names clean = go new.is_open refl
     where
@@ -175,5 +251,5 @@ module _ (setup : List Constituency) (old new : Seen) where
           let open_old = was_open clean now in
           let office = was.office (clean_old clean) open_old in
           subst (λ s. NamesRows setup s d before after) (sym (content_is setup office.0 old views was.limits office.1 office.2 open_old)) (names clean office.2.text office.0 office.1 office.2.has)
-      go false is = absurd (true≢false (sym (shut clean is)))
+      go false is = absurd (let failed = shut clean is in cc)
   named_after d (Err fault) before after views was clean_old was_open shut names clean = tt

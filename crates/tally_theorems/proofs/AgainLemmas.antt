@@ -473,7 +473,7 @@ commands-again : Laws → (setup : List Constituency) (old mid new : Option Stat
 commands-again laws setup None None None text ok are good = tt
 commands-again laws setup None None (Some u) text ok are good = absurd are.second
 commands-again laws setup None (Some t) new text ok are good = absurd are.first
-commands-again laws setup (Some s) None new text ok are good = absurd (accepted are.lists are.answer (subst (λ t. t ≢ word_text Unavailable) are.said good) are.first)
+commands-again laws setup (Some s) None new text ok are good = absurd (accepted are.lists are.answer (subst (λ t. t ≢ word_text Unavailable) are.said good) (inr are.first))
 commands-again laws setup (Some s) (Some t) None text ok are good = tt
 commands-again laws setup (Some s) (Some t) (Some u) text ok are good = go (is_act are.answer) refl
   where

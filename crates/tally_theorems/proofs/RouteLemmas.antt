@@ -13,9 +13,8 @@ use Rattle.tally_returns.specs.declared.reply.Reply.{Reply}
 use Rattle.tally_returns.specs.declared.reply.Reply.TheVariants as reply
 use Rattle.tally_returns.specs.declared.station_row.StationRow.{StationRow}
 use Rattle.tally_machine_law.specs.Runs.{is_act}
-use Rattle.tally_machine_law.specs.Step.{IsNotAccepted}
 use Rattle.tally_keeper.specs.Keeper.{Happens, Tries, request}
-use Rattle.tally_keeper.specs.Shown.{IsOwnRefusal, ShowsReturns}
+use Rattle.tally_keeper.specs.Shown.{ShowsReturns}
 use Rattle.tally_returns_rows.specs.Source.{Delivery}
 use Rattle.tally_returns_rows.specs.declared.import.ImportCount.{ImportCount}
 use Rattle.tally_returns_rows.specs.declared.source.ImportFault.{ImportFault}
@@ -29,7 +28,7 @@ use Rattle.tally_desk_routes.specs.declared.routes.StationCommand.{StationComman
 use Rattle.tally_theorems.specs.MessageLaws.{IsImportRoute}
 use Rattle.tally_desk.specs.Requests.{Asks, HasConText, HasProgressText, HasReportText, HasResultText, HasReturnText, ImportsBody, Named, AtCon, AtNamed, AtStation, Orders, ShowsRows, TriesBody, con_in_target, returns_answer, station_in_target, stations_answer}
 use Rattle.tally_desk.specs.Respond.{IsAnswerOn}
-use Rattle.tally_report_overview.specs.Views.{ShowsAll, ShowsAllWhole}
+use Rattle.tally_report_overview.specs.Views.{IsUnshown, ShowsAll, ShowsAllWhole}
 use Rattle.tally_report_names.specs.declared.report.Report.{Report}
 
 -- ---- what is shown
@@ -78,25 +77,26 @@ return-brings code = λ slip none. absurd (let k = none in cc)
 con-brings : (code : List ℕ) → BringsCode (ShowCon code)
 con-brings code = λ slip none. absurd (let k = none in cc)
 
+-- a failed disk shut the office at a look
+shut-at : (setup : List Constituency) (old : Option State) → Happens setup old (request ShowProgress (Err Store)) None
+shut-at setup (Some s) = refl
+shut-at setup None = inr refl
+
+shut-came : (setup : List Constituency) (old new : Option State) → new ≡ None → IsShown setup old new
+shut-came setup old new shut =
+    inr (ShowProgress, Err Store, progress-brings, refl, subst (Happens setup old (request ShowProgress (Err Store))) (sym shut) (shut-at setup old))
+
 -- a look that was refused changed nothing, or the office was shut at it
-not-accepted : (why : Refusal) → IsOwnRefusal why → IsNotAccepted (Err why)
-not-accepted why (inl is) = inl (ap Err is)
-not-accepted why (inr is) = inr (ap Err is)
-
-shut-at : (setup : List Constituency) (old : Option State) (why : Refusal) → IsOwnRefusal why → Happens setup old (request ShowProgress (Err why)) None
-shut-at setup (Some s) why own = not-accepted why own
-shut-at setup None why own = not-accepted why own
-
-look-refused : (setup : List Constituency) (old new : Option State) (why : Refusal) → IsOwnRefusal why → (new ≡ old) ⊎ (new ≡ None) → IsShown setup old new
-look-refused setup old new why own (inl same) = inl same
-look-refused setup old new why own (inr shut) =
-    inr (ShowProgress, Err why, progress-brings, refl, subst (Happens setup old (request ShowProgress (Err why))) (sym shut) (shut-at setup old why own))
+look-refused : (setup : List Constituency) (old new : Option State) (why : Refusal) → IsUnshown old why new → IsShown setup old new
+look-refused setup old new why (inl (memory, same)) = inl same
+look-refused setup old new why (inr (failed, inl same)) = inl same
+look-refused setup old new why (inr (failed, inr shut)) = shut-came setup old new shut
 
 rows-came : (setup : List Constituency) (old new : Option State) (code : List ℕ) (r : Result (Vec StationRow Global) Refusal) → ShowsReturns setup old code r new → IsShown setup old new
 rows-came setup (Some s) (Some t) code (Ok rows) is = inl (ap Some is.0)
 rows-came setup (Some s) (Some t) code (Err why) is = inl (ap Some is.0)
 rows-came setup (Some s) None code (Ok rows) is = absurd is
-rows-came setup (Some s) None code (Err why) own = look-refused setup (Some s) None why own (inr refl)
+rows-came setup (Some s) None code (Err why) is = shut-came setup (Some s) None refl
 rows-came setup None (Some t) code (Ok rows) is = absurd is
 rows-came setup None (Some t) code (Err why) is = absurd is
 rows-came setup None None code (Ok rows) is = absurd is
@@ -104,17 +104,17 @@ rows-came setup None None code (Err why) own = inl refl
 
 all-came : (setup : List Constituency) (old new : Option State) (r : Result (Vec View Global) Refusal) → ShowsAll setup old r new → IsShown setup old new
 all-came setup old new (Ok views) is = inl is.1
-all-came setup old new (Err why) is = look-refused setup old new why is.0 is.1
+all-came setup old new (Err why) is = look-refused setup old new why is
 
 whole-came : (setup : List Constituency) (old new : Option State) (r : Result (Vec View Global) Refusal) → ShowsAllWhole setup old r new → IsShown setup old new
 whole-came setup old new (Ok views) is = inl is.1
-whole-came setup old new (Err why) is = look-refused setup old new why is.0 is.1
+whole-came setup old new (Err why) is = look-refused setup old new why is
 
 -- what was tried changed nothing, or the office was shut at it
 tried-came : (setup : List Constituency) (old new : Option State) (d : Delivery) (r : Result ImportCount ImportFault) → Tries setup old d r new → IsShown setup old new
 tried-came setup old new d (Ok count) is = inl is.2
 tried-came setup (Some s) (Some t) d (Err fault) is = inl (ap Some is.1)
-tried-came setup (Some s) None d (Err fault) is = look-refused setup (Some s) None Store (inr refl) (inr refl)
+tried-came setup (Some s) None d (Err fault) is = shut-came setup (Some s) None refl
 tried-came setup None (Some t) d (Err fault) is = absurd is.1
 tried-came setup None None d (Err fault) is = inl refl
 

@@ -6,6 +6,8 @@ use Rattle.std.specs.FinMap.{get}
 use Rattle.sqlite.specs.State.{State as Seen, HasCleanDisk, IsRolledBack, KeepsCounts, Shows}
 use Rattle.sqlite.specs.State.{Survives}
 use Rattle.sqlite.specs.declared.error.Error.{Error}
+use Rattle.sqlite.specs.Held.{Held, state}
+use Rattle.sqlite_trees.specs.declared.store.Store.{Ghosts}
 use Rattle.sqlite_trees.specs.Tree.{Trees}
 use Rattle.tally_setup.specs.Constituency.{Constituency}
 use Rattle.tally_machine_law.specs.LawfulState.{IsLawfulState}
@@ -28,6 +30,7 @@ use Rattle.tally_returns_rows.specs.declared.import.NamedRow.{NamedRow}
 use Rattle.tally_returns_rows.specs.declared.source.ImportFault.{ImportFault}
 use Rattle.tally_store_commands.specs.internal.Known.{AreKnown, Known}
 use Rattle.tally_store_open.specs.Office.{HasState}
+use Rattle.tally_store_open.specs.internal.Ending.{EndsUnchanged}
 use Rattle.tally_store.specs.Crash.{LeavesAfter, LeavesImported}
 
 -- What a call keeps that works in a transaction of its own, whatever it answers: none is open after
@@ -176,17 +179,38 @@ pub record CommitsAnswer {T : Type 0} (got : Result (Result T Refusal) Error) (b
 -- The request is not accepted, and nothing is known. What was written is undone; after an answer
 -- that is said only of a transaction that had not ended before.
 pub record UndoesRequest {T : Type 0} (got : Result (Result T Refusal) Error) (after : Known)
-    (last new : Seen) (r : Result T Refusal) : Type 0 where
-  pub why : Refusal
-  pub is : r ≡ Err why
+    (last new : Seen) (why : Refusal) : Type 0 where
   pub own : (why ≡ Memory) ⊎ (why ≡ Store)
   pub forgot : IsNothing after
   pub undone : HasCleanDisk new → OnOk got (IsTrue last.in_transaction) → IsRolledBack last new
 
--- One of the two. A crash leaves what it could leave before, or, after an answer, what was written.
+-- one of the two
+abbrev pub HowItEnds : {T : Type 0} → Result (Result T Refusal) Error → Known → Known → Seen → Seen
+    → Result (Result T Refusal) Refusal → Type 0
+HowItEnds got before after last new (Ok r) = CommitsAnswer got before after last new r
+HowItEnds got before after last new (Err why) = UndoesRequest got after last new why
+
+-- A crash leaves what it could leave before, or, after an answer, what was written.
 pub record EndsTransaction {T : Type 0} (got : Result (Result T Refusal) Error)
-    (before after : Known) (last new : Seen) (r : Result T Refusal) : Type 0 where
+    (before after : Known) (last new : Seen) (outcome : Result (Result T Refusal) Refusal)
+    : Type 0 where
   pub ended : new.in_transaction ≡ false
   pub was_open : HasCleanDisk new → IsTrue new.is_open → IsTrue last.is_open
   pub survives : Survives last new (λ db. IsOk got × (db ≡ last.now.trees))
-  pub how : CommitsAnswer got before after last new r ⊎ UndoesRequest got after last new r
+  pub how : HowItEnds got before after last new outcome
+
+-- What is answered where it was undone: why, or that the database failed. The latter it is where a
+-- failed disk has shut the connection. Nothing else happens.
+pub record SaysWhy {T : Type 0} (why : Refusal) (old new : Seen) (r : Result T Refusal)
+    : Type 0 where
+  pub said : Refusal
+  pub is : r ≡ Err said
+  pub one : (said ≡ why) ⊎ (said ≡ Store)
+  pub ends : EndsUnchanged old new
+  pub shut : HasCleanDisk new → new.is_open ≡ false → said ≡ Store
+
+-- what a request is answered after its transaction ended so
+abbrev pub Answers : {S T : Type 0} → Ghosts S → Held S → Held S → Result (Result T Refusal) Refusal
+    → Result T Refusal → Type 0
+Answers g old new (Ok answer) r = (r ≡ answer) × (new ≡ old)
+Answers g old new (Err why) r = SaysWhy why (state g old) (state g new) r

@@ -1,4 +1,4 @@
-use Rattle.tally_office_commands.proofs.WrittenLemmas.{cut-closed, on-closed, printed-closed}
+use Rattle.tally_office_commands.proofs.WrittenLemmas.{cut-closed, on-closed, printed-closed, unclosed}
 use Rattle.tally_office_commands.proofs.ending.close_and_print.Goals as goal
 
 pub returns-in-Ok-clause-closed : goal.returns-in-Ok-clause-closed
@@ -15,3 +15,8 @@ pub returns-in-Ok-clause-cut : goal.returns-in-Ok-clause-cut
 returns-in-Ok-clause-cut g c = λ ok.
     cut-closed (g.O.Offices.Closes c.args.offices.now c.args.db.now c.args.office) c.close_office-is_closed.result c.print_if_closed.result
     c.close_office-is_closed.ensures c.print_if_closed.ensures.cut
+
+pub returns-in-Ok-clause-unclosed : goal.returns-in-Ok-clause-unclosed
+returns-in-Ok-clause-unclosed g c = λ ok.
+    unclosed (g.O.Offices.Closes c.args.offices.now c.args.db.now c.args.office) c.close_office-is_closed.result c.print_if_closed.result
+    c.close_office-is_closed.ensures c.print_if_closed.ensures.unclosed

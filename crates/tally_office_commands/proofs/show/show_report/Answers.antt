@@ -9,7 +9,7 @@ use Rattle.tally_report.specs.declared.fault.ReportFault.{ReportFault}
 use Rattle.tally_report.specs.Reports.{IsEnoughFor, report_fault}
 use Rattle.tally_office_commands.specs.Show.{IsGiven, IsReportShown, IsReportTrouble}
 use Rattle.tally_office_commands.specs.internal.Withheld.{IsWithheld}
-use Rattle.tally_office_commands.proofs.ShowLemmas.{con-known, con-trouble, fault-trouble, known-found}
+use Rattle.tally_office_commands.proofs.ShowLemmas.{con-known, con-trouble, fault-trouble, known-found, other-store}
 use Rattle.tally_office_commands.proofs.show.show_report.Goals as goal
 
 pub returns-in-Err-clause-unknown : goal.returns-in-Err-clause-unknown
@@ -95,3 +95,6 @@ text_of-requires g c con found =
     let fits = rw c.in-Ok.is at c.view_for.ensures.fits in
     let same : c.setup-in-Ok.result.now ≡ k.constituencies c.args.keeper.now = c.setup-in-Ok.ensures.setup ∙ c.view_for.ensures.stays.setup in
     fits con (subst (λ (x : List Constituency). constituency_with c.in-Some.code x ≡ Some con) same found)
+
+pub returns-in-Ok-clause-store : goal.returns-in-Ok-clause-store
+returns-in-Ok-clause-store g c sure = other-store (g.K.Keeper.HasDatabase c.args.keeper.now) c.text_of.result c.text_of.ensures.other

@@ -22,7 +22,7 @@ returns-in-Err-push-clause-shows g c sure =
     let was = c.loop-code.invariant in
     let code = c.code-item.result in
     let shows = at-first setup (k.constituencies c.loop-code.keeper) old (k.content c.loop-code.keeper) new code c.show_con.result (Ok c.in-Ok.view) was.stays.setup (was.kept (c.show_con.ensures.stays.trusted sure)) c.in-Ok.is (c.show_con.ensures.shows sure) in
-    (inl refl, inl (kept-shown setup old new code (Ok c.in-Ok.view) shows))
+    inl (refl, kept-shown setup old new code (Ok c.in-Ok.view) shows)
 
 pub returns-in-Err-push-clause-store : goal.returns-in-Err-push-clause-store
 returns-in-Err-push-clause-store g c is = not-store (g.K.Keeper.HasDatabase c.args.keeper.now) is

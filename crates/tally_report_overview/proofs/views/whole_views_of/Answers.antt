@@ -23,7 +23,7 @@ returns-in-Err-push-clause-shows g c sure =
     let was = c.loop-code.invariant in
     let code = c.code-item.result in
     let shows = whole-at-first setup (k.constituencies c.loop-code.keeper) old (k.content c.loop-code.keeper) new code c.whole_view.result (Ok c.in-Ok.view) was.stays.setup (was.kept (c.whole_view.ensures.stays.trusted sure)) c.in-Ok.is (c.whole_view.ensures.shows sure) in
-    (inl refl, inl (kept-whole setup old new code (Ok c.in-Ok.view) shows))
+    inl (refl, kept-whole setup old new code (Ok c.in-Ok.view) shows)
 
 pub returns-in-Err-push-clause-store : goal.returns-in-Err-push-clause-store
 returns-in-Err-push-clause-store g c is = not-store (g.K.Keeper.HasDatabase c.args.keeper.now) is

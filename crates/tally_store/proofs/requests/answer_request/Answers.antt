@@ -8,16 +8,16 @@ use Rattle.tally_machine_law.specs.Kinds.{IsReplyTo}
 use Rattle.tally_machine_law.specs.Runs.{is_act}
 use Rattle.tally_machine_law.specs.Step.{IsAnswered}
 use Rattle.tally_store.specs.internal.Requests.{EndsTransaction}
-use Rattle.tally_store.proofs.EndLemmas.{Asked, answer_is, done, ends_request, forgets, knows, shut, unwritten}
+use Rattle.tally_store.proofs.EndLemmas.{Asked, answer_is, done, ends_answered, ends_request, forgets, knows, shut, unwritten}
 use Rattle.tally_store.proofs.requests.answer_request.Given.{Over}
 use Rattle.tally_store.proofs.requests.answer_request.Goals as goal
 
-asked : (g : Over) (c : goal.After-conn-1 g)
-    → Asked {P = Unit {0}} c.args.setup.now c.args.ask.now (λ _ r. r) (known_of c.args.known.now) (known_of c.answer_in-got.new.known) (known_of c.end_request.new.known)
-    (state g.S.Store c.args.conn.now) (state g.S.Store c.transaction-tx.result.conn.now) (state g.S.Store c.answer_in-got.new.tx.conn.now) (state g.S.Store c.conn-1.given.0) c.answer_in-got.result c.end_request.result
+asked : (g : Over) (c : goal.After-answer_after g)
+    → Asked {P = Unit {0}} c.args.setup.now c.args.ask.now (λ _ r. r) (known_of c.args.known.now) (known_of c.answer_in-got.new.known) (known_of c.end_request-ended.new.known)
+    (state g.S.Store c.args.conn.now) (state g.S.Store c.transaction-tx.result.conn.now) (state g.S.Store c.answer_in-got.new.tx.conn.now) (state g.S.Store c.answer_after.new.conn) c.answer_in-got.result c.answer_after.result
 asked g c =
     let ensured = c.answer_in-got.ensures in
-    let same : c.end_request.new.tx.0 ≡ c.conn-1.given.0 = search rules in
+    let same : c.end_request-ended.new.tx.0 ≡ c.conn-1.given.0 = search rules in
     record {
       office = c.requires.office;
       known = c.requires.known;
@@ -27,7 +27,8 @@ asked g c =
       survives = ensured.stays.survives;
       answered_open = ensured.answers.answered_open;
       carried = λ clean inside. IfOk-weaker c.answer_in-got.result _ _ (λ r carried text s lawful known tables. (tt, carried text s lawful known tables)) (ensured.answers.step clean inside);
-      ends = subst (λ (h : _). EndsTransaction c.answer_in-got.result (known_of c.answer_in-got.new.known) (known_of c.end_request.new.known) (state g.S.Store c.answer_in-got.new.tx.conn.now) (state g.S.Store h) c.end_request.result) same c.end_request.ensures;
+      ends = ends_answered g.S.Store c.answer_in-got.result (known_of c.answer_in-got.new.known) (known_of c.end_request-ended.new.known) (state g.S.Store c.answer_in-got.new.tx.conn.now) c.conn-1.given.0 c.answer_after.new.conn c.end_request-ended.result c.answer_after.result
+          (subst (λ (h : _). EndsTransaction c.answer_in-got.result (known_of c.answer_in-got.new.known) (known_of c.end_request-ended.new.known) (state g.S.Store c.answer_in-got.new.tx.conn.now) (state g.S.Store h) c.end_request-ended.result) same c.end_request-ended.ensures) c.answer_after.ensures;
     }
 
 pub returns-clause-ends : goal.returns-clause-ends
@@ -50,7 +51,7 @@ returns-clause-known g c clean =
     ]
 
 pub returns-clause-shut : goal.returns-clause-shut
-returns-clause-shut g c = shut (asked g c) tt (λ e. refl)
+returns-clause-shut g c = shut (asked g c)
 
 pub returns-clause-forgets : goal.returns-clause-forgets
 returns-clause-forgets g c = forgets (asked g c) tt (λ e. refl) c.answer_in-got.ensures.answers.forgets

@@ -8,20 +8,20 @@ use Rattle.tally_returns.specs.declared.ask.Ask.TheVariants.{ShowCon}
 use Rattle.tally_setup.specs.Constituency.{Constituency}
 use Rattle.tally_setup.specs.Setup.{constituency_with}
 use Rattle.tally_store.specs.internal.Requests.{EndsTransaction}
-use Rattle.tally_store.proofs.EndLemmas.{Asked, answer_is, done, ends_request, forgets, knows, shut, unwritten}
+use Rattle.tally_store.proofs.EndLemmas.{Asked, answer_is, done, ends_answered, ends_request, forgets, knows, shut, unwritten}
 use Rattle.tally_store.proofs.ShownLemmas.{shown_got}
 use Rattle.tally_store.proofs.requests.show_request.Given.{Over}
 use Rattle.tally_store.proofs.requests.show_request.Goals as goal
 
-asked : (g : Over) (c : goal.After-conn-1 g)
-    → Asked c.args.setup.now (ShowCon c.args.con) con_with (known_of c.args.known.now) (known_of c.show_con_in-shown.new.known) (known_of c.end_request.new.known)
-    (state g.S.Store c.args.conn.now) (state g.S.Store c.transaction-tx.result.conn.now) (state g.S.Store c.show_con_in-shown.new.tx.conn.now) (state g.S.Store c.conn-1.given.0) c.show_con_in-shown.result c.end_request.result
+asked : (g : Over) (c : goal.After-answer_after g)
+    → Asked c.args.setup.now (ShowCon c.args.con) con_with (known_of c.args.known.now) (known_of c.show_con_in-shown.new.known) (known_of c.end_request-ended.new.known)
+    (state g.S.Store c.args.conn.now) (state g.S.Store c.transaction-tx.result.conn.now) (state g.S.Store c.show_con_in-shown.new.tx.conn.now) (state g.S.Store c.answer_after.new.conn) c.show_con_in-shown.result c.answer_after.result
 asked g c =
     let setup = c.args.setup.now in
     let bare = state g.S.Store c.transaction-tx.result.conn.now in
     let last = state g.S.Store c.show_con_in-shown.new.tx.conn.now in
     let ensured = c.show_con_in-shown.ensures in
-    let same : c.end_request.new.tx.0 ≡ c.conn-1.given.0 = search rules in
+    let same : c.end_request-ended.new.tx.0 ≡ c.conn-1.given.0 = search rules in
     record {
       office = c.requires.office;
       known = c.requires.known;
@@ -31,7 +31,8 @@ asked g c =
       survives = ensured.reads.stays.survives;
       answered_open = ensured.reads.answered_open;
       carried = λ clean inside. shown_got setup c.args.con (known_of c.args.known.now) bare last c.show_con_in-shown.result (ensured.reads.same clean inside) inside (ensured.shown clean inside);
-      ends = subst (λ (h : _). EndsTransaction c.show_con_in-shown.result (known_of c.show_con_in-shown.new.known) (known_of c.end_request.new.known) last (state g.S.Store h) c.end_request.result) same c.end_request.ensures;
+      ends = ends_answered g.S.Store c.show_con_in-shown.result (known_of c.show_con_in-shown.new.known) (known_of c.end_request-ended.new.known) last c.conn-1.given.0 c.answer_after.new.conn c.end_request-ended.result c.answer_after.result
+          (subst (λ (h : _). EndsTransaction c.show_con_in-shown.result (known_of c.show_con_in-shown.new.known) (known_of c.end_request-ended.new.known) last (state g.S.Store h) c.end_request-ended.result) same c.end_request-ended.ensures) c.answer_after.ensures;
     }
 
 pub returns-clause-ends : goal.returns-clause-ends
@@ -50,7 +51,7 @@ pub returns-clause-known : goal.returns-clause-known
 returns-clause-known g c = knows (asked g c) (λ known r text s. AreKnown c.args.setup.now s.returns known) c.show_con_in-shown.ensures.known
 
 pub returns-clause-shut : goal.returns-clause-shut
-returns-clause-shut g c = shut (asked g c) [] (λ e. refl)
+returns-clause-shut g c = shut (asked g c)
 
 pub returns-clause-forgets : goal.returns-clause-forgets
 returns-clause-forgets g c = forgets (asked g c) [] (λ e. refl) c.show_con_in-shown.ensures.forgets

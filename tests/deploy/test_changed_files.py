@@ -1,0 +1,144 @@
+"""Published files that somebody else changes: what the press pages make of them."""
+
+import contextlib
+import gzip
+import hashlib
+import io
+import json
+import re
+from datetime import UTC, datetime
+from pathlib import Path
+
+from tests.deploy.test_station_files import COLUMNS, rounds, rounds_of
+from tests.support.countries import four
+from tests.support.desks import done, modelled
+from tests.support.office import with_stations
+from tests.support.pages import press, read
+from tests.support.published import entries
+from tests.support.site import SiteCase
+
+
+def content(name):
+    data = Path("pages", name).read_bytes()
+    return gzip.decompress(data) if name.endswith(".gz") else data
+
+
+def says(name):
+    """The content of a file without the moments in it: one that is made again has another."""
+    return re.sub(rb"\d{4}-\d\d-\d\dT[^<\"]*|\d\d:\d\d|\d+ seconds?", b"", content(name))
+
+
+@contextlib.contextmanager
+def rounds_of_four():
+    """A function that makes a round of the pages of four constituencies, and returns what it said
+    on standard error: the names and the words."""
+    with four() as (office, _):
+        text = Path("setup.toml").read_text(encoding="utf-8")
+        with rounds_of(lambda target: office.ask("GET", target), text) as a_round:
+            setup = {one["code"]: one for one in rounds.read_setup(Path("setup.toml"))}
+            rounds.write_given(Path("pages"), rounds.Site(), setup)
+
+            def said_in_a_round():
+                said = io.StringIO()
+                with contextlib.redirect_stderr(said):
+                    a_round()
+                return sorted(line.rpartition("/")[2] for line in said.getvalue().splitlines())
+
+            yield said_in_a_round
+
+
+class ChangedFiles(SiteCase):
+    of_the_program = False
+
+    def assert_vouched_for(self):
+        """The manifest has the hash of each file that it names, and of its compressed one."""
+        for name, digest in json.loads(read("manifest.json"))["files"].items():
+            with self.subTest(name=name):
+                self.assertEqual(hashlib.sha256(content(name)).hexdigest(), digest)
+                self.assertEqual(content(f"{name}.gz"), content(name))
+
+    def test_files_that_somebody_changes(self):
+        """Each is named, and made again in the next round, though nothing of the count changed."""
+        words = "somebody else changed or removed it"
+        with rounds_of_four() as a_round:
+            for _ in range(2):
+                self.assertEqual(a_round(), [])
+            before = {file.name: says(file.name) for file in Path("pages").iterdir()}
+            for names in (("con-norte.html", "con-sur.html.gz", "elected.csv.gz", "embed.html"),
+                          ("con-norte.json", "list-A.html", "setup.json", "find.json",
+                           "stations-norte-2.csv", "stations-oeste-open.csv"),
+                          ("con-norte.csv", "con-norte.csv.gz", "feed.atom", "index.csv")):
+                with self.subTest(names=names):
+                    for name in names:
+                        data = content(name).replace(b"A", b"B", 1).replace(b"3", b"4", 1)
+                        self.assertNotEqual(data, content(name))
+                        Path("pages", name).write_bytes(
+                            gzip.compress(data) if name.endswith(".gz") else data)
+                    self.assertEqual(a_round(), sorted(f"{name}: {words}" for name in names))
+                    self.assertEqual({name: says(name) for name in names},
+                                     {name: before[name] for name in names})
+                    self.assert_vouched_for()
+            # One that is gone, one with a link in its place, and one of which only a right changed.
+            Path("pages/con-sur.html").unlink()
+            Path("pages/index.csv").unlink()
+            Path("pages/index.csv").symlink_to("results.csv")
+            Path("pages/con-este.json").chmod(0o640)
+            self.assertEqual(a_round(), [f"con-sur.html: {words}", f"index.csv: {words}"])
+            self.assertFalse(Path("pages/index.csv").is_symlink())
+            self.assertEqual({file.name for file in Path("pages").iterdir()}, before.keys())
+            self.assert_vouched_for()
+            self.assertEqual(a_round(), [])
+
+    def test_a_manifest_of_what_was_written(self):
+        """Of a file that is changed before the manifest is made it has the hash of what was
+        written: who compares notices."""
+        with rounds_of_four() as a_round:
+            a_round()
+            file, pages = Path("pages/con-norte.csv"), Path("pages").absolute()
+            wanted = hashlib.sha256(file.read_bytes()).hexdigest()
+            file.write_bytes(file.read_bytes().replace(b"100", b"900"))
+            said = rounds.manifest([file.absolute()], None, datetime.now(UTC), pages)
+            self.assertEqual(json.loads(said)["files"], {"con-norte.csv": wanted})
+
+    def test_stations_that_were_exchanged(self):
+        """While the pages were away: the sums of a certificate stay, and the file is not that of
+        the office. A withdrawn certificate's file is known from then on alone."""
+        setup = with_stations(2)
+        with modelled(setup) as (office, port):
+            done(office, "/con/c1/import", f"{COLUMNS}s1,p1,0,0,100,50\ns2,p2,0,0,20,60\n")
+            for code in ("s1", "s2"):
+                done(office, f"/station/{code}/close", {"rev": 1})
+            done(office, "/con/c1/certify", {"edition": 1})
+            Path("setup.toml").write_text(setup, encoding="utf-8")
+            press(port, "--setup", "setup.toml")
+            right = read("stations-c1-2.csv")
+            Path("pages/stations-c1-2.csv").write_text(
+                f"{COLUMNS}s1,p1,0,0,20,60\ns2,p2,0,0,100,50\n", encoding="utf-8")
+            press(port, "--setup", "setup.toml")
+            self.assertEqual(read("stations-c1-2.csv"), right)
+            self.assert_vouched_for()
+            done(office, "/con/c1/reopen", {"edition": 2, "note": "again"})
+            with rounds_of(lambda target: office.ask("GET", target), setup) as a_round:
+                a_round()
+                self.assertEqual(read("stations-c1-2.csv"), right)
+                Path("pages/stations-c1-2.csv").write_text(right.replace("100", "101"))
+                with contextlib.redirect_stderr(io.StringIO()):
+                    a_round()
+                self.assertFalse(Path("pages/stations-c1-2.csv").exists())
+
+    def test_a_feed_that_somebody_changed(self):
+        """Its entries say what the office bears out, with the moments that they had."""
+        with four() as (_, port):
+            press(port, "--setup", "setup.toml")
+            before, said = read("feed.atom"), entries()
+            self.assertIn("<summary>A 2, B 1</summary>", before)
+            for old, new in (("<summary>A 2, B 1</summary>", "<summary>A 1, B 2</summary>"),
+                             ("certified in edition 2", "certified in edition 9"),
+                             ("a recount", "a mistake"), ("con-norte.html", "con-sur.html")):
+                with self.subTest(old=old):
+                    self.assertIn(old, before)
+                    Path("pages/feed.atom").write_text(before.replace(old, new), encoding="utf-8")
+                    press(port, "--setup", "setup.toml")
+                    self.assertEqual(entries(), said)
+                    self.assertEqual(read("feed.atom").count("con-norte.html"),
+                                     before.count("con-norte.html"))

@@ -1,0 +1,203 @@
+"""A whole office that somebody put back to an earlier moment: `status` sees it on the computer of
+the office, and `entries` in a copy whose name says how many lines the record had."""
+
+import json
+import shutil
+from pathlib import Path
+
+from tests.deploy.test_two_of_the_board import answer, board
+from tests.support import tools
+from tests.support.desks import answering_desk
+from tests.support.office import LISTS, PROFILE, constituency, station, with_stations
+from tests.support.record import a_command, chained
+from tests.support.recorder import recorder_alone
+from tests.support.running import PATIENCE
+from tests.support.safeguards import TWO_TOWNS, Safeguards
+from tests.support.site import DEPLOY, SiteCase, backup, new, serving
+
+SLIP = {"slip": "p1", "votes": [120, 71], "blank": 2, "spoiled": 1}
+
+
+def said_by_status(*words):
+    """The acts of each office, as `status` has them: whether they are well, and in words."""
+    ran = tools.run([DEPLOY / "status", "--config", "status.toml", "--json", *words],
+                    capture_output=True, timeout=PATIENCE)
+    assert ran.stderr == b"", ran.stderr
+    parts = [part for part in json.loads(ran.stdout)["parts"] if part["part"] in ("acts", "record")]
+    assert parts[0]["well"], parts
+    return [(part["well"], part["says"]) for part in parts[1:]]
+
+
+def configured(*ports):
+    offices = [f'[[office]]\nname = "{number}"\ndesk = "127.0.0.1:{port}"\n'
+               f'recorder = "x/{number}.sock"\n' for number, port in enumerate(ports, 1)]
+    record = 'seen = "seen.json"\n[record]\nfile = "commands.log"\n'
+    Path("status.toml").write_text(record + "".join(offices), encoding="utf-8")
+
+
+def done(act, number, **reached):
+    """An act of the record and its answer, where the act is the line of this number."""
+    return [a_command("{}", act), {"to": number, "status": 200,
+                                   "answer": json.dumps({"ok": "moved"} | reached)}]
+
+
+def lodged(*stations, begin=1):
+    return [line for place, code in enumerate(stations)
+            for line in done(f"/station/{code}/lodge", begin + 2 * place, rev=1)]
+
+
+class Status(Safeguards):
+    """`status` beside servers in the place of the office."""
+
+    def looks(self, shown, lines, wanted, *words):
+        """Of an office that shows this, `status` says so after these lines of the record."""
+        Path("commands.log").write_bytes(chained(*lines))
+        with answering_desk({"/progress": "x", **shown}) as (port, asked):
+            configured(port)
+            found = said_by_status(*words)
+        self.assertEqual(found, wanted)
+        return asked
+
+    def test_an_office_that_has_what_it_did_or_not(self):
+        lines = [*done("/station/s1/lodge", 1, rev=1), *done("/station/s1/close", 3, rev=2),
+                 *done("/con/c1/certify", 5, edition=2)]
+        there = {"/station/s1": {"rev": 2}, "/con/c1": {"edition": 2}}
+        well = [(True, "of the last acts of the record it has all 2 that were compared")]
+
+        def back(line, target, reached):
+            return [(False, "it was put back to an earlier moment: it lacks what line "
+                            f"{line} of the record answered, by which {target} came to {reached}")]
+
+        for why, shown, wanted in (
+                ("as it was", {}, well),
+                ("more was done meanwhile",
+                 {"/station/s1": {"rev": 5}, "/con/c1": {"edition": 4}}, well),
+                ("a return", {"/station/s1": {"rev": 1}}, back(4, "/station/s1", 2)),
+                ("no return", {"/station/s1": (404, {"word": "no_return"})},
+                 back(4, "/station/s1", 2)),
+                ("an edition", {"/con/c1": {"edition": 1}}, back(6, "/con/c1", 2)),
+                ("both", {"/station/s1": 404, "/con/c1": {"edition": 1}},
+                 back(4, "/station/s1", 2)),
+                ("no answer", {"/station/s1": 503},
+                 [(True, "of the last acts of the record it has all 0 that were compared")]),
+                ("no JSON", {"/con/c1": "?"},
+                 [(True, "of the last acts of the record it has all 1 that were compared")])):
+            with self.subTest(why=why):
+                self.looks(there | shown, lines, wanted, "--forget")
+
+    def test_lines_that_are_no_acts(self):
+        command = a_command("{}", "/station/s1/close")
+        for why, lines in {
+            "refused": [command, answer(1, 409)], "unknown": [command, {"to": 1, "status": None}],
+            "no answer": [command], "it may not": [command | {"status": 403}],
+            "it waits": [a_command("{}", "/con/c1/certify") | {"status": 202}],
+            "an import": [a_command("x"), {"to": 1, "status": 200, "answer": '{"ok":"import"}'}],
+            "no JSON": [command, {"to": 1, "status": 200, "answer": "?"}],
+            "a list": [command, {"to": 1, "status": 200, "answer": "[]"}],
+            "nobody's answer": [{"to": 7, "status": 200, "answer": '{"rev":3}'}],
+        }.items():
+            with self.subTest(why=why):
+                self.assertEqual(self.looks({}, lines, [], "--forget"), ["/progress"])
+
+    def test_it_stays_so(self):
+        """An office that was put back is wrong until it has what it lacked, whatever it does."""
+        lines, stations = lodged("s1"), [f"t{n}" for n in range(60)]
+        there = {f"/station/{code}": {"rev": 1} for code in stations}
+        self.assertTrue(self.looks(there | {"/station/s1": {"rev": 1}}, lines, [
+            (True, "of the last acts of the record it has all 1 that were compared")]))
+        wrong = [(False, "it was put back to an earlier moment: it lacks what line 2 of the record "
+                         "answered, by which /station/s1 came to 1")]
+        # Many acts followed within the minute, and at the next look once more.
+        for many in (30, 60):
+            asked = self.looks(there, lines + lodged(*stations[:many], begin=3), wrong)
+            self.assertLess(len(asked), 45)
+        self.looks(there | {"/station/s1": {"rev": 1}}, lines + lodged(*stations, begin=3), [
+            (True, "of the last acts of the record it has all 21 that were compared")])
+        self.looks(there, lines + lodged(*stations, begin=3), [
+            (True, "of the last acts of the record it has all 20 that were compared")])
+
+    def test_several_offices(self):
+        """Each is compared with its own acts."""
+        lines = [*done("/station/s1/lodge", 1, rev=1), *done("/station/s2/lodge", 3, rev=1)]
+        lines[2]["office"] = 2
+        Path("commands.log").write_bytes(chained(*lines))
+        with answering_desk({"/station/s1": {"rev": 1}}) as (one, _):
+            with answering_desk({"/station/s2": {"rev": 1}}) as (two, _):
+                configured(one, two)
+                self.assertEqual([well for well, _ in said_by_status("--forget")], [True, True])
+                configured(two, one)
+                self.assertEqual([well for well, _ in said_by_status("--forget")], [False, False])
+
+
+class Put(SiteCase):
+    def test_yesterday_over_today(self):
+        """The whole office is put back, and goes on: `status` names it, and `entries` its copy."""
+        with serving(with_stations(3)) as desk, recorder_alone(desk.port):
+            configured(desk.port)
+
+            def sent(act, code="s1", **body):
+                found = board(f"/station/{code}/{act}", json.dumps(body), "clara")
+                self.assertEqual(found[0], 200)
+
+            def of_copy():
+                """The lines of `entries` about a copy that `backup` makes now, and its status."""
+                self.assertEqual(backup("office.db", "copies", "commands.log")[0], 0)
+                ran = tools.run([DEPLOY / "entries", "setup.toml", "--office",
+                                 max(Path("copies").glob("*.db"))],
+                                input=Path("commands.log").read_bytes(), capture_output=True,
+                                timeout=PATIENCE)
+                return ran.returncode, ran.stdout.decode().splitlines()[:-1]
+
+            sent("lodge", **SLIP)
+            self.assertEqual(backup("office.db", "before")[0], 0)
+            [yesterday] = Path("before").glob("*.db")
+            sent("close", rev=1)
+            self.assertEqual((said_by_status(), of_copy()), (
+                [(True, "of the last acts of the record it has all 1 that were compared")],
+                (0, [])))
+            desk.end()
+            for file in Path().glob("office.db*"):
+                file.unlink()
+            shutil.copy(yesterday, "office.db")
+            desk.start()
+            sent("lodge", "s2", **SLIP)
+            [(well, said)] = said_by_status()
+            self.assertEqual((well, said), (
+                False, "it was put back to an earlier moment: it lacks what line 4 of the record "
+                       "answered, by which /station/s1 came to 2"))
+            status, [line] = of_copy()
+            self.assertEqual(status, 1)
+            self.assertRegex(line, r"^the office has s1 at revision 1, as it was before line 4 .* "
+                                   r"it never had both$")
+            # Without a further act nothing but its name says that it is no older copy.
+            older = "the copy lacks what was done from line 4 of the record on ("
+            for lines, wanted, begins in (
+                    (0, 0, f"remark: {older}"), (3, 0, f"remark: {older}"), (4, 1, older),
+                    (6, 1, older), (7, 1, "the copy was made when the record had 7 lines, and")):
+                with self.subTest(lines=lines):
+                    copy = f"office-20261129T200000Z-{lines:08}.db"
+                    shutil.copy(yesterday, copy)
+                    ran = tools.run([DEPLOY / "entries", "setup.toml", "--office", copy],
+                                    input=Path("commands.log").read_bytes(), capture_output=True,
+                                    timeout=PATIENCE)
+                    first = ran.stdout.decode().splitlines()[0]
+                    self.assertEqual((ran.returncode, first[:len(begins)]), (wanted, begins), first)
+
+    def test_a_constituency_that_the_copy_lacks(self):
+        """It is named where the record has commands to it in the office of the copy."""
+        new(PROFILE + constituency("c2", "Once", 3, "d0") + LISTS + station("t1"), "copy.db")
+        Path("setup.toml").write_text(TWO_TOWNS, encoding="utf-8")
+        refused = [a_command('{"rev":1}', "/station/t1/close"), answer(1, 404)]
+        lodge, imported = a_command(json.dumps(SLIP), "/station/s1/lodge"), a_command("x")
+        said = ["c1: the office does not have it, and this record has commands to it there"]
+        for why, lines, wanted in (
+                ("nothing was done there", refused, []),
+                ("a return", [*refused, lodge, answer(3)], said),
+                ("a file", [*refused, imported, answer(3, 400)], said),
+                ("nothing else was done", [lodge, answer(1)], said),
+                ("in another office", [*refused, lodge | {"office": 2}, answer(3)], [])):
+            with self.subTest(why=why):
+                ran = tools.run([DEPLOY / "entries", "setup.toml", "--office", "copy.db"],
+                                input=chained(*lines), capture_output=True, timeout=PATIENCE)
+                self.assertEqual((ran.returncode, ran.stdout.decode().splitlines()[:-1]),
+                                 (bool(wanted), wanted), ran)
