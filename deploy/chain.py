@@ -13,6 +13,8 @@ import stat
 FIRST = "0" * 64
 # The most bytes of what the pages have shown: a row has some hundred, and ten seconds have one.
 MOST_SHOWN = 64 << 20
+# How long a first line may be that says of which setup a record is.
+LONGEST_FIRST = 4096
 
 
 def printable(said):
@@ -51,6 +53,19 @@ def setup_of(entry):
     """The hash of the setup with which a record begins, where this is its first line; or None."""
     found = entry.get("setup") if isinstance(entry, dict) and entry.get("n") == 1 else None
     return found if isinstance(found, str) else None
+
+
+def begins_with(record, file):
+    """Whether a record begins with the hash of this setup.json; not where one of them is missing."""
+    if not record.is_file() or not file.is_file():
+        return False
+    # (the recorder's user may have put a pipe there, which root would wait for)
+    with open(os.open(record, os.O_RDONLY | os.O_NONBLOCK), "rb") as lines:
+        first = lines.readline(LONGEST_FIRST)
+    try:
+        return setup_of(json.loads(first)) == hash_of_file(file)
+    except (ValueError, RecursionError):
+        return False
 
 
 class Chain:

@@ -24,6 +24,7 @@ the last one failed in part. Python 3.11 or later.
 """
 
 import argparse
+import contextlib
 import csv
 import hashlib
 import json
@@ -41,18 +42,18 @@ from functools import partial
 from pathlib import Path
 
 from press_data import (ACTS, OF_HASH, OPEN, STATION, adds_up, con_csv, con_json, datapackage, feed, goes_on,
-                        index_csv, index_json, json_text, manifest, read_setup, record_csv, results_csv,
+                        index_csv, index_json, json_text, manifest, record_csv, results_csv,
                         returns_csv, returns_in, schemas, shown_heads)
 from press_country import together
 from press_embed import con_embedded, country_embedded, withdrawn_embedded
-from press_files import changed, is_known, put, put_bytes, remove, repair, text_of_another
+from press_files import allow_provisional, changed, is_known, put, put_bytes, remove, repair, text_of_another
 from press_image import shared_image
 from press_lists import elected_csv, elected_pages, list_pages
 from press_pages import aged, con_bodies, con_page, count_pages, details_page, index_pages, unaged, withdrawn_page
 from press_parts import AGE
 from press_places import find_json, places_csv
 from press_results import NoAnswer, read_results, read_stations, without_provisional
-from press_site import LANGUAGES, Site, Wrong, fault_of
+from press_site import LANGUAGES, Site, Wrong, fault_of, read_setup
 from press_stations import places_pages, stations_pages
 from press_templates import TemplateError
 
@@ -141,7 +142,10 @@ def put_dated(folder, name, write, moment):
 
 
 def text_of(file):
-    return file.read_text(encoding="utf-8") if file.exists() else ""
+    """The text of a file, whatever somebody else made of it; an empty one where it cannot be read."""
+    with contextlib.suppress(FileNotFoundError, PermissionError):
+        return file.read_text(encoding="utf-8", errors="replace")
+    return ""
 
 
 def published(folder, *left):
@@ -202,7 +206,7 @@ def remove_languages(folder, site):
 
 def is_ours(page):
     """Whether this program made a page: the folder may have others of the board's, in any encoding."""
-    return AGE[0].encode() in page.read_bytes()
+    return AGE[0] in text_of(page)
 
 
 def mark_old(site, file):
@@ -289,8 +293,8 @@ def write_returns(office, folder, code, con, entry, seen, may_ask):
         elif edition not in files:
             remove(folder, name)
     for name in files.values():
-        if not is_known(folder / name):
-            put(folder, name, text_of(folder / name))
+        if not is_known(folder / name) and (text := text_of(folder / name)):
+            put(folder, name, text)
     return files
 
 
@@ -618,6 +622,7 @@ def look_for_changes(folder, site, setup, seen):
 
 def write_given(folder, site, setup):
     """Writes the files of what is given at the start."""
+    allow_provisional(folder, site.provisional)
     if setup:
         put(folder, "setup.json", json_text(list(setup.values())))
     if known := site.for_clerks():
@@ -651,10 +656,12 @@ def main():
     command.add_argument("--site", type=Path, metavar="FOLDER", help="what the pages are called, and in which language; colours, names, a map")
     given = command.parse_args()
     given.folder.mkdir(parents=True, exist_ok=True)
-    setup = read_setup(given.setup) if given.setup else []
     try:
+        setup = read_setup(given.setup) if given.setup else []
         site = Site(given.site)
     except (Wrong, OSError) as error:
+        # Nobody knows whether seats may be shown before they are certified.
+        allow_provisional(given.folder, False)
         sys.exit(f"failed: {error}")
     site.meet(row["code"] for entry in setup for row in entry["lists"])
     entries = {entry["code"]: entry for entry in setup}

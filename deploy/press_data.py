@@ -1,7 +1,7 @@
 """The files for programs: CSV and JSON of what `press.py` read, with what describes them."""
 
+import contextlib
 import csv
-import hashlib
 import io
 import json
 import re
@@ -16,7 +16,7 @@ from press_results import counted_share, provisional_seats
 
 # Of the form of the files. The first number is raised when something goes or means something else,
 # the second when something is added.
-VERSION = "2.2.0"
+VERSION = "2.3.0"
 
 # In the name of a file of returns, in the place of the edition of a certificate.
 OPEN = "open"
@@ -105,9 +105,10 @@ def or_null(kind):
 OF_LIST = {"list": LIST["list"]}
 VOTES = described(COUNT, "Votes in the unit of the rule.")
 HEAD = {"version": {"const": VERSION}, "time": described(MOMENT, "Since when the file says this.")}
+ENTRY = described({"const": "double"}, "There where a return is closed by its second entry alone.")
 VIEW = an_object({
     "blank": BLANK, "certified": CERTIFIED, "closed": PROGRESS["closed"], "con": PROGRESS["con"], "edition": EDITION_NOW,
-    "entry": described({"const": "double"}, "There where a return is closed by its second entry alone."),
+    "entry": ENTRY,
     "gone": described(an_array(an_object(OF_LIST | {"note": TEXT, "place": FROM_ONE})), "Candidates who are gone."),
     "lot": described(an_array(CODE), "Lists in the order of the lot that was drawn, or none."),
     "note": described(TEXT, "Note of the last reopening, or empty."),
@@ -157,10 +158,10 @@ SCHEMAS = {
                 "provisional": PROVISIONAL, "lot_needed": LOT_NEEDED, **REPORTS}, "provisional", "lot_needed", *IF_CERTIFIED)),
     "setup": ("The setup of the election: setup.json", an_array(an_object({
         "code": PROGRESS["con"], "name": RESULTS["con_name"], **{key: kind for key, kind in RULE.items() if key != "lot_rule"},
-        "lot": RULE["lot_rule"],
+        "lot": RULE["lot_rule"], "entry": ENTRY,
         "lists": an_array(an_object({"code": CODE, "name": TEXT, "candidates": an_array(TEXT)})),
         "stations": an_array(an_object({"code": CODE, "electors": COUNT, "agents": described(
-            COUNT, "Those who may vote there beyond its electors; missing where there are none.")}, "agents"))}))),
+            COUNT, "Those who may vote there beyond its electors; missing where there are none.")}, "agents"))}, "entry"))),
     "find": ("The names that the search of the first page finds: find.json", an_object(
         {"version": HEAD["version"], "constituencies": an_array(an_object({
             "con": PROGRESS["con"], "name": RESULTS["con_name"],
@@ -231,9 +232,10 @@ def resource_of(file, cons):
 
 
 def lists_in(file, code, cons, first):
-    """The columns of lists of a file, from this one on."""
-    with file.open(encoding="utf-8", newline="") as lines:
-        codes = next(csv.reader(lines))[first:]
+    """The columns of lists of a file, from this one on; none of one that somebody else emptied, or that cannot be read."""
+    codes = []
+    with contextlib.suppress(PermissionError), file.open(encoding="utf-8", errors="replace", newline="") as lines:
+        codes = next(csv.reader(lines), [])[first:]
     names = {row["code"]: row["name"] for row in cons[code]["tally"]["lists"]} if code in cons else {}
     return {of: described(COUNT, f"Votes of {names.get(of, of)}.") for of in codes}
 
@@ -265,7 +267,7 @@ def read_setup(file):
 
 
 def parts_of_setup(setup):
-    """Per constituency its names, its rule and its stations."""
+    """Per constituency its names, its rule, whether returns are entered twice, and its stations."""
     profiles = {profile["code"]: profile for profile in setup["profile"]}
     found = []
     for con in setup["constituency"]:
@@ -274,7 +276,8 @@ def parts_of_setup(setup):
         lists = [{key: row[key] for key in ("code", "name", "candidates")} for row in con["list"]]
         stations = [{"code": row["code"], "electors": row["electors"]} | ({"agents": row["agents"]} if row.get("agents") else {})
                     for row in con["station"]]
-        found.append({"code": con["code"], "name": con["name"], "seats": con["seats"], **rule, "lists": lists,
+        entry = {"entry": "double"} if con.get("entry") == "double" else {}
+        found.append({"code": con["code"], "name": con["name"], "seats": con["seats"], **rule, **entry, "lists": lists,
                       "stations": stations})
     return found
 
@@ -397,7 +400,7 @@ def manifest(files, head, moment, folder):
     """The hash of each file by its name within the folder, with the head of the record of commands. Of a file that somebody else
     changed it is that of what was written."""
     record = {"record": {"time": head["time"], "lines": head["n"], "sha256": head["hash"]}} if head else {}
-    return dated(moment, **record, files={str(file.relative_to(folder)): hash_as_left(file) for file in files})
+    return dated(moment, **record, files={str(file.relative_to(folder)): found for file in files if (found := hash_as_left(file))})
 
 
 # ---- the feed (Atom, RFC 4287)

@@ -11,6 +11,9 @@ import zlib
 # As each compressed file of ours begins: it has no moment. What a board compressed itself has one.
 BEGINS = gzip.compress(b"", 6, mtime=0)[:8]
 
+# The file by which the proxy knows that seats may be shown before they are certified.
+PROVISIONAL = ".provisional"
+
 # Each file as this program left it, by its whole path: its SHA-256, and what the disk said of it
 # then.
 LEFT = {}
@@ -25,8 +28,7 @@ def put(folder, name, text):
     as it is."""
     data = text.encode()
     file, compressed = folder / name, folder / f"{name}.gz"
-    both_are = is_known(compressed) and file.exists() and compressed.exists()
-    if both_are and file.read_bytes() == data:
+    if is_known(compressed) and compressed.exists() and is_as(file, data):
         leave(file, data)
         return
     put_bytes(compressed, compressed_of(data))
@@ -35,17 +37,33 @@ def put(folder, name, text):
 
 def put_bytes(file, data):
     """Writes a file beside and renames it. What would be the same stays as it is."""
-    if not file.exists() or file.read_bytes() != data:
+    if not is_as(file, data):
         beside = file.with_name(f".{file.name}.new")
         beside.write_bytes(data)
         os.replace(beside, file)
     leave(file, data)
 
 
+def is_as(file, data):
+    """Whether a file has this content. One that cannot be read, as root's may be, has another."""
+    try:
+        return file.read_bytes() == data
+    except OSError:
+        return False
+
+
 def remove(folder, name):
     for file in (folder / name, folder / f"{name}.gz"):
         file.unlink(missing_ok=True)
         LEFT.pop(file.absolute(), None)
+
+
+def allow_provisional(folder, is_allowed):
+    """Says to the proxy whether seats may be shown before they are certified."""
+    if is_allowed:
+        put_bytes(folder / PROVISIONAL, b"")
+    else:
+        remove(folder, PROVISIONAL)
 
 
 def is_known(file):
@@ -87,11 +105,15 @@ def changed(folder):
 
 
 def hash_of(file):
-    return hashlib.sha256(file.read_bytes()).hexdigest()
+    """The SHA-256 of a file, or None of one that cannot be read."""
+    try:
+        return hashlib.sha256(file.read_bytes()).hexdigest()
+    except OSError:
+        return None
 
 
 def hash_as_left(file):
-    """The SHA-256 of a file as this program left it; of another's as it is."""
+    """The SHA-256 of a file as this program left it; of another's as it is, or None."""
     return LEFT[file.absolute()][0] if is_known(file) else hash_of(file)
 
 

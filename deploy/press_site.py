@@ -14,6 +14,7 @@ from functools import cache
 from pathlib import Path
 from zoneinfo import ZoneInfo, ZoneInfoNotFoundError
 
+import press_data
 from press_templates import Markup, TemplateError, Templates
 
 # The tracks of press.css, light and dark: what is on them has more contrast with any other ground.
@@ -53,7 +54,19 @@ PLACES = {"viewBox", "d", "points", "x", "y", "width", "height", "cx", "cy", "r"
 
 
 class Wrong(Exception):
-    """A file of the folder is not what it has to be."""
+    """A file of the folder, or the setup, is not what it has to be."""
+
+
+def read_setup(file):
+    """The setup of the office, as the pages need it."""
+    try:
+        return press_data.read_setup(file)
+    except OSError as error:
+        raise Wrong(f"{file}: {error.strerror}") from error
+    except ValueError as error:
+        raise Wrong(f"{file}: {error}") from error
+    except (KeyError, TypeError, AttributeError, RecursionError) as error:
+        raise Wrong(f"{file}: no setup of an office: {error!r}") from error
 
 
 def fault_of(error):

@@ -41,8 +41,7 @@ from reading the record once, as it starts; with --setup, of the stations of the
 With --setup it also answers who typed how many returns of a constituency in the last hour (GET /typed/CODE): to the board of
 each name, to another name its own alone.
 
-It goes on until it is ended. The status is 1 where it cannot begin: another recorder has the record, or a file cannot be
-read. Python 3.11 or later.
+It goes on until it is ended. The status is 1 where it cannot begin, as where another has the record. Python 3.11 or later.
 """
 
 import argparse
@@ -69,7 +68,7 @@ from pathlib import Path
 from typing import NamedTuple
 
 import second_name
-from record_index import HOUR, Index, Typed, entry_of
+from record_index import HOUR, UNKNOWN, Index, Typed, entry_of
 
 # This many requests of a desk are under way at once; others wait.
 THREADS = 64
@@ -96,11 +95,12 @@ MOST_SHOWN = 64 << 20
 
 
 class Answer(NamedTuple):
-    """An answer to a request. Its status is None where nobody knows whether a command was done."""
+    """An answer to a request, or to one sent again. Its status is None where nobody knows whether a command was done."""
 
     status: int | None
     body: bytes = b""
     kind: str = "application/json"
+    again: bool = False
 
 
 FORBIDDEN = Answer(403)
@@ -203,7 +203,7 @@ class Record:
             self.take_of_board({"to": number, "status": None})
 
     def settled(self, office):
-        """An office has answered, and so has done what it was sent before."""
+        """An office has shown what it has, and so has done what it was sent before."""
         with self.lock:
             self.waiting.unsettled.discard(office)
 
@@ -314,8 +314,7 @@ def hash_of(line):
 def text_or_bytes(name, data):
     """A text as it is; what is no text, or what a terminal may obey, in base64.
 
-    A character that is not printable may turn round what a terminal shows, or be written by JSON
-    as six."""
+    A character that is not printable may turn round what a terminal shows, or be written by JSON as six."""
     try:
         text = data.decode()
     except UnicodeDecodeError:
@@ -465,6 +464,8 @@ class Desk:
                 connection.endheaders(body or None)
                 found = connection.getresponse()
                 return Answer(found.status, found.read(), found.headers.get("Content-Type", ""))
+            except TimeoutError:
+                raise
             except (OSError, http.client.IncompleteRead):
                 return Answer(None)
 
@@ -481,7 +482,7 @@ class Desk:
                 # Refused now, perhaps since it was done the first time.
                 break
             if found.status:
-                return found
+                return found._replace(again=again > 0)
             # It may be about to end, and listen still.
             time.sleep(0.1 * 2 ** again)
         return Answer(None)
@@ -589,14 +590,15 @@ class Recorder:
         before this request, and its answer is recorded, or it comes after it."""
         with self.desk.lock:
             if self.office in self.record.waiting.unsettled:
-                # A command whose answer is not known may be done yet. Once the desk has answered,
-                # it was, or never will be.
+                # A command whose answer is not known may be done yet. Once the desk shows what it
+                # has, it was, or never will be. One that a failed disk has shut shows nothing: its
+                # next opening finds the command done, or not.
                 try:
                     found = self.desk.ask("GET", "/progress")
                 except http.client.HTTPException:
                     found = Answer(None)
-                if found.status in (None, NO_DESK.status, TOO_LATE.status):
-                    return self.answer(self.record.add(entry), found)
+                if found.status != 200:
+                    return self.answer(self.record.add(entry), found if found.status in UNKNOWN else NO_DESK)
                 self.record.settled(self.office)
             number, waiting = self.record.add_of_board(entry)
             self.record.sync()
@@ -614,7 +616,8 @@ class Recorder:
     def answer(self, number, found):
         """The answer to a command, once it is recorded."""
         try:
-            self.record.add({"to": number, "status": found.status} | text_or_bytes("answer", found.body))
+            again = {"again": True} if found.again else {}
+            self.record.add({"to": number, "status": found.status} | again | text_or_bytes("answer", found.body))
         except OSError as error:
             print(f"the answer to {number} is not recorded: {error}", file=sys.stderr, flush=True)
             self.record.lost(number)

@@ -38,6 +38,9 @@ def is_refused(entry):
     """Whether an answer says that nothing was changed: it was refused, or recorded before, or a file had nothing new."""
     if entry["status"] != 200:
         return isinstance(entry["status"], int) and 400 <= entry["status"] < 500
+    if "again" in entry:
+        # What was recorded before was recorded perhaps as it was sent the first time.
+        return False
     try:
         said = json.loads(entry["answer"])
         return said["ok"] == "same" or (said["ok"] == "import" and said["lodged"] == 0)
@@ -85,12 +88,12 @@ class Waiting:
         return code if kind == "con" else self.stations.get(code, ANY)
 
     def answered(self, entry):
-        """An answer, in the order in which the office did the commands. After one that is known, whatever was sent before
-        is done, or never will be."""
-        is_unknown, (office, con) = entry["status"] in UNKNOWN, self.under_way.pop(entry["to"], (ANY, ANY))
-        if is_unknown:
+        """An answer, in the order in which the office did the commands. After a command that was accepted, whatever was sent
+        before is done, or never will be. An office that a failed disk has shut refuses too, as what it cannot read."""
+        office, con = self.under_way.pop(entry["to"], (ANY, ANY))
+        if entry["status"] in UNKNOWN:
             self.unsettled.add(office)
-        else:
+        elif entry["status"] == 200:
             self.unsettled.discard(office)
         if not is_refused(entry):
             self.end(office, con)

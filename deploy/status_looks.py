@@ -251,7 +251,7 @@ class Acts:
     last look are among them, since many may have followed since."""
 
     def __init__(self, before):
-        self.before, self.new, self.commands = before, {}, {}
+        self.before, self.new, self.commands, self.left = before, {}, {}, {}
 
     def take(self, number, entry):
         """A line of the record. An answer whose command came before the last look is left out."""
@@ -274,10 +274,17 @@ class Acts:
     def of(self, office):
         return self.before.get(office, {}) | self.new.get(office, {})
 
+    def leave(self, office, compared):
+        """The office says no more now: those of the last look that were not compared are left."""
+        self.left[office] = {target: act for target, act in [*self.of(office).items()][compared:]
+                             if target in self.before.get(office, {})}
+
     def kept(self, lacking):
-        """Those to compare at the next look: the last ones, and each that an office lacks."""
+        """Those to compare at the next look: the last ones, each that an office lacks, and what
+        was left, which it may have lacked before."""
         return {office: dict(sorted(self.of(office).items(), key=line_of)[-LAST:])
-                | lacking.get(office, {}) for office in self.before | self.new}
+                | lacking.get(office, {}) | self.left.get(office, {})
+                for office in self.before | self.new}
 
 
 def line_of(act):
@@ -306,6 +313,7 @@ def look_at_acts(address, number, acts, lacking, of):
     compared = 0
     for target, (reached, line) in acts.of(number).items():
         if (found := shown_by(address, target)) is None:
+            acts.leave(number, compared)
             break
         compared += 1
         if found < reached:

@@ -783,6 +783,16 @@ function bringDraft() {
   }
 }
 
+// Forgets what was typed more than a day ago, and all that this name typed.
+function dropDrafts(name) {
+  kept((storage) => {
+    for (const key of Object.keys(storage).filter((one) => one.startsWith("office "))) {
+      const age = Date.now() - read(storage.getItem(key)).time;
+      if (key.split(" ")[2] === name || !(age <= DAY)) storage.removeItem(key);
+    }
+  });
+}
+
 function dropDraft(station) {
   for (const form of DRAFTS) kept((storage) => storage.removeItem(draftKey(form, station)));
 }
@@ -820,7 +830,19 @@ onSubmit("query", async (form) => {
 });
 onSubmit("correct", (form) => checked(form) && toStation("correct", { rev: shown.found.rev, ...figures(form) }, isDone,
   T.receipt_correct, () => [[T.slip, form.elements.slip.value]]));
-onSubmit("certify", () => confirm(T.certify_question({ con: constituency().name })) &&
+// Whether the office has the figures that this page shows. Corrections of returns are no other
+// edition, so that the office would take a certificate from who never saw them.
+async function isAsShown() {
+  const before = JSON.stringify(shown.view);
+  setBusy(true);
+  const trouble = await look();
+  setBusy(false);
+  if (shown.view && JSON.stringify(shown.view) === before) return true;
+  say(shown.view ? `${T.figures_changed}${trouble}` : trouble.trim(), "look");
+  return false;
+}
+
+onSubmit("certify", async () => confirm(T.certify_question({ con: constituency().name })) && await isAsShown() &&
   toCon("certify", { edition: shown.view.edition }, isDone, T.receipt_certify, () => shown.view ? listRows(shown.view) : []));
 onSubmit("draw", () => {
   const order = [...element("order").querySelectorAll("select")].map((choice) => choice.value);
@@ -1118,6 +1140,7 @@ async function learnSite() {
 }
 
 async function begin() {
+  dropDrafts(null);
   const [own, file] = await Promise.all([ask("HEAD", "/clerk.html"), ask("GET", "/setup.json"), learnSite()]);
   person = { name: own.headers.get("X-Office-Name") || "", role: own.headers.get("X-Office-Role") || "" };
   const bound = own.headers.get("X-Office-Bound-To");
@@ -1195,6 +1218,7 @@ element("print").addEventListener("click", () => print());
 element("who").addEventListener("click", showHistory);
 element("logout").addEventListener("click", () => {
   if (!leave()) return;
+  dropDrafts(person.name);
   // The browser takes this name in the place of the other one, and it is nobody's.
   const asked = new XMLHttpRequest();
   asked.open("GET", "/logout", true, "logout", "logout");

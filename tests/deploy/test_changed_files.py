@@ -8,6 +8,7 @@ import json
 import re
 from datetime import UTC, datetime
 from pathlib import Path
+from unittest import mock
 
 from tests.deploy.test_station_files import COLUMNS, rounds, rounds_of
 from tests.support.countries import four
@@ -15,7 +16,10 @@ from tests.support.desks import done, modelled
 from tests.support.office import with_stations
 from tests.support.pages import press, read
 from tests.support.published import entries
+from tests.support.scripts import module
 from tests.support.site import SiteCase
+
+press_files = module("press_files")
 
 
 def content(name):
@@ -44,6 +48,7 @@ def rounds_of_four():
                     a_round()
                 return sorted(line.rpartition("/")[2] for line in said.getvalue().splitlines())
 
+            said_in_a_round.seen = a_round.seen
             yield said_in_a_round
 
 
@@ -99,6 +104,54 @@ class ChangedFiles(SiteCase):
             file.write_bytes(file.read_bytes().replace(b"100", b"900"))
             said = rounds.manifest([file.absolute()], None, datetime.now(UTC), pages)
             self.assertEqual(json.loads(said)["files"], {"con-norte.csv": wanted})
+
+    def test_files_that_are_no_text(self):
+        """While the pages were away: each is made again, but for a withdrawn certificate's file,
+        which nobody can make, and the pages go on."""
+        with four() as (office, port):
+            press(port, "--setup", "setup.toml")
+            before = {file.name: says(file.name) for file in Path("pages").iterdir()}
+            for data in (b"\xff\xfe\xff", b""):
+                for name in ("con-norte.html", "con-norte.json", "feed.atom", "index.csv",
+                             "stations-norte-2.csv"):
+                    with self.subTest(name=name, data=data):
+                        Path("pages", name).write_bytes(data)
+                        press(port, "--setup", "setup.toml")
+                        self.assertEqual(says(name), before[name])
+            Path("pages/stations-norte-2.csv").write_bytes(b"")
+            done(office, "/con/norte/reopen", {"edition": 2, "note": "again"})
+            press(port, "--setup", "setup.toml")
+            self.assertEqual(content("stations-norte-2.csv"), b"")
+
+    def test_files_that_cannot_be_read(self):
+        """As those that root puts there with rights for itself alone. They are made again while the
+        pages go on, and as they start; another's file is none of the manifest."""
+        def opened(file, *words, **more):
+            if file.exists() and not file.stat().st_mode & 0o444:
+                raise PermissionError(13, "Permission denied", str(file))
+            return io.open(file, *words, **more)
+
+        names = ("con-norte.html", "con-norte.json.gz", "feed.atom", "index.csv",
+                 "stations-norte-2.csv")
+        with rounds_of_four() as a_round, mock.patch.object(Path, "open", opened):
+            a_round()
+            before = {name: says(name) for name in names}
+            for name in ("office.db", "con-old.html", "stations-old-2.csv"):
+                Path("pages", name).write_bytes(b"x")
+                Path("pages", name).chmod(0)
+            for starts in (False, True):
+                for name in names:
+                    Path("pages", name).unlink()
+                    Path("pages", name).write_bytes(b"x")
+                    Path("pages", name).chmod(0)
+                if starts:
+                    press_files.LEFT.clear()
+                    a_round.seen.forget()
+                self.assertEqual(len(a_round()), 0 if starts else len(names))
+                for name in names:
+                    with self.subTest(name=name, starts=starts):
+                        self.assertEqual(says(name), before[name])
+                self.assertNotIn("office.db", json.loads(read("manifest.json"))["files"])
 
     def test_stations_that_were_exchanged(self):
         """While the pages were away: the sums of a certificate stay, and the file is not that of

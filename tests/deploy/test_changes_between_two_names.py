@@ -56,6 +56,8 @@ class Desk:
         if target in self.held:
             self.held[target].wait(PATIENCE)
         answer = self.answers.get(target, (200, DONE))
+        if isinstance(answer, list):
+            answer = answer.pop(0)
         if answer is None or isinstance(answer, bytes):
             return answer or b""
         status, text = answer
@@ -157,6 +159,23 @@ class Changes(Safeguards):
                     self.assertEqual(board(CERTIFY)[0], 200)
                     self.assertEqual(desk.asked.count("/progress"), unknown)
 
+    def test_a_command_that_was_sent_again(self):
+        """The office ends after it did a change, before it answers: the answer to the same command,
+        sent again, is that it was recorded before."""
+        for path, said_again in (("/station/s1/lodge", '{"ok":"same","rev":1}'),
+                                 ("/con/c1/import", IMPORTED % 0)):
+            with self.subTest(path=path):
+                with two_names() as desk:
+                    desk.answers[path] = [None, (200, said_again)]
+                    self.assertEqual(first_and_then(path), (202, ["berta"]))
+                    self.assertEqual(desk.asked, [path, path])
+                # And a recorder that starts knows it.
+                with two_names():
+                    self.assertEqual(asked_by("berta"), [200])
+                self.assertEqual([line.get("again") for line in record() if "to" in line],
+                                 [True, None])
+                Path("commands.log").unlink()
+
     def test_an_office_that_says_nothing_more(self):
         """No name is the first one while the office may still do a command of before."""
         with two_names() as desk:
@@ -170,6 +189,26 @@ class Changes(Safeguards):
             self.assertEqual(asked_by("berta", "simon"), [202, 200])
             self.assertEqual([line["status"] for line in record() if "to" in line],
                              [None] * 3 + [200])
+
+    def test_an_office_that_a_failed_disk_has_shut(self):
+        """Its next opening finds the change done, or not: until then no name is the first one."""
+        unavailable = 503, '{"refused":23,"word":"store"}'
+        with two_names() as desk:
+            desk.answers.update({"/station/s1/correct": unavailable, "/progress": unavailable,
+                                 "/station/s2/close": (400, '{"word":"bad_body"}')})
+            self.assertEqual(board("/station/s1/correct")[0], 503)
+            self.assertEqual(asked_by("berta"), [503])
+            # What it cannot read it refuses as ever.
+            self.assertEqual(board("/station/s2/close")[0], 400)
+            self.assertEqual(asked_by("simon", "berta"), [503, 503])
+        with two_names() as desk:
+            desk.answers["/progress"] = unavailable
+            self.assertEqual(asked_by("simon", "berta"), [503, 503])
+            desk.answers["/progress"] = 404, "{}"
+            self.assertEqual(asked_by("simon"), [502])
+            self.assertNotIn(CERTIFY, desk.asked)
+            desk.answers.clear()
+            self.assertEqual(asked_by("berta", "simon"), [202, 200])
 
     def test_a_station_of_which_nobody_knows_where_it_is(self):
         """Without a setup each change of a station ends all that waits in the office; an import
@@ -491,6 +530,24 @@ class RealOffice(SiteCase):
                           capture_output=True, timeout=PATIENCE)
         self.assertEqual((found.returncode, found.stdout.decode()),
                          (0, "closed 1, of these by a second entry 0, to look at 0\n"))
+
+    @needs("chromium", "nginx", "openssl")
+    def test_a_page_that_shows_figures_of_before(self):
+        """A name of the board certifies what it saw: a page that was left open sends nothing."""
+        with serving(with_stations(1)) as desk, site_of_board(desk.port) as front:
+            def sent(act, body):
+                found = front.ask("POST", f"/station/s1/{act}", json.dumps(body), "clara")
+                self.assertEqual(found.status, 200)
+
+            sent("lodge", SLIP)
+            sent("close", {"rev": 1})
+            with clerks_browser(front, "berta") as it:
+                sent("query", {"rev": 2, "note": "sum"})
+                sent("correct", {"rev": 3} | SLIP | {"votes": [71, 120]})
+                sent("close", {"rev": 4})
+                confirmed(it, "#certify button", "Certify Twin Town?", "Nothing was sent")
+                self.assertEqual(len(front.record(5)), 5)
+                confirmed(it, "#certify button", "Certify Twin Town?", "it waits until")
 
     @needs("chromium", "nginx", "openssl")
     def test_the_page_of_the_second_name(self):

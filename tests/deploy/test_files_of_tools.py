@@ -121,6 +121,7 @@ class ValuesOfAnotherKind(Case):
         for name, words, status in (
                 ("split", ("deep.toml", "2", "parts"), 1), ("status", ("--config", "deep.toml"), 2),
                 ("papers", ("acts", COPY, "out", "--site", "site"), 2),
+                ("press.py", ("http://127.0.0.1:1", "pages", "--setup", "deep.toml"), 1),
                 ("setup-json", ("deep.toml", "."), 1)):
             with self.subTest(name=name):
                 found = tool(name, *words)
@@ -164,6 +165,21 @@ class MissingFiles(Case):
                 self.assertEqual((found, out), (status, ""), errors)
                 self.assertIn(said, errors)
                 self.assertNotIn("Traceback", errors)
+
+    def test_a_setup_of_the_pages_that_is_none(self):
+        """press.py says so in a line, and no longer that provisional seats may be shown."""
+        Path("pages").mkdir()
+        texts = {"no.toml": b"seats 3", "bytes.toml": b"\xff", "empty.toml": b"",
+                 "number.toml": b"profile = 3\nconstituency = 3", "none.toml": None}
+        for name, text in texts.items():
+            with self.subTest(name=name):
+                Path("pages/.provisional").touch()
+                if text is not None:
+                    Path(name).write_bytes(text)
+                status, _, said = tool("press.py", "http://127.0.0.1:1", "pages", "--setup", name)
+                self.assertEqual((status, said.count("\n"), said.startswith(f"failed: {name}: ")),
+                                 (1, 1, True), said)
+                self.assertEqual(os.listdir("pages"), [])
 
     def test_a_folder_below_one_that_is_missing(self):
         """A tool that writes into a folder makes it, with those above; the pages may be there."""

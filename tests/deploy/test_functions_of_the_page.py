@@ -250,6 +250,27 @@ class Functions(Case):
                     self.assertEqual((found["waits"], found["compares"]), (waits, compares))
 
     @needs("chromium")
+    def test_drafts_that_are_forgotten(self):
+        """At each start those of more than a day ago, of whatever name, and at log out all of the
+        name; nothing else that the browser keeps."""
+        left = "return Object.keys(localStorage).sort()"
+        with browser.tab() as it:
+            page = (DEPLOY / "www/clerk.html").as_uri()
+            it.open(page)
+            it.run("""localStorage.clear();
+              for (const [key, hours] of Object.entries({
+                "office x clara s1 lodge": 23, "office x clara s2 lodge": 25,
+                "office  berta s1 correct": 1, "office x berta s2 lodge": 25, "another": 25 }))
+                localStorage.setItem(key, JSON.stringify({
+                  time: Date.now() - hours * 3_600_000, typed: ["r1"] }));
+              localStorage.setItem("office x clara s3 lodge", "{");""")
+            it.open(page)
+            self.assertEqual(it.run(left), ["another", "office  berta s1 correct",
+                                            "office x clara s1 lodge"])
+            it.run(KNOWN + "element('logout').click();")
+            self.assertEqual(it.run(left), ["another", "office x clara s1 lodge"])
+
+    @needs("chromium")
     def test_keys_links_and_drafts(self):
         with browser.tab() as it:
             it.open((DEPLOY / "www/clerk.html").as_uri())

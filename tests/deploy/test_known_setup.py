@@ -8,7 +8,16 @@ from pathlib import Path
 from tests.support import tools
 from tests.support.case import needs
 from tests.support.desks import answering_desk, recording_desk
-from tests.support.office import PROFILE, constituency, party_list, station, with_stations
+from tests.support.office import (
+    DOUBLE,
+    LISTS,
+    PROFILE,
+    constituency,
+    party_list,
+    station,
+    with_stations,
+)
+from tests.support.published import checked
 from tests.support.record import LODGED, a_command, chained
 from tests.support.safeguards import SLIP, Safeguards, hash_of_file, run, site
 from tests.support.scripts import loaded
@@ -74,6 +83,97 @@ class Proxy(Safeguards):
         self.assertIn('{ "Office-Setup": setupHash }', text)
         self.assertIn("setupHash = crypto.subtle ? await hashOf(file.text)", text)
         self.assertRegex(text, '(?m)^ *409: "Nothing was done: the setup is another one')
+
+
+class TwoEntries(Safeguards):
+    """Whether a return is closed by its second entry alone is a part of the setup."""
+
+    def test_what_setup_json_says_of_it(self):
+        """That of a setup with one entry is as it was before: with `single` said, and without."""
+        texts = {}
+        for name, entry in (("double", DOUBLE), ("single", 'entry = "single"\n'), ("none", "")):
+            setup_json(PROFILE + constituency("c1", "Twin Town", 3, "d0") + entry + LISTS
+                       + station("s1"), name)
+            texts[name] = Path(name, "setup.json").read_text(encoding="utf-8")
+        single = {"code": "c1", "name": "Twin Town", "seats": 3, "method": "dhondt", "threshold": 0,
+                  "base": "valid", "lot": "fixed",
+                  "lists": [{"code": "A", "name": "Alpha", "candidates": ["Ana", "Abel"]},
+                            {"code": "B", "name": "Beta", "candidates": ["Bea"]}],
+                  "stations": [{"code": "s1", "electors": 300}]}
+        self.assertEqual([texts[name] for name in ("single", "none")],
+                         [json.dumps([single], indent=1) + "\n"] * 2)
+        self.assertEqual(json.loads(texts["double"]), [single | {"entry": "double"}])
+        # As its schema says that is published.
+        schema = loaded("press_data.py").SCHEMAS["setup"][1]
+        for entry, wanted in (({}, []), ({"entry": "double"}, []),
+                              ({"entry": "single"}, ["it[0].entry: not 'double'"])):
+            self.assertEqual(checked(schema, [single | entry]), wanted)
+
+    def test_taken_away_everywhere_else(self):
+        """Where the setup and the office no longer have it, the record still begins with it."""
+        both = (PROFILE + constituency("c1", "Twin Town", 3, "d0") + DOUBLE + LISTS + station("s1"))
+        setup_json(both, "both")
+        record = chained({"setup": hash_of_file("both/setup.json")},
+                         a_command(json.dumps(LODGED), "/station/s1/lodge"),
+                         {"to": 2, "status": 200, "answer": '{"ok":"lodged","rev":1}'})
+        begun = hash_of_file("both/setup.json")
+        other = f"the record is of another setup, whose SHA-256 is {begun}"
+        for text, wanted in ((both, (0, False)), (both.replace(DOUBLE, ""), (1, True))):
+            with self.subTest(wanted=wanted):
+                Path("setup.toml").write_text(text, encoding="utf-8")
+                done = tools.run([DEPLOY / "entries", "setup.toml"], input=record,
+                                 capture_output=True, timeout=60)
+                self.assertEqual((done.returncode, other in done.stdout.decode()), wanted)
+                setup_json(text, "now")
+                status, _, said = replay(record, "--check", "--setup", "now/setup.json")
+                self.assertEqual((status, "the record is of another setup" in said),
+                                 (2 * wanted[0], wanted[1]))
+        recorder = loaded("recorder.py")
+        Path("log").write_bytes(record)
+        for folder, wanted in (("both", False), ("now", True)):
+            found = recorder.Record("log", 0, recorder.read_setup(Path(folder, "setup.json")))
+            self.assertEqual("is the record of another setup" in (found.fault or ""), wanted)
+
+    def test_an_office_that_needs_one_entry(self):
+        """Nothing of a record is sent to it where the setup needs two. A setup.json of an older
+        package does not say it, and is sent to either."""
+        text = PROFILE + constituency("c1", "Twin Town", 3, "d0") + LISTS + station("s1")
+        setup_json(text.replace(LISTS, DOUBLE + LISTS), "both")
+        setup_json(text, "one")
+        result = {"name": "Twin Town", "seats": 3, "method": "dhondt", "threshold": 0,
+                  "base": "valid", "lot_rule": "fixed",
+                  "lists": [{"code": "A", "name": "Alpha"}, {"code": "B", "name": "Beta"}]}
+        for folder, entry, wanted in (("both", "double", 0), ("both", "single", 2),
+                                      ("one", "single", 0), ("one", "double", 0)):
+            record = chained({"setup": hash_of_file(f"{folder}/setup.json")},
+                             a_command(json.dumps(LODGED), "/station/s1/lodge"),
+                             {"to": 2, "status": 200, "answer": '{"ok":"lodged","rev":1}'})
+            answers = {"/con/c1/result": result | {"entry": entry}, "/station/s1/lodge": "{}",
+                       "/progress": "c1 1 1\n",
+                       "/con/c1/stations": "STATIONS\nstations 1\ns1 300 -\n"}
+            with self.subTest(folder=folder, entry=entry), answering_desk(answers) as (port, asked):
+                status, _, said = replay(record, f"http://127.0.0.1:{port}", "--setup",
+                                         f"{folder}/setup.json")
+                self.assertEqual((status, "/station/s1/lodge" in asked, "one entry closes" in said),
+                                 (wanted, not wanted, bool(wanted)))
+
+    def test_a_setup_that_an_older_package_wrote(self):
+        """Once a record began with it, it stays as it is, and the proxy has its hash; another one
+        does not."""
+        text = PROFILE + constituency("c1", "Twin Town", 3, "d0") + LISTS + station("s1")
+        double = text.replace(LISTS, DOUBLE + LISTS)
+        setup_json(text, "older")
+        setup_json(double, "newer")
+        setup_json(OTHER_ORDER, "other")
+        for begun, kept in (("older", True), ("newer", True), ("other", False), (None, False)):
+            with self.subTest(begun=begun):
+                Path("made.toml").write_text(double, encoding="utf-8")
+                words = ("--begun", f"{begun}/setup.json") if begun else ()
+                Path("made").mkdir(exist_ok=True)
+                codes = run("setup-json", "made.toml", "made", *words)[0]
+                wanted = hash_of_file(f"{begun if kept else 'newer'}/setup.json")
+                self.assertEqual(hash_of_file("made/setup.json"), wanted)
+                self.assertIn(wanted, codes)
 
 
 class Record(Safeguards):

@@ -100,6 +100,38 @@ class InAFolder(Case):
         self.assertEqual((status, passwords_in(said), tree(root)), (0, {}, before))
 
     @needs("dpkg-deb", "git", "openssl")
+    def test_a_record_that_an_older_package_began(self):
+        """An upgrade alone leaves the setup.json that it begins with, and the hash that the proxy
+        has of it. Without a record, or with that of another one, it is made again."""
+        root = self.unpacked()
+        double = SETUP.replace("seats = 3\n", 'seats = 3\nentry = "double"\n')
+        self.assertNotEqual(double, SETUP)
+        Path("double.toml").write_text(double, encoding="utf-8")
+        self.assertEqual(office_site(root, ONE, "double.toml", "--port", "8101")[0], 0)
+        file = root / f"var/lib/office-site/{ONE}/setup.json"
+        codes = root / f"etc/nginx/office/{ONE}/codes.conf"
+        record = root / f"var/log/office/{ONE}/commands.log"
+        new, newest = file.read_text(encoding="utf-8"), checksum(file)
+        older = new.replace('  "entry": "double",\n', "")
+        self.assertIn('"entry": "double"', new)
+        self.assertNotIn("entry", older)
+        digest = hashlib.sha256(older.encode()).hexdigest()
+        for first, kept in (({"n": 1, "setup": digest}, True), ({"n": 1, "setup": newest}, False),
+                            ({"n": 1, "path": "/station/s1/lodge"}, False), ("no line", False),
+                            (None, False)):
+            with self.subTest(first=first):
+                file.write_text(older, encoding="utf-8")
+                record.unlink(missing_ok=True)
+                if first:
+                    record.write_text(json.dumps(first) + "\n", encoding="utf-8")
+                self.assertEqual(office_site(root, "--again")[0], 0)
+                self.assertEqual(file.read_text(encoding="utf-8"), older if kept else new)
+                self.assertIn(digest if kept else newest, codes.read_text(encoding="utf-8"))
+                if first and not kept:
+                    continue
+                self.assertEqual(office_site(root, "--again")[1], "nothing was changed\n")
+
+    @needs("dpkg-deb", "git", "openssl")
     def test_looks_that_a_board_has_changed(self):
         """They stay where a site is taken away. Where it comes back with another port, it is said
         that they look at the former one."""

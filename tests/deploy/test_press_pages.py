@@ -81,7 +81,8 @@ class PressPages(SiteCase):
             "lists": [{"code": "A", "name": "Alpha", "candidates": ["Ana", "Abel"]},
                       {"code": "B", "name": "Beta", "candidates": ["Bea"]}],
             "stations": [{"code": "s1", "electors": 300}]}])
-        self.assertEqual([name for name in os.listdir("pages") if name.startswith(".")], [])
+        self.assertEqual([name for name in os.listdir("pages") if name.startswith(".")],
+                         [".provisional"])
 
     def test_a_page_after_a_lot(self):
         """Where lots alternate the page says so, and setup.json. The list that the lot left out
@@ -329,7 +330,7 @@ class PressPages(SiteCase):
         self.assertTrue(all('class="old"' in read(name)
                             for name in ("index.html", "count.html", "con-c1.html")))
         press(port, folder="others", status=1)
-        self.assertEqual(os.listdir("others"), [])
+        self.assertEqual(os.listdir("others"), [".provisional"])
 
     def test_a_page_that_gets_old_and_is_written_again(self):
         """While the office gives no answer each page says so, and later none has an age. While the

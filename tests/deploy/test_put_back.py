@@ -111,6 +111,11 @@ class Status(Safeguards):
         for many in (30, 60):
             asked = self.looks(there, lines + lodged(*stations[:many], begin=3), wrong)
             self.assertLess(len(asked), 45)
+        # So it is after a look at which it did not answer, as while somebody starts it again.
+        self.looks({f"/station/{code}": 503 for code in ("s1", *stations)},
+                   lines + lodged(*stations, begin=3), [
+            (True, "of the last acts of the record it has all 0 that were compared")])
+        self.looks(there, lines + lodged(*stations, begin=3), wrong)
         self.looks(there | {"/station/s1": {"rev": 1}}, lines + lodged(*stations, begin=3), [
             (True, "of the last acts of the record it has all 21 that were compared")])
         self.looks(there, lines + lodged(*stations, begin=3), [

@@ -363,6 +363,17 @@ class Recorder(SiteCase):
             self.assertEqual(recorder.Desk(f"127.0.0.1:{listener.getsockname()[1]}").ask(
                 "POST", "/station/s1/close", b"")[0], None)
 
+    def test_a_desk_that_says_nothing(self):
+        """It has the command once, and nobody waits five times as long for an answer."""
+        recorder = loaded("recorder.py")
+        recorder.PATIENCE = 0.3
+        with recording_desk(wait=3) as (port, messages):
+            for method in ("GET", "POST"):
+                self.assertEqual(
+                    recorder.Desk(f"127.0.0.1:{port}").ask(method, "/station/s1/close", b"")[0],
+                    504)
+            self.assertLess(len(messages), 3)
+
     @needs("nginx", "openssl")
     def test_a_command_that_takes_long(self):
         """Six seconds, as a large import may: its client waits, and it is sent once."""

@@ -74,7 +74,7 @@ BOOTED = {
                              "SystemCallErrorNumber": "EPERM"},
     "office-backup.service": {"Type": "oneshot", "SupplementaryGroups": "office-recorder",
                               "EnvironmentFile": "-/etc/office/backup.env", "Nice": "10",
-                              "TimeoutStopSec": "10min",
+                              "TimeoutStartSec": "20min", "TimeoutStopSec": "10min",
                               "StateDirectory": "office", "StateDirectoryMode": "0700",
                               "UMask": "0077", "SystemCallErrorNumber": "EPERM"},
     "office-backup.timer": {"WantedBy": "timers.target", "OnActiveSec": "1min",

@@ -542,10 +542,10 @@ seconds = 1800
 
     def test_what_was_seen_that_cannot_be_read_or_kept(self):
         self.parts(0)
-        self.seen.write_text("{", encoding="utf-8")
-        self.assertRegex(self.parts(1)["seen"]["says"], "seen.json cannot be read")
-        # It is written again then.
-        self.parts(0)
+        for text in ("{", "[" * 100_000):
+            self.seen.write_text(text, encoding="utf-8")
+            self.assertRegex(self.parts(1)["seen"]["says"], "seen.json cannot be read")
+            self.parts(0)  # (it was written again)
         self.configure(seen=self.certificate / "seen.json")
         self.assertRegex(self.parts(1)["seen"]["says"], "Not a directory")
         self.configure(seen="")

@@ -2,6 +2,7 @@
 the hour."""
 
 import http.client
+import shutil
 import socket
 import threading
 import time
@@ -9,7 +10,8 @@ from pathlib import Path
 
 from tests.support.case import needs
 from tests.support.desks import answer_of, desk_with, recording_desk
-from tests.support.office import with_stations
+from tests.support.office import LISTS, PROFILE, constituency, station, with_stations
+from tests.support.pages import press, site_folder
 from tests.support.running import PATIENCE, free_port, is_listened_to, until
 from tests.support.safeguards import (
     SLIP,
@@ -21,7 +23,7 @@ from tests.support.safeguards import (
     started,
 )
 from tests.support.scripts import loaded
-from tests.support.site import SiteCase
+from tests.support.site import SiteCase, plain
 
 # Every way to what a slip says.
 OF_SLIPS = (
@@ -32,6 +34,18 @@ OF_SLIPS = (
     "/now/con/c1/stations",
     "/now/con/c1/returns",
 )
+# One town that is counted, and one that is certified.
+TOWNS = (
+    PROFILE + constituency("c1", "Twin Town", 3, "d0") + LISTS + station("s1")
+    + constituency("c2", "Port", 3, "d0") + LISTS + station("t1")
+)
+OF_A_CON = ("", "/tally", "/seats", "/quotients", "/awards", "/quota", "/short", "/holders",
+            "/past", "/provisional", "/result")
+# Each report for everybody, and those of them that have provisional seats.
+TABLES = ("/progress", "/country", "/results",
+          *(f"/con/{con}{report}" for con in ("c1", "c2") for report in OF_A_CON))
+PROVISIONAL = ("/results", "/con/c1/provisional", "/con/c1/result", "/con/c2/provisional",
+               "/con/c2/result")
 TABLE = (b"STATIONS c1 Twin\nstations 1\n"
          b"s1                   300 received     1 p1                   191       2       1\n")
 
@@ -173,6 +187,77 @@ class Slips(SiteCase):
             self.assertIn(429, found[20:])
             # Another name is not held up by that.
             self.assertEqual(front.ask("GET", "/now/con/c1/returns", name="bruno").status, 200)
+
+
+class ProvisionalSeats(SiteCase):
+    """Where no seat may be shown before it is certified, strangers get no report that has some."""
+
+    def found(self, front, desk, name, before=""):
+        """Each report that is not answered as the office itself answers it, with its status."""
+        found = {}
+        for target in TABLES:
+            own = plain(desk.port, "GET", target)
+            answer = front.ask("GET", before + target, name=name)
+            if (answer.status, answer.body) != (own.status, own.body):
+                found[target] = answer.status
+                self.assertNotIn(b"rovisional", answer.body)
+        return found
+
+    @needs("nginx", "openssl")
+    def test_who_reads_them(self):
+        hidden, pages = dict.fromkeys(PROVISIONAL, 404), "proxy/pages"
+        with office_and_site(TOWNS) as (desk, front):
+            for one in ("s1", "t1"):
+                self.assertEqual(post(desk, f"/station/{one}/lodge", SLIP), 200)
+                self.assertEqual(post(desk, f"/station/{one}/close", {"rev": 1}), 200)
+            self.assertEqual(post(desk, "/con/c2/certify", {"edition": 1}), 200)
+            self.assertEqual(
+                [plain(desk.port, "GET", f"/con/{con}/seats").status for con in ("c1", "c2")],
+                [409, 200])
+
+            def published(wanted, text=None, status=0):
+                """Compares what is read after press.py was started with this site.toml."""
+                with self.subTest(site=text):
+                    words = () if text is None else site_folder(site=text)
+                    if status:
+                        with self.assertRaisesRegex(AssertionError, f"^status {status}: "):
+                            press(desk.port, *words, folder=pages)
+                    else:
+                        press(desk.port, *words, folder=pages)
+                    time.sleep(1.1)  # so that nothing is kept of what was answered before
+                    for name in (None, "clara", "s1"):
+                        self.assertEqual(self.found(front, desk, name), wanted, name)
+                    for name in ("clara", "bruno", "berta", "sara"):
+                        self.assertEqual(self.found(front, desk, name, "/now"), {}, name)
+                    self.assertEqual(self.found(front, desk, None, "/now"),
+                                     dict.fromkeys(TABLES, 401))
+
+            published({})
+            published({}, 'title = "Election"\n')
+            published(hidden, "provisional = false\n")
+            for target in ("/con/C1/result", "/con/C1/provisional", "/results?x=1"):
+                self.assertEqual(front.ask("GET", target).status, 404, target)
+            self.assertEqual({front.ask("HEAD", target).status for target in PROVISIONAL}, {404})
+            # A file that says nothing, and a folder that is lost, hide them too.
+            published({}, "provisional = true\n")
+            published(hidden, 'provisional = "no"\n', status=1)
+            published({}, "")
+            shutil.rmtree(front.folder / "pages")
+            self.assertEqual(self.found(front, desk, None), hidden)
+
+    @needs("nginx", "openssl")
+    def test_before_the_hour(self):
+        """Strangers are refused all the same, and no name is without its password."""
+        Path("setup.toml").write_text(with_stations(2), encoding="utf-8")
+        with recording_desk(b"{}") as (port, _), site(
+            port, embargo="2100-01-01T00:00:00+00:00"
+        ) as front:
+            (front.folder / "pages/.provisional").unlink()
+            for target in ("/results", "/con/c1/result", "/con/c1/provisional"):
+                self.assertEqual(front.ask("GET", target).status, 403, target)
+                self.assertEqual(
+                    [front.ask("GET", f"/now{target}", name=name).status
+                     for name in ("clara", "s1", None)], [200, 403, 401], target)
 
 
 class Reader(Safeguards):

@@ -121,6 +121,8 @@ class Proxy:
                 f"https://{NAME}$": f"https://{NAME}:{self.port}$", **self.more,
             }), encoding="utf-8")
         shutil.copy(DEPLOY / "www/clerk.html", self.folder / "share")
+        # As press.py leaves it where a site may show provisional seats.
+        (self.folder / "pages/.provisional").touch()
         if Path("setup.toml").exists():
             self.publish_setup("setup.toml")
         files, passwords = staff_with_passwords(staff)

@@ -180,7 +180,8 @@ def a_head(n):
 
 def of_readers(folder="pages"):
     """The files that readers get, but for those that are compressed."""
-    return {file.name: file.read_bytes() for file in Path(folder).iterdir() if file.suffix != ".gz"}
+    return {file.name: file.read_bytes() for file in Path(folder).iterdir()
+            if file.suffix != ".gz" and not file.name.startswith(".")}
 
 
 ATOM = "{http://www.w3.org/2005/Atom}"
