@@ -155,22 +155,27 @@ def check(crate, edits, kept, built, known):
         words += ["--logic-built", KIT / "logic_built", "--links", f"{crate}=", "--jobs", "1"]
         words += ["--incremental", kept]
         ran = subprocess.run(words, cwd=room, stdout=subprocess.PIPE, stderr=subprocess.STDOUT)
-        return ran.stdout.decode(errors="replace").rstrip().splitlines()
+        # (why a name is not there is in a line of its own)
+        text = ran.stdout.decode(errors="replace").replace("\n  has no ", " has no ")
+        return text.rstrip().splitlines()
 
 
 def is_refused(edit, said):
     """Whether a check refuses an edit that it tried beside others: in words, where it says so."""
     text = (ROOT / "crates" / edit.crate / edit.file).read_text(encoding="utf-8")
     functions = list(functions_in(text))
+    names = {name for name, _ in edit.functions}
+    goals, unfit = [], []
     for line in said:
         if found := GOAL.match(line):
-            if found[1] == edit.file and function_at(functions, int(found[2])) in edit.functions:
-                return line
+            is_there = found[1] == edit.file
+            if is_there and function_at(functions, int(found[2])) in edit.functions:
+                goals.append(line)
         elif (found := UNFIT.match(line)) and not NAMES.search(line):
             *of, name = found[1].split("/")
-            if Path(edit.file).stem in of and name in {it for it, _ in edit.functions}:
-                return line
-    return None
+            if Path(edit.file).stem in of and name in names:
+                unfit.append(line)
+    return next(iter(goals + unfit), None)
 
 
 def is_refused_alone(said):
