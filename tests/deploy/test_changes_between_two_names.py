@@ -19,7 +19,7 @@ from tests.support.case import needs
 from tests.support.clerks import clerks_browser, confirmed, said
 from tests.support.desks import desk_with
 from tests.support.office import with_stations
-from tests.support.recorder import recorder_alone
+from tests.support.recorder import recorder_alone, recorder_at
 from tests.support.running import PATIENCE, until
 from tests.support.safeguards import Safeguards
 from tests.support.scripts import loaded, module
@@ -438,15 +438,8 @@ class FromTheRecord(Safeguards):
                 self.at_random(random.Random(number), Path(folder) / "log", number % 4 == 0)
 
     def at_random(self, by_chance, file, is_unknown):
-        recorder, clock = loaded("recorder.py"), [BEGIN]
-
-        class Clock(datetime):
-            @classmethod
-            def now(cls, tz=None):
-                return clock[0]
-
-        recorder.datetime = Clock
-        recorder.sys = type("Sys", (), {"stdout": self.enterContext(open("copy", "wb"))})
+        clock = [BEGIN]
+        recorder = recorder_at(self, clock)
         setup = None if is_unknown else recorder.Setup("0" * 64, STATIONS)
         answers = [recorder.Answer(*one) for one in (
             (200, DONE.encode()), (409, b"{}"), (None,), (503, b"{}"),
@@ -531,16 +524,21 @@ class RealOffice(SiteCase):
         self.assertEqual((found.returncode, found.stdout.decode()),
                          (0, "closed 1, of these by a second entry 0, to look at 0\n"))
 
+    def closed_by_clara(self, front):
+        """A clerk lodges and closes the return of s1: how she sends what follows."""
+        def sent(act, body):
+            found = front.ask("POST", f"/station/s1/{act}", json.dumps(body), "clara")
+            self.assertEqual(found.status, 200)
+
+        sent("lodge", SLIP)
+        sent("close", {"rev": 1})
+        return sent
+
     @needs("chromium", "nginx", "openssl")
     def test_a_page_that_shows_figures_of_before(self):
         """A name of the board certifies what it saw: a page that was left open sends nothing."""
         with serving(with_stations(1)) as desk, site_of_board(desk.port) as front:
-            def sent(act, body):
-                found = front.ask("POST", f"/station/s1/{act}", json.dumps(body), "clara")
-                self.assertEqual(found.status, 200)
-
-            sent("lodge", SLIP)
-            sent("close", {"rev": 1})
+            sent = self.closed_by_clara(front)
             with clerks_browser(front, "berta") as it:
                 sent("query", {"rev": 2, "note": "sum"})
                 sent("correct", {"rev": 3} | SLIP | {"votes": [71, 120]})
@@ -552,12 +550,7 @@ class RealOffice(SiteCase):
     @needs("chromium", "nginx", "openssl")
     def test_the_page_of_the_second_name(self):
         with serving(with_stations(1)) as desk, site_of_board(desk.port) as front:
-            def sent(act, body):
-                found = front.ask("POST", f"/station/s1/{act}", json.dumps(body), "clara")
-                self.assertEqual(found.status, 200)
-
-            sent("lodge", SLIP)
-            sent("close", {"rev": 1})
+            sent = self.closed_by_clara(front)
             with clerks_browser(front, "simon") as it:
                 self.assertEqual(front.ask("POST", CERTIFY, '{"edition":1}', "berta").status, 202)
                 sent("query", {"rev": 2, "note": "sum"})

@@ -16,10 +16,10 @@ from tests.support.clerks import clerks_browser, confirmed, said
 from tests.support.desks import answer_of, desk_with, done, recording_desk
 from tests.support.office import SETUP
 from tests.support.record import a_command, chained, replayed
-from tests.support.recorder import recorder_alone
+from tests.support.recorder import recorder_alone, recorder_at
 from tests.support.running import PATIENCE
 from tests.support.safeguards import Safeguards, WithSetup
-from tests.support.scripts import loaded, module
+from tests.support.scripts import module
 from tests.support.site import DEPLOY
 
 second_name = module("second_name")
@@ -237,15 +237,8 @@ class Restarts(Safeguards):
 class Hours(Safeguards):
     def at(self, *moments):
         """The answers to a request of berta and then of others, each at its moment."""
-        recorder, clock = loaded("recorder.py"), [BEGIN]
-
-        class Clock(datetime):
-            @classmethod
-            def now(cls, tz=None):
-                return clock[0]
-
-        recorder.datetime = Clock
-        recorder.sys = type("Sys", (), {"stdout": self.enterContext(open("copy", "wb"))})
+        clock = [BEGIN]
+        recorder = recorder_at(self, clock)
         Path("log").unlink(missing_ok=True)
         desk = type("Desk", (), {"lock": threading.Lock(), "files": recorder.Files(),
                                  "ask": lambda *_: recorder.Answer(200, b"{}")})()

@@ -4,10 +4,11 @@ import contextlib
 import socket
 import subprocess
 import sys
+from datetime import datetime
 from pathlib import Path
 
 from tests.support.running import PATIENCE, until
-from tests.support.scripts import PROGRAMS
+from tests.support.scripts import PROGRAMS, loaded
 from tests.support.site import DEPLOY
 
 FAILING = PROGRAMS / "failing_disk.py"
@@ -41,3 +42,17 @@ def command(target, body=b"{}", name="clara", role="clerk", allowed="1"):
         it.sendall(head.encode() + body)
         answer = it.recv(65536)
         return int(answer[9:12]) if answer else None
+
+
+def recorder_at(test, clock):
+    """The recorder's module for a test, at the moment that the list `clock` has."""
+    recorder = loaded("recorder.py")
+
+    class Clock(datetime):
+        @classmethod
+        def now(cls, tz=None):
+            return clock[0]
+
+    recorder.datetime = Clock
+    recorder.sys = type("Sys", (), {"stdout": test.enterContext(open("copy", "wb"))})
+    return recorder
