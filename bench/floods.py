@@ -6,7 +6,8 @@
     bench/floods.py --only second
 
 The office has 60,008 stations in 52 constituencies, and the returns of most of them. A clerk lodges
-through the proxy and the recorder, one return after the other with a short pause. In each round
+through the proxy and the recorder, one return after the other with a short pause. What the clerks'
+page reads after a lodge is part of its time. In each round
 that is measured alone, under a flood, alone again, under the next one, and so on, in one run on
 this machine: each flood beside the measures before and after it. All is on the loopback interface
 (127.0.0.0/8), and ends by itself: floods last S seconds (at most 30), rounds are at most 5.
@@ -96,6 +97,8 @@ class Flood:
 
 
 OWN = code(1, 1)
+# A station with a long history of large lines: a second's refused commands.
+LONG, REFUSED = code(2, 1), 200
 NEVER = 10**9
 FLOODS = (
     Flood("a station, past the cache, 1 address", "/now/con/c#/returns", 1, 3, OWN),
@@ -103,11 +106,13 @@ FLOODS = (
     Flood("a station, past the cache, 40 addresses", "/now/con/c#/stations", 40, 20, OWN),
     Flood("a station, kept tables, 40 addresses", "/con/c#/returns", 40, 20, OWN),
     Flood("a station, its own return, 10 addresses", f"/now/station/{OWN}", 10, 10, OWN),
+    Flood("a station, results past the cache, 40 addresses", "/now/results", 40, 80, OWN),
     Flood("a station, stations that are not there", "/now/station/x#", 10, 10, OWN, NEVER),
     Flood("a station that lodges without end", f"/station/{OWN}/lodge", 10, 10, OWN,
           method="POST", body='{"slip":"#","votes":[],"blank":0,"spoiled":0}'),
     Flood("a second, stations, 10 addresses", "/now/con/c#/stations", 10, 10, "sara"),
     Flood("a second, who did what", f"/now/station/{OWN}/history", 10, 10, "sara"),
+    Flood("a second, a long history of large lines", f"/now/station/{LONG}/history", 1, 90, "sara"),
     Flood("a clerk's password, returns, 10 addresses", "/now/con/c#/returns", 10, 10, "bruno"),
     Flood("a clerk's password, views, 10 addresses", "/now/con/c#", 10, 10, "bruno"),
     Flood("a clerk's password, trials", "/con/c1/trial", 10, 4, "bruno", method="POST",
@@ -137,7 +142,7 @@ FLOODS = (
 
 
 class Clerk:
-    """Somebody who lodges one return after the other."""
+    """Somebody who lodges one return after the other, and whose page reads what the office has."""
 
     def __init__(self, front):
         self.front, self.body = front, json.dumps(
@@ -147,18 +152,27 @@ class Clerk:
                           for con in range(1, CONS + 1)])
         self.connection = None
 
-    def lodge(self):
+    def ask(self, method, target, body=None):
         if self.connection is None:
             self.connection = http.client.HTTPConnection(site.NAME, timeout=120)
             self.connection.sock = self.front.connect("127.0.0.62")
-        self.connection.request("POST", f"/station/{next(self.left)}/lodge", self.body, self.head)
+        self.connection.request(method, target, body, self.head)
         answer = self.connection.getresponse()
         text = answer.read()
         if answer.will_close:
             self.connection.close()
             self.connection = None
-        if (answer.status, text) != (200, b'{"ok":"lodged","rev":1}'):
-            sys.exit(f"a lodge was answered {answer.status} {text[:200]}")
+        if answer.status != 200:
+            sys.exit(f"{method} {target} was answered {answer.status} {text[:200]}")
+        return text
+
+    def lodge(self):
+        station = next(self.left)
+        text = self.ask("POST", f"/station/{station}/lodge", self.body)
+        if text != b'{"ok":"lodged","rev":1}':
+            sys.exit(f"a lodge was answered {text[:200]}")
+        self.ask("GET", f"/now/con/c{int(station[1:3])}/result")
+        self.ask("GET", f"/now/station/{station}")
 
     def lodges(self, seconds):
         """The seconds that each lodge took in this time, and how many they are. One that was begun is
@@ -261,10 +275,21 @@ def office():
             front.end()
 
 
+def refused_at_length(front):
+    """Puts a second's refused commands, as large as the proxy lets them be, into a history."""
+    for n in range(REFUSED):
+        found = front.ask("POST", f"/station/{LONG}/query", '"' * 16_384, "sara",
+                          source=f"127.0.1.{n % 20 + 1}")
+        if found.status not in (400, 409):
+            sys.exit(f"a query of quotation marks was answered {found.status} {found.body[:200]}")
+
+
 def measure(front, given):
     """The shares of each flood, by its name."""
     clerk, shares = Clerk(front), {}
     floods = [flood for flood in FLOODS if given.only in flood.name]
+    if any(LONG in flood.target for flood in floods):
+        refused_at_length(front)
     clerk.lodges(1)
     for _ in range(given.rounds):
         _, before = clerk.lodges(given.seconds)

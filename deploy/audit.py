@@ -92,7 +92,8 @@ def read_setup(file):
     else:
         setup = tomllib.loads(text)
         rules = {profile["code"]: {key: profile[key] for key in ("method", "threshold", "base")} for profile in setup["profile"]}
-        entries = [rules[con["profile"]] | con for con in setup["constituency"]]
+        # (the office ignores a key of a constituency that has the name of one of its rule's)
+        entries = [con | rules[con["profile"]] for con in setup["constituency"]]
     for con in entries:
         need(con["method"] in RULES and con["base"] in BASES, f"{file}: the rule of {con['code']} is not known")
         need(is_whole(con["seats"], 1, MOST_SEATS), f"{file}: {con['code']} has {con['seats']!r} seats, and not 1 to {MOST_SEATS}")

@@ -13,6 +13,8 @@ import stat
 FIRST = "0" * 64
 # The most bytes of what the pages have shown: a row has some hundred, and ten seconds have one.
 MOST_SHOWN = 64 << 20
+# How many characters one of its rows may have: a time, a number, a hash and two commas.
+LONGEST_ROW = 256
 # How long a first line may be that says of which setup a record is.
 LONGEST_FIRST = 4096
 
@@ -36,12 +38,21 @@ def read_shown(file):
         if found.st_size > MOST_SHOWN:
             raise ValueError(f"it has more than {MOST_SHOWN} bytes")
         try:
-            for row in csv.DictReader(rows):
+            for row in csv.DictReader(rows_of(rows)):
                 shown.setdefault(int(row["lines"]), set()).add(row["sha256"])
         except csv.Error as error:
             raise ValueError(str(error)) from None
     shown.pop(0, None)
     return shown
+
+
+def rows_of(file):
+    """The rows of a file, one after the other. One that is too long is not read to its end, as of a
+    file of zeros alone, which takes no room on the disk."""
+    while row := file.readline(LONGEST_ROW + 1):
+        if len(row) > LONGEST_ROW:
+            raise ValueError(f"one of its rows has more than {LONGEST_ROW} characters")
+        yield row
 
 
 def hash_of_file(file):

@@ -35,6 +35,9 @@ def ran(*words):
 
 def ready_database(program, setup, files):
     """Makes the database, or looks whether it is the one of this setup and can be opened."""
+    if other := files.shared_with():
+        raise Fault(f"{other} has the same record and the same pages as {files.db} would have: "
+                    "give that one another name")
     if files.db.exists():
         close_database(program, files.db)
         if text_in(files.db) != setup.read_bytes():
@@ -74,10 +77,18 @@ class Files:
 
     def __init__(self, db, folder):
         self.db, self.folder = db, Path(folder)
-        self.record, self.pages = db.with_suffix(".commands.log"), db.with_suffix(".pages")
+        # (evening.bak, a copy of evening.db, has its own: only .db is left out)
+        name = db.stem if db.suffix == ".db" else db.name
+        self.record = db.with_name(f"{name}.commands.log")
+        self.pages = db.with_name(f"{name}.pages")
         self.sockets, self.reader = self.folder / "recorder", self.folder / "reader"
         self.share = self.folder / "share"
         self.said = self.folder / "office.log"
+
+    def shared_with(self):
+        """The database that is beside this one and has the same record and pages, or None."""
+        other = self.db.with_name(f"{self.db.name}.db")
+        return other if self.db.suffix != ".db" and other.exists() else None
 
 
 class Part:

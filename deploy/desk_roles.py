@@ -42,6 +42,8 @@ METHODS = {"page": READ, "logout": READ, "setup": READ, "file": READ, "table": R
 FROM_A_PAGE = ("now", "now_slips", "now_all", "history", "typed", "command", "logout")
 # Who sees what a slip says before it is closed; a station sees its own.
 SEE_SLIPS = ("clerk", "board")
+# Who sees seats before they are certified where the site shows them to nobody.
+SEE_HIDDEN = ("clerk", "board")
 
 CODE = "[A-Za-z0-9_-]{1,16}"
 STATION, CON = f"/station/(?P<station>{CODE})", f"/con/(?P<con>{CODE})"
@@ -90,6 +92,16 @@ class Request:
         if self.kind != "command":
             return 0
         return MOST_OF_IMPORT if self.act in ("import", "trial") else MOST_OF_COMMAND
+
+    @property
+    def has_provisional(self):
+        """Whether it is a report with seats that may not be certified yet."""
+        return (self.kind in ("table", "now")
+                and self.path.endswith(("/results", "/provisional", "/result")))
+
+    def is_there(self, role, is_hidden):
+        """Whether there is such a report for a role, on a site that may hide provisional seats."""
+        return not (is_hidden and self.has_provisional) or role in SEE_HIDDEN
 
     def is_allowed(self, name, role):
         """Whether a name of a role may do it, or see it. Whoever has a name may read the rest."""

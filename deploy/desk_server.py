@@ -263,7 +263,11 @@ class Handler(http.server.BaseHTTPRequestHandler):
             self.send(200, body, kind, **policy)
 
     def answer_table(self, found):
-        self.read(found.path, Office_Allowed=self.says_allowed(found))
+        # (press.py leaves this file where provisional seats may be shown)
+        is_hidden = not (self.server.house.pages / ".provisional").is_file()
+        is_there = found.is_there(self.server.person.role, is_hidden)
+        self.read(found.path, Office_Allowed=self.says_allowed(found),
+                  Office_There="1" if is_there else "0")
 
     answer_now = answer_slips = answer_now_slips = answer_table
 

@@ -226,7 +226,9 @@ def read_con(select, setup):
 def read_copy(file):
     """The setup's text and the constituencies of a copy, by their codes. Each is counted again."""
     # (an index of a log, -shm, has nothing of its own, and a log without a byte has no commit)
-    beside = [Path(f"{file}{end}") for end in ("-wal", "-journal")]
+    # (that of a database to which a link leads lies beside the database)
+    at = file.resolve() if file.is_symlink() else file
+    beside = [Path(f"{at}{end}") for end in ("-wal", "-journal")]
     for log in beside:
         if log.exists() and log.stat().st_size:
             raise Refused("not_a_copy", file=file, log=log)

@@ -18,19 +18,18 @@ those of the country and of the count in each round. The stations of a constitue
 one where something of it has changed, and once a minute. With --every a round waits for them for half a second and one answer,
 and the others are asked for in later rounds, those first that waited longest. If that answer takes longer, as that of a large
 constituency, the rounds after it wait less. A file is written beside and renamed, so nobody reads half of one, and once more
-compressed. One that somebody else changed or removed is named on standard error and made again in the next round. Where the office does not answer, or not what can be used, the page that was there stays, with a line that says how
-old it is. With --every it goes on until it is ended. Each round prints a line, with how many GETs it took; the status is 1 where
-the last one failed in part. Python 3.11 or later.
+compressed. One that somebody else changed or removed is named on standard error and made again in the next round; a folder
+in its place is named and stays. Where the office does not answer, or not what can be used, the page that was there stays, with a
+line that says how old it is. With --every it goes on until it is ended. Each round prints a line, with how many GETs it took; the
+status is 1 where the last one failed in part. Python 3.11 or later.
 """
 
 import argparse
-import contextlib
 import csv
 import hashlib
 import json
 import math
 import re
-import shutil
 import signal
 import sys
 import time
@@ -46,7 +45,8 @@ from press_data import (ACTS, OF_HASH, OPEN, STATION, adds_up, con_csv, con_json
                         returns_csv, returns_in, schemas, shown_heads)
 from press_country import together
 from press_embed import con_embedded, country_embedded, withdrawn_embedded
-from press_files import allow_provisional, changed, is_known, put, put_bytes, remove, repair, text_of_another
+from press_files import (allow_provisional, changed, is_folder, is_known, make_folder, moment_in, put, put_bytes, remove,
+                         remove_folder, repair, restore, text_of, text_of_another)
 from press_image import shared_image
 from press_lists import elected_csv, elected_pages, list_pages
 from press_pages import aged, con_bodies, con_page, count_pages, details_page, index_pages, unaged, withdrawn_page
@@ -132,20 +132,12 @@ def put_dated(folder, name, write, moment):
     """Writes a file that says its moment, by a function of the moment. One that says the same of an earlier moment keeps that. The
     moment that it says."""
     before = text_of(folder / name)
-    found = re.search(MOMENTS[Path(name).suffix], before)
-    since = datetime.fromisoformat(found[1]) if found else moment
+    since = moment_in(MOMENTS[Path(name).suffix], before) or moment
     text = write(since)
     if text != unaged(before):
         since, text = moment, write(moment)
     put(folder, name, text)
     return since
-
-
-def text_of(file):
-    """The text of a file, whatever somebody else made of it; an empty one where it cannot be read."""
-    with contextlib.suppress(FileNotFoundError, PermissionError):
-        return file.read_text(encoding="utf-8", errors="replace")
-    return ""
 
 
 def published(folder, *left):
@@ -200,8 +192,7 @@ def withdraw(folder, site, codes):
 def remove_languages(folder, site):
     """Removes the pages of each language that the site no longer has beside its own: nobody would renew them."""
     for language in LANGUAGES.keys() - {one.language for one in site.others}:
-        if (folder / language).is_dir():
-            shutil.rmtree(folder / language)
+        remove_folder(folder / language)
 
 
 def is_ours(page):
@@ -288,10 +279,14 @@ def write_returns(office, folder, code, con, entry, seen, may_ask):
     if edition and entry and may_ask and (edition not in files or seen.compared.get(code) != edition):
         name, text = f"stations-{code}-{edition}.csv", certified_returns(office, code, view, entry)
         if text is not None:
+            if name in files.values() and text_of(folder / name) != text:
+                print(f"failed: {folder / name}: somebody else changed it, and pages were made of it", file=sys.stderr, flush=True)
+                seen.written.pop(code, None)
             put(folder, name, text)
             files[edition], seen.compared[code] = name, edition
         elif edition not in files:
             remove(folder, name)
+    files = {of: name for of, name in files.items() if (folder / name).is_file()}
     for name in files.values():
         if not is_known(folder / name) and (text := text_of(folder / name)):
             put(folder, name, text)
@@ -310,15 +305,16 @@ def write_open(office, folder, site, code, con, entry, seen, may_ask):
     if not entry or row["certified"] or row["missing"] == row["stations"]:
         seen.stations.pop(code, None)
         return {}
-    before, since, text = seen.stations[code] if code in seen.stations and (folder / name).exists() else (None, 0, None)
+    before, since, text = seen.stations[code] if code in seen.stations and (folder / name).is_file() else (None, 0, None)
     if may_ask and (before != key or now - since > AGAIN):
         text, stations, closed = stations_of(office, code, text, entry)
         if stations:
             put(folder, name, closed)
+        if stations and (folder / name).is_file():
             states = {station: found[0] if found else "missing" for station, found in stations.items()}
             write_stations(folder, site, code, con, entry, seen, name, states)
         seen.stations[code] = key, now, text
-    return {OPEN: name} if (folder / name).exists() else {}
+    return {OPEN: name} if (folder / name).is_file() else {}
 
 
 def acts_of(folder, code, edition, returns):
@@ -613,7 +609,7 @@ def look_for_changes(folder, site, setup, seen):
     if len(found) > MOST_NAMED:
         print(f"failed: {folder}: somebody else changed or removed {len(found) - MOST_NAMED} more files", file=sys.stderr, flush=True)
     for file in found:
-        if file.name not in ("feed.atom", "record.csv") and (file.is_symlink() or not file.is_dir()):
+        if file.name not in ("feed.atom", "record.csv") and not is_folder(file):
             remove(file.parent, file.name)
     if found:
         seen.forget()
@@ -667,8 +663,10 @@ def main():
     entries = {entry["code"]: entry for entry in setup}
     write_given(given.folder, site, entries)
     remove_languages(given.folder, site)
+    restore(given.folder)
     for _, folder in site.editions(given.folder):
-        folder.mkdir(exist_ok=True)
+        if folder != given.folder:
+            make_folder(folder)
         repair(folder)
     signal.signal(signal.SIGTERM, lambda *_: sys.exit(0))
     offices, seen, asked = [Office(address) for address in given.office], Seen(), 0

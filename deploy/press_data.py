@@ -10,7 +10,7 @@ import unicodedata
 import uuid
 import xml.etree.ElementTree as ET
 
-from press_files import hash_as_left
+from press_files import hash_as_left, moment_in
 from press_names import isolated
 from press_results import counted_share, provisional_seats
 
@@ -468,11 +468,25 @@ def stays(entry, cons, codes):
     return code not in cons and (codes is None or code in codes)
 
 
-def seen_before(before, now):
+def was_title(site, tally, title):
+    """Whether provisional seats of a constituency may have had this title, with no more stations counted than now."""
+    said = NO_XML.sub("\ufffd", site.say("feed_provisional", con=isolated(tally["name"]), share="\t"))
+    begin, _, end = said.partition("\t")
+    share = title.removeprefix(begin).removesuffix(end)
+    digits = "".join(re.findall("[0-9]", share))[:5]
+    near = int(digits or 0) * tally["stations"] // 10_000
+    return title == begin + share + end and any(
+        share == site.per_cent(counted_share(closed, tally["stations"])) for closed in range(max(near, 1), min(near + 1, tally["closed"]) + 1))
+
+
+def seen_before(site, tally, before, now):
     """An entry as the office bears it out now, with the moment at which it was first seen. No answer has the note of an earlier
-    reopening, nor the share that was counted when provisional seats first were these: each stays as it was written."""
+    reopening, nor the share that was counted when provisional seats first were these: each stays as it was written, a share that
+    may have been counted before now."""
     kind = now.find(f"{ATOM}category").get("term")
-    old = ["updated", *["title"] * (kind == "provisional"), *["summary"] * (not now.findtext(f"{ATOM}summary"))]
+    keeps = kind == "provisional" and was_title(site, tally, before.findtext(f"{ATOM}title") or "")
+    is_moment = moment_in("(.*)", before.findtext(f"{ATOM}updated") or "")
+    old = [*["updated"] * bool(is_moment), *["title"] * keeps, *["summary"] * (not now.findtext(f"{ATOM}summary"))]
     for tag in old:
         now.find(ATOM + tag).text = before.findtext(ATOM + tag)
     return now
@@ -484,13 +498,13 @@ def feed(before, cons, codes, setup, site, moment):
 
     An entry keeps the moment at which it was first seen, for as long as its constituency shows what it says. Where there was no
     feed, all that the office shows has the present moment, and the identifiers that it had."""
-    moment, known, shown = moment.isoformat(timespec="seconds"), said_before(before), {}
+    moment, known, shown, tallies = moment.isoformat(timespec="seconds"), said_before(before), {}, {}
     for code, con in cons.items():
         candidates = {row["code"]: row["candidates"] for row in setup[code]["lists"]} if code in setup else {}
         for event in (*events(con, candidates), *provisional_event(site, con)):
             entry = entry_of(site, code, con, event, moment)
-            shown[entry.findtext(f"{ATOM}id")] = entry
-    kept = {of: seen_before(entry, shown[of]) if of in shown else entry for of, entry in known.items()
+            shown[entry.findtext(f"{ATOM}id")], tallies[entry.findtext(f"{ATOM}id")] = entry, con["tally"]
+    kept = {of: seen_before(site, tallies[of], entry, shown[of]) if of in shown else entry for of, entry in known.items()
             if of in shown or stays(entry, cons, codes)}
     found = ET.Element(f"{ATOM}feed", {"xml:lang": site.language})
     licence = [("rights", site.about["licence"])] if "licence" in site.about else []

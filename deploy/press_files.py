@@ -4,9 +4,14 @@ it left each of them, and so finds what somebody else changed."""
 import contextlib
 import gzip
 import hashlib
+import json
 import os
+import re
+import shutil
 import stat
+import sys
 import zlib
+from datetime import datetime
 
 # As each compressed file of ours begins: it has no moment. What a board compressed itself has one.
 BEGINS = gzip.compress(b"", 6, mtime=0)[:8]
@@ -36,7 +41,10 @@ def put(folder, name, text):
 
 
 def put_bytes(file, data):
-    """Writes a file beside and renames it. What would be the same stays as it is."""
+    """Writes a file beside and renames it. What would be the same stays as it is, and a folder in
+    its place too."""
+    if is_named_folder(file):
+        return
     if not is_as(file, data):
         beside = file.with_name(f".{file.name}.new")
         beside.write_bytes(data)
@@ -45,17 +53,46 @@ def put_bytes(file, data):
 
 
 def is_as(file, data):
-    """Whether a file has this content. One that cannot be read, as root's may be, has another."""
+    """Whether a file has this content. One that cannot be read, as root's may be, has another, and
+    so has a link, which the proxy does not serve."""
     try:
-        return file.read_bytes() == data
+        return on_disk(file) is not None and file.read_bytes() == data
     except OSError:
         return False
 
 
+def is_folder(file):
+    return file.is_dir() and not file.is_symlink()
+
+
+def is_named_folder(file):
+    """Whether a folder is in the place of a file: nobody knows what is in it, so it is named, and
+    stays."""
+    if is_folder(file):
+        print(f"failed: {file}: a folder is in its place", file=sys.stderr, flush=True)
+    return is_folder(file)
+
+
 def remove(folder, name):
     for file in (folder / name, folder / f"{name}.gz"):
-        file.unlink(missing_ok=True)
-        LEFT.pop(file.absolute(), None)
+        if not is_named_folder(file):
+            file.unlink(missing_ok=True)
+            LEFT.pop(file.absolute(), None)
+
+
+def remove_folder(folder):
+    """Removes a folder of pages, or a link in its place."""
+    if is_folder(folder):
+        shutil.rmtree(folder)
+    elif folder.is_symlink():
+        folder.unlink()
+
+
+def make_folder(folder):
+    """A folder of pages, also in the place of a link or a file."""
+    if not is_folder(folder):
+        folder.unlink(missing_ok=True)
+    folder.mkdir(exist_ok=True)
 
 
 def allow_provisional(folder, is_allowed):
@@ -117,12 +154,63 @@ def hash_as_left(file):
     return LEFT[file.absolute()][0] if is_known(file) else hash_of(file)
 
 
+def text_of(file):
+    """The text of a file of ours, whatever somebody else made of it; an empty one where it cannot be
+    read."""
+    with contextlib.suppress(FileNotFoundError, PermissionError):
+        return file.read_text(encoding="utf-8", errors="replace") if file.is_file() else ""
+    return ""
+
+
+def moment_in(pattern, text):
+    """The moment that a text says by this pattern; None where it says none, or, since somebody else
+    changed it, one that cannot be."""
+    found = re.search(pattern, text)
+    try:
+        moment = datetime.fromisoformat(found[1]) if found else None
+        return moment if moment and moment.tzinfo and moment.astimezone() else None
+    except (ValueError, OverflowError, OSError):
+        return None
+
+
 def text_of_another(file):
     """The text of a file that another user writes, who could have this program wait for a pipe."""
     with open(os.open(file, os.O_RDONLY | os.O_NONBLOCK), encoding="utf-8") as it:
         if not stat.S_ISREG(os.fstat(it.fileno()).st_mode):
             raise ValueError("it is no file")
         return it.read()
+
+
+# The file of returns of a certificate, whether it is in force or withdrawn.
+RETURNS = re.compile(r"stations-[A-Za-z0-9_-]+-\d+\.csv")
+
+
+def restore(folder):
+    """Says which files of a certificate's returns are no more as the manifest has them, from before
+    this program began, and makes each again from the compressed one beside it. Where that one is
+    another too both are removed. The office makes that of a certificate in force again, and nobody
+    can make that of a withdrawn one."""
+    for name, digest in manifest_of(folder).items():
+        file, compressed = folder / name, folder / f"{name}.gz"
+        if not RETURNS.fullmatch(name) or on_disk(file) and hash_of(file) == digest:
+            continue
+        print(f"failed: {file}: somebody else changed or removed it", file=sys.stderr, flush=True)
+        data = None
+        with contextlib.suppress(OSError):
+            data = content_of(compressed.read_bytes()) if on_disk(compressed) else None
+        if data is not None and hashlib.sha256(data).hexdigest() == digest:
+            put_bytes(file, data)
+        elif not is_folder(file):
+            remove(folder, name)
+
+
+def manifest_of(folder):
+    """The hashes of the files of a folder, by its manifest; none where there is no such manifest."""
+    try:
+        files = json.loads(text_of_another(folder / "manifest.json"))["files"]
+        return {name: digest for name, digest in files.items() if isinstance(digest, str)}
+    except (OSError, ValueError, KeyError, TypeError, AttributeError, RecursionError):
+        return {}
 
 
 def repair(folder):

@@ -5,19 +5,18 @@ folder `templates`, in the words of a site's language.
 """
 
 import math
-import re
-from datetime import datetime
 
 from press_con import con_bodies, con_page, details_page
 from press_country import (CLOSEST, Party, by_name, first_list, is_withdrawn, seats_before,
                            shares_before, together)
 from press_figures import MOST_DOTS, MOST_LABELS, bars, half_circle, map_key, map_shape
+from press_files import moment_in
 from press_head import Standing, country_outlook, counted_line, has_won, leads
 from press_names import label
 from press_parts import (AGE, COUNTED, NOTHING, PAGE_ROOM, Head, Part, changed, changing,
                          details_links, divided, framed, list_link, list_name, numbers,
-                         progress_bar, room_beside, rounded, searched, sections, size,
-                         stacked_row, table, tables, unaged, votes_said)
+                         progress_bar, room_beside, rounded, searched, sections, size, stacked_row,
+                         table, tables, unaged, votes_said)
 from press_results import by_seats, counted_share, lot_of, provisional_seats
 from press_templates import Markup
 
@@ -406,10 +405,10 @@ def title_of(site):
 def aged(site, text, moment):
     """A page that stays as it is, with a line that says how old it is; one of a board's own
     template may say no moment."""
-    since = re.search(r'<time datetime="([^"]+)">', text)
+    since = moment_in(r'<time datetime="([^"]+)">', text)
     if not since:
         return text
-    age = site.age_of(datetime.fromisoformat(since[1]), moment)
+    age = site.age_of(since, moment)
     begin, end = AGE
     line = site.templates.parts.old(site.hour(moment), age)
     return unaged(text).replace(begin + end, f"{begin}{line}{end}", 1)

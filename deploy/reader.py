@@ -10,11 +10,15 @@ desk on a port of --read, in the same order, for the press pages. Whatever is no
 405, and the office does not hear of it. Nor does it hear a head or a body.
 
 The office answers one request after the other. Two reports are asked for at once, so that a command
-waits for two at most. Of the tables of all stations of a constituency the proxy has one at a time,
-and three times as long as it took the office is left to others: the proxy waits for its next.
+waits for two at most. Past the cache a name of the proxy may have four under way, all stations
+twenty-four, and all seconds as many; more are answered 429. Of both one is asked for at a time, and
+three times as long as it took is left to others, so that clerks do not wait for all of theirs. One
+station at a time waits for that, so that seconds do not wait for all of the stations'. Of the
+tables of all stations of a constituency the proxy has one at a time, and as much is left to others:
+the proxy waits for its next.
 
 The proxy says with each request what its name may see. `Office-Allowed` other than 1 is answered
-403. /stations/CODE and /returns/CODE are the tables of a constituency past the cache: a name of the
+403, and `Office-There` other than 1 is answered 404. /stations/CODE and /returns/CODE are the tables of a constituency past the cache: a name of the
 staff gets twenty at once, and then two a second. To a role that does not see what slips say, a line
 of /stations/CODE ends with the revision, and /returns/CODE is 403. With `Office-Wait: no` a desk that
 does not listen is not waited for.
@@ -41,25 +45,33 @@ from recorder import (
     listen,
     serve,
 )
+from turns import Places, Turn
 
 # How many requests of the proxy are read at once; of a port there are few.
 THREADS, PORT_THREADS = 64, 4
 # How many reports of a desk are asked for at once. After a table of all stations the next waits
 # three times as long as it took, and a second at most; this many wait, and others are answered 429.
 AT_ONCE, REST, LONGEST_REST, WAITING = 2, 3, 1.0, 16
+NOT_THERE = Answer(404)
 # Columns of the table of stations: its code, electors, a blank, the status and the revision.
 TO_REVISION = 16 + 8 + 1 + 9 + 5
 # How long a desk that takes no connection is waited for.
 CONNECTING = 5
 # How many tables of all stations a name may ask for at once, and one more each this many seconds.
 TABLES, TABLE_SECONDS = 20, 0.5
+# How many reports of a name may wait or be under way past the cache, and how many of all stations,
+# whose passwords are in many hands, and of all seconds. Clerks and the board have other threads.
+OF_NAME, OF_ROLE, HELD = 4, 24, ("station", "second")
 
 
 class Often:
-    """How often each name asks for a table of all stations. The proxy has seen its password."""
+    """How much each name asks for past the cache, and how often for a table of all stations. The
+    proxy has seen its password."""
 
     def __init__(self):
         self.spent, self.lock = {}, threading.Lock()
+        self.places = Places(OF_NAME, THREADS)
+        self.places_of = {role: Places(OF_NAME, OF_ROLE) for role in HELD}
 
     def is_over(self, name):
         now = time.monotonic()
@@ -86,19 +98,44 @@ class Reader:
         # The tables of all stations: one at a time, not before a moment, for this many who wait.
         self.large, self.moment = threading.Lock(), 0.0
         self.places = threading.BoundedSemaphore(WAITING)
+        # Of stations and seconds one report at a time, and most of the time is left to others; one
+        # station at a time waits for this.
+        self.others, self.stations = Turn(), threading.Lock()
 
     def answered(self, method, path, fields, _):
         if method != "GET":
             return NOT_ALLOWED
         if fields.get("Office-Allowed", "1") != "1":
             return FORBIDDEN
+        if fields.get("Office-There", "1") != "1":
+            return NOT_THERE
+        name, role = fields.get("Office-Name"), fields.get("Office-Role")
+        if not name or not self.often:
+            return self.asked(path, fields, contextlib.nullcontext())
+        with self.often.places_of.get(role, self.often.places).taken(name) as has_place:
+            if not has_place:
+                return TOO_MANY
+            return self.asked(path, fields, self.turn_of(role))
+
+    @contextlib.contextmanager
+    def turn_of(self, role):
+        """The turn of a report that a name of a role has asked for."""
+        with contextlib.ExitStack() as held:
+            if role == "station":
+                held.enter_context(self.stations)
+            if role in HELD:
+                held.enter_context(self.others)
+            yield
+
+    def asked(self, path, fields, turn):
         wait = 0 if fields.get("Office-Wait") == "no" else None
         found = re.fullmatch("/(stations|returns)/([A-Za-z0-9_-]+)", path)
         if found and self.often:
             return self.past_the_cache(*found.groups(), fields)
         if re.fullmatch("/con/[^/]+/(stations|returns)", path) and self.often:
             return self.ask_large(path)
-        return self.ask(path, wait)
+        with turn:
+            return self.ask(path, wait)
 
     def past_the_cache(self, table, con, fields):
         """A table of all stations for a name of the staff, as its role may see it."""

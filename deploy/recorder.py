@@ -2,7 +2,7 @@
 """Passes commands from the proxy to the office, each recorded on the disk before the office has it.
 
     deploy/recorder.py FOLDER RECORD [--desk HOST:PORT].. [--group NAME] [--room BYTES]
-                       [--setup setup.json] [--shown record.csv] [--two-of-board]
+                       [--setup setup.json] [--shown record.csv] [--two-of-board] [--staff staff.conf]
 
     deploy/recorder.py /run/office-recorder /var/log/office/commands.log --desk 127.0.0.1:8080
 
@@ -25,7 +25,7 @@ With --two-of-board a lot, a certificate, a reopening and a vacancy need two nam
 answered 202, `waits_for_second_name`, and the same request from another name within an hour is sent to the office. It is another request
 where its body differs, as where it names another edition. What changes a return of the constituency in between, or its edition, or may
 have done so, ends the wait: the next request is a first one. Of a station whose constituency is not known, as without --setup, it ends
-each wait.
+each wait. With --staff a name counts as the first one while that file gives it the role of the board there: not once it is removed.
 
 Files are imported and tried one at a time, each after the commands that wait. While others give commands, the desk is left to
 them three times as long as a file took: ten seconds at most before the next file, forty before the next one of the same name.
@@ -41,11 +41,13 @@ from reading the record once, as it starts; with --setup, of the stations of the
 With --setup it also answers who typed how many returns of a constituency in the last hour (GET /typed/CODE): to the board of
 each name, to another name its own alone.
 
+Both are read one at a time. Commands are then left three times as long as that took, a second at most. Of a name two may wait or
+be under way, and sixteen of all names; others are answered 429.
+
 It goes on until it is ended. The status is 1 where it cannot begin, as where another has the record. Python 3.11 or later.
 """
 
 import argparse
-import base64
 import collections
 import contextlib
 import csv
@@ -68,7 +70,10 @@ from pathlib import Path
 from typing import NamedTuple
 
 import second_name
-from record_index import HOUR, UNKNOWN, Index, Typed, entry_of
+import staff
+import turns
+from record_index import HOUR, Index, Typed, entry_of
+from record_lines import before_texts, command_of, hash_of, setup_of, text_or_bytes
 
 # This many requests of a desk are under way at once; others wait.
 THREADS = 64
@@ -145,9 +150,12 @@ def read_shown(file):
 class Record:
     """A file of numbered lines, each with the hash of the one before."""
 
-    def __init__(self, file, room, setup=None, shown=None):
+    def __init__(self, file, room, setup=None, shown=None, names=None):
         self.file, self.room, self.lock = file, room, threading.Lock()
+        # The file of the staff's names, where there is one.
+        self.names = names
         self.index = Index(setup.stations if setup else None, Typed(setup.stations if setup else {}))
+        self.reading = turns.Reading()
         self.waiting = second_name.Waiting(setup.stations if setup else None)
         self.descriptor = os.open(file, os.O_WRONLY | os.O_APPEND | os.O_CREAT, 0o640)
         self.setup, begins, shown = setup, "", dict(shown or {})
@@ -185,8 +193,9 @@ class Record:
         """Adds a request that needs two names: its number, and the answer to it where it waits for the second one."""
         with self.lock:
             self.begin()
-            moment = datetime.now().astimezone()
+            moment, is_board = datetime.now().astimezone(), staff.board_of(self.names, entry["path"].split("/")[2])
             firsts, others, early = (of(entry, moment) for of in (self.waiting.firsts, self.waiting.others, self.waiting.too_early))
+            firsts = {number: name for number, name in firsts.items() if is_board(name)}
             line, place = self.write(entry | ({"first": max(firsts)} if firsts else {"status": second_name.WAITS}), moment)
             number = self.number
         self.index.take(line, place)
@@ -246,15 +255,16 @@ class Record:
     def sync(self):
         os.fdatasync(self.descriptor)
 
-    def history(self, station):
-        """The last commands that are about a station, each with its answer, and whether these are all."""
+    def history(self, station, is_whole=True):
+        """The last commands that are about a station, each with its answer, and whether these are all. Where
+        the commands are not to be whole, what was sent and answered is not even read."""
         (places, whole), commands = self.index.of(station), {}
         with open(self.file, "rb") as lines:
             for place in places:
                 lines.seek(place)
                 line = lines.readline(LONGEST)
                 # An import may be long, and is cut before its body.
-                entry = json.loads(line if len(line) < LONGEST else line.partition(b', "body')[0] + b"}")
+                entry = json.loads(line if is_whole and len(line) < LONGEST else before_texts(line))
                 if "to" in entry:
                     commands.get(entry["to"], {}).update({key: entry[key] for key in ("status", "answer") if key in entry})
                 else:
@@ -274,54 +284,13 @@ class Record:
 
 
 def waits(moment, others, early):
-    """The answer to a request that waits for a second name: until when, what else waits there, and who asked too early."""
+    """The answer to a request that waits for a second name: until when, what else waits there, and who asked too early, before what changed."""
     until = (moment + second_name.PATIENCE).isoformat(timespec="seconds")
     said = [{"name": name, "time": first.isoformat(timespec="seconds"), "act": act, "body": body}
-            for name, first, act, body in others[-5:]]
+            for name, first, act, body in others]
     said = {"word": "waits_for_second_name", "until": until, "others": said,
-            "too_early": [{"name": name, "time": first.isoformat(timespec="seconds")} for name, first in early[-5:]]}
+            "too_early": [{"name": name, "time": first.isoformat(timespec="seconds"), "changed": why} for name, first, why in early[-5:]]}
     return Answer(second_name.WAITS, json.dumps(said).encode())
-
-
-def setup_of(line):
-    """The hash of the setup with which a record begins, or an empty text."""
-    with contextlib.suppress(ValueError, AttributeError, RecursionError):
-        return json.loads(line).get("setup", "")
-    return ""
-
-
-def command_of(entry):
-    """A command as a history shows it. Of a file it shows no rows: they are other stations' too."""
-    _, kind, _, act = entry["path"].split("/", 3)
-    shown = {key: entry[key] for key in ("n", "time", "name", "role")}
-    shown |= {"act": act.split("/")[0], "status": entry.get("status")}
-    body = text_of(entry, "body") if kind == "station" else None
-    return shown if body is None else shown | {"body": body}
-
-
-def text_of(entry, name):
-    """A text of a line, also where base64 has it; None where it is no text, or is not there."""
-    with contextlib.suppress(UnicodeDecodeError):
-        if f"{name}_base64" in entry:
-            return base64.b64decode(entry[f"{name}_base64"]).decode()
-    return entry.get(name)
-
-
-def hash_of(line):
-    return hashlib.sha256(line).hexdigest()
-
-
-def text_or_bytes(name, data):
-    """A text as it is; what is no text, or what a terminal may obey, in base64.
-
-    A character that is not printable may turn round what a terminal shows, or be written by JSON as six."""
-    try:
-        text = data.decode()
-    except UnicodeDecodeError:
-        text = None
-    if text is None or not all(part.isprintable() for part in re.split("[\t\r\n]+", text)):
-        return {f"{name}_base64": base64.b64encode(data).decode()}
-    return {name: text}
 
 
 class Limit:
@@ -529,30 +498,24 @@ class Recorder:
         self.two_of_board = two_of_board
 
     def history(self, station, fields):
-        """Who did what to a station, for a role that may see it."""
-        if fields["office-allowed"] != "1":
-            return FORBIDDEN
-        found = self.record.history(station)
-        if fields["office-role"] not in SEE_FIGURES:
-            for command in found["commands"]:
-                command.pop("body", None)
-                command.pop("answer", None)
+        """Who did what to a station, as a role may see it."""
+        found = self.record.history(station, fields["office-role"] in SEE_FIGURES)
         return Answer(200, json.dumps(found, ensure_ascii=False).encode())
 
     def typed(self, con, fields):
         """Who typed how many returns in the last hour, for the board; of any other name what it typed itself."""
-        if fields["office-allowed"] != "1":
-            return FORBIDDEN
         found = self.record.typed(con)
         if fields["office-role"] != "board":
             found["names"] = [row for row in found["names"] if row["name"] == fields["office-name"]]
         return Answer(200, json.dumps(found).encode())
 
     def answered(self, method, path, fields, body):
-        if method == "GET" and path.startswith("/history/"):
-            return self.history(path.removeprefix("/history/"), fields)
-        if method == "GET" and path.startswith("/typed/"):
-            return self.typed(path.removeprefix("/typed/"), fields)
+        if method == "GET" and path.startswith(("/history/", "/typed/")):
+            if fields["office-allowed"] != "1":
+                return FORBIDDEN
+            _, what, code = path.split("/", 2)
+            read = self.history if what == "history" else self.typed
+            return self.record.reading.passed(fields["office-name"], lambda: read(code, fields)) or TOO_MANY
         if method != "POST":
             return NOT_ALLOWED
         name, role = fields["office-name"], fields["office-role"]
@@ -598,7 +561,11 @@ class Recorder:
                 except http.client.HTTPException:
                     found = Answer(None)
                 if found.status != 200:
-                    return self.answer(self.record.add(entry), found if found.status in UNKNOWN else NO_DESK)
+                    # The line says itself that the request was not sent: nothing was done by it.
+                    found = found if found.status in second_name.NOT_SENT else NO_DESK
+                    self.record.add(entry | {"status": found.status})
+                    self.record.sync()
+                    return found
                 self.record.settled(self.office)
             number, waiting = self.record.add_of_board(entry)
             self.record.sync()
@@ -663,6 +630,7 @@ def main():
     command.add_argument("--setup", type=Path, metavar="FILE", help="setup.json, as setup-json writes it")
     command.add_argument("--shown", type=Path, metavar="FILE", help="what the press pages have shown of the record: record.csv")
     command.add_argument("--two-of-board", action="store_true", help="a lot, a certificate, a reopening and a vacancy need two names")
+    command.add_argument("--staff", type=Path, metavar="FILE", help="staff.conf: of two names the first has to be of the board still")
     given = command.parse_args()
     try:
         file = given.setup
@@ -679,7 +647,7 @@ def main():
     # Who asks while the record is read waits.
     listeners = [listen(given.folder / f"{office}.sock", given.group) for office in range(1, len(desks) + 1)]
     csv.field_size_limit(sys.maxsize)
-    record, limit = Record(given.record, given.room, setup, shown), Limit()
+    record, limit = Record(given.record, given.room, setup, shown, given.staff), Limit()
     if record.fault:
         print(f"no command is done: {record.fault}", file=sys.stderr, flush=True)
     elif given.shown and record.number and not shown:

@@ -7,15 +7,23 @@ again. A vacancy changes neither. All of this follows from the lines of the reco
 so that the recorder knows after a start what it knew before.
 """
 
+import itertools
 import json
-from datetime import datetime, timedelta
+from datetime import UTC, datetime, timedelta
 
 from record_index import UNKNOWN
 
 ACTS = ("draw", "certify", "reopen", "vacate")
+# What a change that ends a wait is of: acts of the board change the edition, and the others a
+# return. After a command whose answer is not known it may be either.
+EDITION, RETURN, UNSURE = "edition", "return", "unknown"
 PATIENCE = timedelta(hours=1)
 # The status of a request that waits for a second name.
 WAITS = 202
+# The status of a request in its own line that was not sent: the office did not say what it has.
+NOT_SENT = (502, 503, 504)
+# What waits in vain is looked for once in this time, and an answer names this many that wait.
+FORGET, NAMED = timedelta(minutes=1), 5
 # In the place of a constituency: nobody knows which one, or none.
 ANY, NONE = None, False
 
@@ -59,6 +67,8 @@ class Waiting:
         # The commands without an answer by their numbers: the office, and what each may change. And
         # the offices that may yet do a command whose answer is not known.
         self.under_way, self.unsettled = {}, set()
+        # When those that wait in vain were forgotten.
+        self.forgot = datetime.min.replace(tzinfo=UTC)
 
     def take(self, entry):
         """A line of the record, after the line before it: a command, or an answer."""
@@ -67,7 +77,8 @@ class Waiting:
             return
         self.of_board(entry)
         if "status" not in entry:
-            self.under_way[entry["n"]] = entry["office"], self.changed_by(entry["path"])
+            what = EDITION if needs_two(entry["path"]) else RETURN
+            self.under_way[entry["n"]] = entry["office"], self.changed_by(entry["path"]), what
 
     def of_board(self, entry):
         """A command of the record, as a line has it: it waits, or it has found its second name."""
@@ -90,32 +101,34 @@ class Waiting:
     def answered(self, entry):
         """An answer, in the order in which the office did the commands. After a command that was accepted, whatever was sent
         before is done, or never will be. An office that a failed disk has shut refuses too, as what it cannot read."""
-        office, con = self.under_way.pop(entry["to"], (ANY, ANY))
+        office, con, what = self.under_way.pop(entry["to"], (ANY, ANY, UNSURE))
         if entry["status"] in UNKNOWN:
             self.unsettled.add(office)
         elif entry["status"] == 200:
             self.unsettled.discard(office)
         if not is_refused(entry):
-            self.end(office, con)
+            self.end(office, con, UNSURE if entry["status"] in UNKNOWN else what)
 
     def begin(self):
         """The recorder starts, after the last line: nobody knows what became of commands without an answer."""
         for number in list(self.under_way):
             self.answered({"to": number, "status": None})
 
-    def end(self, office, con):
-        """Ends what waits of a constituency."""
+    def end(self, office, con, why):
+        """Ends what waits of a constituency, since this has changed there."""
         for at in [at for at in self.requests if office in (ANY, at[0]) and con in (ANY, at[1])]:
             for request, given in self.requests.pop(at).items():
-                self.ended.setdefault(at, {}).setdefault(request, {}).update(given)
+                ended = {name: (*one, why) for name, one in given.items()}
+                self.ended.setdefault(at, {}).setdefault(request, {}).update(ended)
 
     def firsts(self, entry, moment):
         """The other names that gave this request in the last hour, by the numbers of their lines."""
         return {number: name for name, (number, _) in self.before(self.requests, entry, moment)}
 
     def too_early(self, entry, moment):
-        """The other names that gave this request in the last hour, before a change that has ended it: name and time."""
-        return [(name, first) for name, (_, first) in self.before(self.ended, entry, moment)]
+        """The other names that gave this request in the last hour, before a change that has ended it: name, time and
+        what has changed."""
+        return [(name, first, why) for name, (_, first, why) in self.before(self.ended, entry, moment)]
 
     @staticmethod
     def before(requests, entry, moment):
@@ -124,18 +137,23 @@ class Waiting:
                 if name != entry["name"] and timedelta(0) <= moment - one[1] < PATIENCE]
 
     def others(self, entry, moment):
-        """The other acts of the constituency that wait: the name, the time, the act and the body."""
-        return [(name, first, path.rpartition("/")[2], body)
-                for request, given in self.requests.get(con_of(entry), {}).items() if request != request_of(entry)
-                for _, path, body, _ in [request]
-                for name, (_, first) in given.items() if moment - first < PATIENCE]
+        """The last other acts of the constituency that wait: the name, the time, the act and the body."""
+        found = ((name, first, path.rpartition("/")[2], body)
+                 for request, given in reversed(self.requests.get(con_of(entry), {}).items()) if request != request_of(entry)
+                 for _, path, body, _ in [request]
+                 for name, (_, first) in reversed(given.items()) if moment - first < PATIENCE)
+        return list(itertools.islice(found, NAMED))[::-1]
 
     def forget(self, moment):
-        """Forgets the acts that wait in vain, so that they cost no memory."""
+        """Forgets the acts that wait in vain, so that they cost no memory: once a minute, since a name may have
+        thousands that wait."""
+        if abs(moment - self.forgot) < FORGET:
+            return
+        self.forgot = moment
         for some in (self.requests, self.ended):
             for con, requests in list(some.items()):
                 for request, given in list(requests.items()):
-                    for name in [name for name, (_, first) in given.items() if moment - first >= PATIENCE]:
+                    for name in [name for name, (_, first, *_) in given.items() if moment - first >= PATIENCE]:
                         del given[name]
                     if not given:
                         del requests[request]

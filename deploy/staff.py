@@ -63,3 +63,13 @@ def with_post(text, name, post):
         return found["before"] + name + found["space"] + post.value + found["after"]
 
     return LINE.sub(line, text)
+
+
+def board_of(file, con):
+    """Whether a name has the role of the board in a constituency now, by a file of names; each name has without one. (The proxy
+    reads a name whatever the letters' case.)"""
+    if file is None:
+        return lambda _: True
+    found = posts(file.read_text(encoding="utf-8", errors="replace"))
+    named = {name.lower() for name, post in found.items() if post.role == "board" and (post.cons is None or con in post.cons)}
+    return lambda name: name.lower() in named

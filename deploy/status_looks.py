@@ -1,10 +1,13 @@
 """The looks of `deploy/status`: each function looks at one part, and returns what it found."""
 
+import base64
+import csv
 import hashlib
 import http.client
 import json
 import os
 import pwd
+import re
 import shutil
 import socket
 import ssl
@@ -28,6 +31,8 @@ AHEAD = 60
 LARGEST = 64 * MEGABYTE
 # This many of the last acts of each office are compared with what it shows.
 LAST = 20
+# Of an import this many of its stations, so that what is kept of a look stays small.
+MOST_STATIONS = 2_000
 # The first line of a record has this as the hash of the line before it.
 FIRST = "0" * 64
 
@@ -117,21 +122,21 @@ def tried_as(user, address):
     return None if said == "refused" else said or f"{user} reaches it: its rules are not loaded"
 
 
-def look_at_port(address, user, rules, of):
-    """The port of the desk: who may not reach it is refused. A desk that is not there refuses
-    everybody, and is wrong itself."""
+def look_at_port(address, user, rules, of, part="port"):
+    """The port of the desk, or that at which the reader answers the press pages: who may not reach
+    it is refused. A desk that is not there refuses everybody, and is wrong itself."""
     try:
         if rules and "--open-port" in Path(rules).read_text(encoding="utf-8"):
-            return Found("port", True, "every program of this computer reaches it (--open-port)", of)
+            return Found(part, True, "every program of this computer reaches it (--open-port)", of)
     except (OSError, ValueError) as error:
-        return Found("port", False, f"{rules} cannot be read: {error}", of)
+        return Found(part, False, f"{rules} cannot be read: {error}", of)
     try:
         fault = tried_as(user, address)
     except KeyError:
         fault = f"there is no user {user}"
     except (OSError, ValueError) as error:
         fault = f"it cannot be tried as {user}: {error}"
-    return Found("port", not fault, fault or f"{user} is refused", of)
+    return Found(part, not fault, fault or f"{user} is refused", of)
 
 
 def look_at_recorder(file, of):
@@ -247,8 +252,9 @@ def look_at_certificate(file, least):
 
 class Acts:
     """The last acts of a record, as far as they were done: of each office the revision of a return
-    or the edition of a constituency to which each led, and the line of its answer. Those of the
-    last look are among them, since many may have followed since."""
+    or the edition of a constituency to which each led, and the line of its answer. Of a vacancy it
+    is that the candidate is gone, and of an import how many of these stations had a return after
+    it. Those of the last look are among them, since many may have followed since."""
 
     def __init__(self, before):
         self.before, self.new, self.commands, self.left = before, {}, {}, {}
@@ -257,17 +263,16 @@ class Acts:
         """A line of the record. An answer whose command came before the last look is left out."""
         if "to" not in entry:
             if "path" in entry and "status" not in entry:
-                self.commands[number] = str(entry["office"]), entry["path"].rpartition("/")[0]
+                self.commands[number] = entry
             return
-        office, target = self.commands.pop(entry["to"], (None, None))
-        if not office or entry["status"] != 200:
+        command = self.commands.pop(entry["to"], None)
+        if not command or entry["status"] != 200:
             return
-        said = json.loads(entry["answer"])
-        reached = said.get("rev", said.get("edition"))
+        target, reached, *more = led_to(command, json.loads(entry["answer"]), number)
         if isinstance(reached, int):
-            acts = self.new.setdefault(office, {})
+            acts = self.new.setdefault(str(command["office"]), {})
             acts.pop(target, None)
-            acts[target] = [reached, number]
+            acts[target] = [reached, number, *more]
             if len(acts) > LAST:
                 del acts[next(iter(acts))]
 
@@ -288,40 +293,96 @@ class Acts:
 
 
 def line_of(act):
-    _, (_, line) = act
+    _, (_, line, *_) = act
     return line
 
 
-def shown_by(address, target):
+def led_to(command, said, number):
+    """The state that an act led to, by its answer: of what it is, a number that no later act makes
+    smaller, and the stations of an import, which has the number of its line in its name."""
+    target = command["path"].rpartition("/")[0]
+    if said.get("ok") == "vacated":
+        body = json.loads(command["body"])
+        return f"{target} {body['list']} {body['place']}", 1
+    if said.get("ok") != "import":
+        return target, said.get("rev", said.get("edition"))
+    stations = stations_in(command)[:MOST_STATIONS]
+    # Each of the others had a return before, or has one now.
+    least = max(0, len(stations) - said["bad"] - said["refused"])
+    con = re.match("/con/[^/]+", target)[0]
+    return f"{con} import {number}", least or None, stations
+
+
+def stations_in(command):
+    """The stations of a file of returns that was imported."""
+    body = command.get("body")
+    if body is None:
+        body = base64.b64decode(command["body_base64"]).decode("utf-8-sig")
+    separator = ";" if command["path"].endswith("/semicolon") else ","
+    rows = csv.reader(body.removeprefix("\ufeff").splitlines(), delimiter=separator)
+    # (the office passes over blank lines, also above the header)
+    return list(dict.fromkeys(row[0] for row in [row for row in rows if row][1:] if row[0]))
+
+
+def shown_by(address, target, stations=()):
     """The revision of a return, or the edition of a constituency, that an office shows: 0 where it
-    has no such return, None where it does not say it now."""
+    has no such return, None where it does not say it now. Of a vacancy 1 where the candidate is
+    gone, and of an import how many of these stations have a return."""
+    target, *more = target.split(" ")
+    is_import = more[:1] == ["import"] and len(more) == 2 and bool(stations)
     try:
         with closing(http.client.HTTPConnection(address, timeout=PATIENCE)) as connection:
-            connection.request("GET", target)
+            connection.request("GET", f"{target}/stations" if is_import else target)
             answer = connection.getresponse()
-            said = json.loads(answer.read())
-            found = 0 if answer.status == 404 else said.get("rev", said.get("edition"))
+            text = answer.read()
+            if answer.status == 404:
+                return 0
+            if is_import:
+                return returned(text.decode(), stations) if answer.status == 200 else None
+            said = json.loads(text)
+            if more:
+                return int(any([one["list"], str(one["place"])] == more for one in said["gone"]))
+            found = said.get("rev", said.get("edition"))
             return found if isinstance(found, int) else None
-    except (OSError, http.client.HTTPException, ValueError, AttributeError, RecursionError):
+    except (OSError, http.client.HTTPException, ValueError, AttributeError, KeyError, TypeError,
+            RecursionError):
         return None
+
+
+def returned(table, stations):
+    """How many of these stations have a return, by the report of all stations: after the code, the
+    electors and a blank it has a status, or a hyphen."""
+    there = {line[:16].strip() for line in table.splitlines()[2:] if line[25:26] not in ("-", "")}
+    return len(there & set(stations))
+
+
+def words_of(target, reached):
+    """The state that an act led to, in words."""
+    target, *more = target.split(" ")
+    if more[:1] == ["import"]:
+        return f"{reached} station{'' if reached == 1 else 's'} of a file of {target} had a return"
+    if more:
+        return f"{' '.join(more)} of {target} was gone"
+    return f"{target} came to {reached}"
 
 
 def look_at_acts(address, number, acts, lacking, of):
     """Whether an office has what it did by the record, which was read before. Revisions and
-    editions only grow: whatever is done meanwhile, an office that shows a smaller one was put back
-    to an earlier moment. One that does not answer is wrong itself."""
+    editions only grow, no return goes, and who is gone stays so: whatever is done meanwhile, an
+    office that shows less was put back to an earlier moment. One that does not answer is wrong
+    itself."""
     compared = 0
-    for target, (reached, line) in acts.of(number).items():
-        if (found := shown_by(address, target)) is None:
+    for target, (reached, line, *more) in acts.of(number).items():
+        if (found := shown_by(address, target, *more)) is None:
             acts.leave(number, compared)
             break
         compared += 1
         if found < reached:
-            lacking.setdefault(number, {})[target] = [reached, line]
+            lacking.setdefault(number, {})[target] = [reached, line, *more]
     if lacks := lacking.get(number):
-        target, (reached, line) = min(lacks.items(), key=line_of)
+        target, (reached, line, *_) = min(lacks.items(), key=line_of)
         return Found("acts", False, f"it was put back to an earlier moment: it lacks what line {line} "
-                     f"of the record answered, by which {target} came to {reached}", of)
+                     f"of the record answered, by which {words_of(target, reached)}", of)
     return Found("acts", True, f"of the last acts of the record it has all {compared} that were "
                  "compared", of)
 
@@ -416,7 +477,8 @@ def followed_on(lines, before, end, head, whole, acts=None):
             raise Broken(f"line {number} does not follow from the line before it")
         if acts and entry is not None:
             # (what no recorder wrote is no act)
-            with suppress(KeyError, ValueError, TypeError, AttributeError, RecursionError):
+            with suppress(KeyError, ValueError, TypeError, AttributeError, RecursionError,
+                          csv.Error):
                 acts.take(number, entry)
         last = hash_of(line)
         of_head = last if head and head["n"] == number else of_head

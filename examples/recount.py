@@ -179,7 +179,7 @@ def read_lots(file, cons):
 def address(file):
     """The address at which SQLite reads a database. Where no log is beside it, or one without a byte,
     nothing is made there either; an index of a log that is gone (-shm) is passed over."""
-    log = Path(f"{file}-wal")
+    log = Path(f"{Path(file).resolve()}-wal")
     how = "mode=ro" if log.exists() and log.stat().st_size else "mode=ro&immutable=1"
     return f"{file.as_uri()}?{how}"
 

@@ -274,12 +274,15 @@ function lotOf({ others }) {
   return Array.isArray(order) ? [...order].sort() : null;
 }
 
-// Until when a request waits for a second name, who asked for the same before a return changed, and
-// what others asked for in its place.
+// Until when a request waits for a second name, who asked for the same before a return or the
+// edition changed, and what others asked for in its place.
 function waitsFor({ until, others, too_early: early = [] }) {
   const titles = { draw: T.draw_title, certify: T.certify_title, reopen: T.reopen_title, vacate: T.vacate_title };
   const more = others.map(({ name, act, body }) => T.other_waits({ name, act: titles[act], said: saidOf(read(body)) }));
-  const ended = early.map(({ name, time }) => T.too_early({ name, time: moment(new Date(time)) }));
+  const ended = early.map(({ name, time, changed }) =>
+    changed === "return" ? T.too_early_return({ name, time: moment(new Date(time)) })
+      : changed === "edition" ? T.too_early_edition({ name, time: moment(new Date(time)) })
+        : T.too_early_unknown({ name, time: moment(new Date(time)) }));
   return [T.waits_for_name({ until: moment(new Date(until)) }), ...ended, ...more].join(" ");
 }
 
@@ -315,7 +318,7 @@ async function look() {
   const con = shown.con, station = shown.station;
   shown.view = shown.found = null;
   const [result, seen] = await Promise.all([
-    ask("GET", `/now/con/${con}/result`), station && !blind() ? ask("GET", `/now/station/${encodeURIComponent(station)}`) : null, learnSite()]);
+    resultOf(con), station && !blind() ? ask("GET", `/now/station/${encodeURIComponent(station)}`) : null, learnSite()]);
   const view = shown.view = result.ok ? viewOf(result.value) : null;
   // Who does not see a return learns its revision from the list, where some were corrected.
   const isOld = view && (isListed || (station && blind() && view.queried + view.corrected)), open = isOld ? await listStations() : null;
@@ -335,6 +338,20 @@ async function look() {
   // Before the hour from which results are public a station sees its own return alone.
   const isClosed = result.status === 403 && person.role === "station";
   return (result.ok || isClosed ? "" : ` ${sentence(result)}`) + (!found || shown.found ? "" : there ? ` ${UNKNOWN}` : ` ${sentence(found)}`);
+}
+
+// The result of the office. A site that shows no seat before it is certified has none for a station
+// and for who enters slips a second time: two tables without seats have what they need of it.
+async function resultOf(con) {
+  const result = await ask("GET", `/now/con/${con}/result`);
+  if (result.status !== 404 || result.value || !["second", "station"].includes(person.role)) return result;
+  const [view, progress] = await Promise.all([ask("GET", `/now/con/${con}`), ask("GET", "/now/progress")]);
+  const row = progress.text.split("\n").map((line) => line.trim().split(/ +/)).find(([code]) => code === con);
+  if (!view.ok || !row) return view.ok ? { ...progress, ok: false } : view;
+  const [stations, , received, queried, corrected, closed] = row.slice(1).map(Number), { votes, seats, gone } = view.value;
+  return { ...view, value: { ...view.value, stations, received, queried, corrected, closed,
+    lists: votes.map((many, place) => ({ votes: many, seats: seats[place] })), holders: [],
+    gone: gone.map(({ list, place, note }) => [list, place, note]) } };
 }
 
 // In place of an answer: the revision that a lodged return has, or a later one that an answer

@@ -4,6 +4,7 @@ would obey."""
 import base64
 import json
 import os
+import tracemalloc
 from datetime import datetime
 from pathlib import Path
 
@@ -184,6 +185,32 @@ class Entries(SiteCase):
                                      input=record, capture_output=True, timeout=PATIENCE)
                     self.assertEqual((done.returncode, done.stdout), (2, b""))
                     self.assertIn(said, done.stderr)
+
+
+    def test_a_file_of_zeros(self):
+        """It takes no room on the disk, and little memory: no row is read to an end that it has
+        not."""
+        os.truncate(os.open("zeros.csv", os.O_RDWR | os.O_CREAT), 64 << 20)
+        head, longest = "time,lines,sha256\n", f"{'2' * 188},7,{'a' * 64}"
+        files = {"long.csv": f"{head}2{longest}\n", "cut.csv": head + "22" + longest,
+                 "right.csv": f"{head}{longest}\n"}
+        for name, text in files.items():
+            Path(name).write_text(text, encoding="utf-8")
+        said = "one of its rows has more than 256 characters"
+        for name in ("zeros.csv", "long.csv", "cut.csv"):
+            with self.subTest(name=name):
+                tracemalloc.start()
+                with self.assertRaisesRegex(ValueError, said):
+                    chain.read_shown(name)
+                self.assertLess(tracemalloc.get_traced_memory()[1], 1 << 20)
+                tracemalloc.stop()
+        self.assertEqual(chain.read_shown("right.csv"), {7: {"a" * 64}})
+        for words in (["entries", "setup.toml"], ["replay", "--check"]):
+            Path("setup.toml").write_text(TWO_TOWNS, encoding="utf-8")
+            done = tools.run([DEPLOY / words[0], *words[1:], "--shown", "zeros.csv"], input=b"",
+                             capture_output=True, timeout=PATIENCE)
+            self.assertEqual((done.returncode, done.stdout), (2, b""))
+            self.assertIn(said.encode(), done.stderr)
 
 
 class Shown(Safeguards):

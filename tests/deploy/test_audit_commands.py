@@ -243,6 +243,18 @@ class AuditCommands(Case):
         self.assertEqual(run(f"plan {GIVEN} --risk 5"),
                          Ran(2, "", "audit.py: c1: no list takes part\n"))
 
+    def test_keys_that_mean_nothing(self):
+        """Those of a constituency that are named like a rule's change nothing, as in the office."""
+        given(returns=RETURNS)
+        plan = run(f"plan {GIVEN} --risk 5")
+        text = Path("setup.toml").read_text(encoding="utf-8")
+        for key in ('method = "hare"', "threshold = 5000", 'base = "lists"'):
+            Path("setup.toml").write_text(text.replace("seats = ", f"{key}\nseats = ", 1))
+            said = run(f"plan {GIVEN} --risk 5")
+            # (the last lines are the hashes of the files)
+            self.assertEqual(said.out.splitlines()[:-2], plan.out.splitlines()[:-2])
+            self.assertEqual(said.status, 0)
+
     def test_the_files_that_an_office_publishes(self):
         """The pages of an office have what a plan needs, and it is what the example has."""
         shutil.copy(ROOT / "examples/montehondo.db", "office.db")

@@ -46,6 +46,12 @@ class Backup(SiteCase):
             [copy] = Path("copies").iterdir()
             self.assertTrue(re.fullmatch(r"office-\d{8}T\d{6}Z\.db", copy.name), copy)
             self.assertEqual(out, f"copied office.db to copies/{copy.name}\nmontehondo agrees\n")
+            # Through a link too the log is copied, which lies beside the database.
+            Path("links").mkdir()
+            Path("links/link.db").symlink_to(Path("office.db").resolve())
+            self.assertEqual(backup("links/link.db", "of_link")[0], 0)
+            [of_link] = Path("of_link").iterdir()
+            self.assertEqual(of_link.read_bytes(), copy.read_bytes())
             # Nothing has changed: no second copy.
             self.assertEqual(backup("office.db", "copies"),
                              (0, f"copies/{copy.name} is the same already\n", ""))
@@ -276,6 +282,13 @@ class Backup(SiteCase):
         self.assertRegex(copy.name, r"^office-\d{8}T\d{6}Z-00000004\.db$")
         self.assertEqual(backup("office.db", "copies", "commands.log"),
                          (0, f"{copy} is the same already\n", ""))
+        # After more lines the same copy has another name: it lacks nothing of these either.
+        with open("commands.log", "ab") as it:
+            it.write(b"five\n")
+        status, out, said = backup("office.db", "copies", "commands.log")
+        [copy] = Path("copies").iterdir()
+        self.assertEqual((status, out, said), (0, f"{copy} is the same already\n", ""))
+        self.assertRegex(copy.name, r"^office-\d{8}T\d{6}Z-00000005\.db$")
         status, _, said = backup("office.db", "others", "missing.log")
         self.assertEqual((status, said), (0, ""))
         self.assertRegex(os.listdir("others")[0], r"^office-\d{8}T\d{6}Z-00000000\.db$")

@@ -6,6 +6,7 @@ import hashlib
 import io
 import json
 import re
+import sys
 from datetime import UTC, datetime
 from pathlib import Path
 from unittest import mock
@@ -17,7 +18,7 @@ from tests.support.office import with_stations
 from tests.support.pages import press, read
 from tests.support.published import entries
 from tests.support.scripts import module
-from tests.support.site import SiteCase
+from tests.support.site import DEPLOY, SiteCase, ran
 
 press_files = module("press_files")
 
@@ -50,6 +51,11 @@ def rounds_of_four():
 
             said_in_a_round.seen = a_round.seen
             yield said_in_a_round
+
+
+def said_by_press(port):
+    return ran(sys.executable, DEPLOY / "press.py", f"http://127.0.0.1:{port}", "pages",
+               "--setup", "setup.toml")
 
 
 class ChangedFiles(SiteCase):
@@ -106,8 +112,7 @@ class ChangedFiles(SiteCase):
             self.assertEqual(json.loads(said)["files"], {"con-norte.csv": wanted})
 
     def test_files_that_are_no_text(self):
-        """While the pages were away: each is made again, but for a withdrawn certificate's file,
-        which nobody can make, and the pages go on."""
+        """While the pages were away: each is made again, and the pages go on."""
         with four() as (office, port):
             press(port, "--setup", "setup.toml")
             before = {file.name: says(file.name) for file in Path("pages").iterdir()}
@@ -121,7 +126,99 @@ class ChangedFiles(SiteCase):
             Path("pages/stations-norte-2.csv").write_bytes(b"")
             done(office, "/con/norte/reopen", {"edition": 2, "note": "again"})
             press(port, "--setup", "setup.toml")
-            self.assertEqual(content("stations-norte-2.csv"), b"")
+            self.assertEqual(says("stations-norte-2.csv"), before["stations-norte-2.csv"])
+
+    def test_moments_that_are_none(self):
+        """A page that says one is made again, when the pages start and when it is marked as old."""
+        with four() as (office, port):
+            press(port, "--setup", "setup.toml")
+            names = ("con-norte.html", "con-norte.json", "feed.atom", "embed.html")
+            before = {name: says(name) for name in names}
+            for moment in ("x", "2026-11-30T20:00:00", "0001-01-01T00:00:00+14:00"):
+                for name in names:
+                    text = re.sub(r'(<time datetime="|"time": "|<updated>)[^"<]+',
+                                  rf"\g<1>{moment}", read(name))
+                    Path("pages", name).write_text(text, encoding="utf-8")
+                    rounds.mark_old(rounds.Site(), Path("pages", name))
+                press(port, "--setup", "setup.toml")
+                with self.subTest(moment=moment):
+                    self.assertEqual({name: says(name) for name in names}, before)
+
+    def test_links_and_folders_while_the_pages_were_away(self):
+        """A link is replaced, since the proxy serves none. A folder stays, since nobody knows what
+        is in it: it is named, and all the rest is written."""
+        with four() as (office, port):
+            press(port, "--setup", "setup.toml")
+            before = {file.name: says(file.name) for file in Path("pages").iterdir()}
+            names = ("con-norte.html", "list-A.html", "index.csv", "con-sur.json.gz", "feed.atom",
+                     "stations-norte-2.csv", "stations-oeste-open.csv", "site.json",
+                     "elected-1.html", "places-norte.csv")
+            names = [name for name in names if name in before]
+            self.assertGreater(len(names), 7)
+            for name in names:
+                Path("pages", name).rename(name)
+                Path("pages", name).symlink_to(Path(name).absolute())
+            said = said_by_press(port)
+            self.assertEqual((said.count("failed: "), " pages 5 failed 0 " in said), (1, True))
+            self.assertIn("stations-norte-2.csv: somebody else changed or removed it", said)
+            self.assertEqual([name for name in before if Path("pages", name).is_symlink()], [])
+            self.assertEqual({name: says(name) for name in names},
+                             {name: before[name] for name in names})
+            for name in names:
+                Path("pages", name).unlink()
+                Path("pages", name).mkdir()
+            said = said_by_press(port)
+            self.assertIn(" pages 5 failed 0 ", said)
+            for name in names:
+                self.assertIn(f"failed: pages/{name}: a folder is in its place\n", said)
+                Path("pages", name).rmdir()
+            said_by_press(port)
+            self.assertEqual({name: says(name) for name in names},
+                             {name: before[name] for name in names})
+            self.assertEqual({file.name for file in Path("pages").iterdir()}, before.keys())
+
+    def test_a_withdrawn_certificate_while_the_pages_were_away(self):
+        """Its file of returns is named and made again from the compressed one; nobody can make it
+        where both were changed."""
+        with four() as (office, port):
+            done(office, "/con/sur/certify", {"edition": 3})
+            said_by_press(port)
+            edition = json.loads(office.ask("GET", "/con/sur")[1])["edition"]
+            name = f"stations-sur-{edition}.csv"
+            words = f"{name}: somebody else changed or removed it"
+            done(office, "/con/sur/reopen", {"edition": edition, "note": "again"})
+            self.assertNotIn(words, said_by_press(port))
+            right, file = content(name), Path("pages", name)
+            compressed = Path("pages", f"{name}.gz")
+
+            def put_another():
+                file.write_bytes(right.replace(b"10", b"11"))
+
+            def put_link():
+                file.unlink()
+                file.symlink_to("index.csv")
+
+            for change in (put_another, file.unlink, put_link, lambda: file.write_bytes(b"\xff")):
+                change()
+                self.assertIn(words, said_by_press(port))
+                self.assertEqual((content(name), file.is_symlink()), (right, False))
+                self.assert_vouched_for()
+                self.assertNotIn(words, said_by_press(port))
+            # The compressed one alone was changed: it is made of the other.
+            compressed.write_bytes(gzip.compress(b"x", 6, mtime=0))
+            self.assertNotIn(words, said_by_press(port))
+            self.assertEqual(content(f"{name}.gz"), right)
+            # A manifest that is none, or is lost, says none of it.
+            before = read("manifest.json")
+            for text in ("", "[]", '{"files": [1]}', '{"files": {"stations-sur-4.csv": 1}}'):
+                Path("pages/manifest.json").write_text(text, encoding="utf-8")
+                self.assertNotIn(words, said_by_press(port))
+            self.assertEqual(read("manifest.json").count(name), before.count(name))
+            put_another()
+            compressed.write_bytes(gzip.compress(file.read_bytes(), 6, mtime=0))
+            self.assertIn(words, said_by_press(port))
+            self.assertEqual((file.exists(), compressed.exists()), (False, False))
+            self.assertNotIn(name, read("manifest.json"))
 
     def test_files_that_cannot_be_read(self):
         """As those that root puts there with rights for itself alone. They are made again while the
@@ -179,6 +276,30 @@ class ChangedFiles(SiteCase):
                     a_round()
                 self.assertFalse(Path("pages/stations-c1-2.csv").exists())
 
+    def test_pages_that_were_made_of_exchanged_stations(self):
+        """A first round has not the time to ask the office of each constituency: pages that were
+        made meanwhile of what somebody wrote are made again once the office has said it."""
+        setup = with_stations(2)
+        with modelled(setup) as (office, port):
+            done(office, "/con/c1/import", f"{COLUMNS}s1,p1,0,0,100,50\ns2,p2,0,0,20,60\n")
+            for code in ("s1", "s2"):
+                done(office, f"/station/{code}/close", {"rev": 1})
+            done(office, "/con/c1/certify", {"edition": 1})
+            Path("setup.toml").write_text(setup, encoding="utf-8")
+            press(port, "--setup", "setup.toml")
+            right = {file.name: says(file.name) for file in Path("pages").glob("*c1*.[ch]*")}
+            exchanged = f"{COLUMNS}s1,p1,0,0,20,60\ns2,p2,0,0,100,50\n"
+            Path("pages/stations-c1-2.csv").write_text(exchanged, encoding="utf-8")
+            Path("pages/stations-c1-2.csv.gz").write_bytes(gzip.compress(exchanged.encode()))
+            with rounds_of(lambda target: office.ask("GET", target), setup) as a_round:
+                a_round(seconds=-1.0)
+                self.assertNotEqual({name: says(name) for name in right}, right)
+                said = io.StringIO()
+                with contextlib.redirect_stderr(said):
+                    a_round()
+                self.assertEqual({name: says(name) for name in right}, right)
+                self.assertIn("stations-c1-2.csv: somebody else changed it", said.getvalue())
+
     def test_a_feed_that_somebody_changed(self):
         """Its entries say what the office bears out, with the moments that they had."""
         with four() as (_, port):
@@ -187,6 +308,9 @@ class ChangedFiles(SiteCase):
             self.assertIn("<summary>A 2, B 1</summary>", before)
             for old, new in (("<summary>A 2, B 1</summary>", "<summary>A 1, B 2</summary>"),
                              ("certified in edition 2", "certified in edition 9"),
+                             ("with 50.00%", "with 49.00%"), ("with 50.00%", "with 100.00%"),
+                             ("Óeste &lt;3&gt;", "Norte"),
+                             (": provisional seats, with", ": certified seats, with"),
                              ("a recount", "a mistake"), ("con-norte.html", "con-sur.html")):
                 with self.subTest(old=old):
                     self.assertIn(old, before)

@@ -21,7 +21,7 @@ from tests.support.desks import desk_with
 from tests.support.office import with_stations
 from tests.support.recorder import recorder_alone, recorder_at
 from tests.support.running import PATIENCE, until
-from tests.support.safeguards import Safeguards
+from tests.support.safeguards import TWO_TOWNS, Safeguards
 from tests.support.scripts import loaded, module
 from tests.support.site import DEPLOY, SiteCase, plain, serving
 
@@ -142,6 +142,21 @@ class Changes(Safeguards):
             self.assertEqual(board("/station/s1/correct", allowed="0")[0], 403)
             self.assertEqual(board(CERTIFY, name="simon")[0], 200)
 
+    def test_why_it_ended(self):
+        """The page says which change there was: a return, the edition, or one of both."""
+        for path, answer, changed in (
+                ("/station/s1/correct", None, "return"), ("/con/c1/import", None, "return"),
+                ("/con/c1/draw", None, "edition"), ("/con/c1/reopen", None, "edition"),
+                ("/station/s1/close", (504, "{}"), "unknown"),
+                ("/con/c1/draw", (504, "{}"), "unknown")):
+            Path("commands.log").unlink(missing_ok=True)
+            with self.subTest(path=path, answer=answer), two_names() as desk:
+                if answer:
+                    desk.answers[path] = answer
+                self.assertEqual(first_and_then(path), (202, ["berta"]))
+                said_of = json.loads(board(CERTIFY, name="simon")[1])
+                self.assertEqual([one["changed"] for one in said_of["too_early"]], [changed])
+
     def test_an_answer_that_is_not_known(self):
         """Nobody knows what the office did, or will do yet: it is asked before the next name is the
         first one."""
@@ -187,8 +202,34 @@ class Changes(Safeguards):
             self.assertNotIn(CERTIFY, desk.asked)
             desk.answers.clear()
             self.assertEqual(asked_by("berta", "simon"), [202, 200])
-            self.assertEqual([line["status"] for line in record() if "to" in line],
-                             [None] * 3 + [200])
+            self.assertEqual([line["status"] for line in record() if "to" in line], [None, 200])
+            # Those that were not sent say so in their own lines.
+            self.assertEqual([(line["name"], line["status"]) for line in record()
+                              if "status" in line and "to" not in line],
+                             [("berta", 502), ("simon", 502), ("berta", 202)])
+
+    def test_a_request_that_was_not_sent(self):
+        """It ends nothing that waits: neither in the recorder, nor where it starts again, nor for
+        `entries`."""
+        Path("setup.toml").write_text(TWO_TOWNS, encoding="utf-8")
+        there = "/con/c2/certify"
+        with two_names() as desk:
+            self.assertEqual(board(there)[0], 202)
+            for answer, status in ((None, 502), ((504, "{}"), 504)):
+                desk.answers.update({"/station/s1/correct": answer, "/progress": answer})
+                board("/station/s1/correct", role="clerk")
+                self.assertEqual(board(there, name="simon")[0], status)
+            desk.answers.clear()
+            self.assertEqual(desk.asked.count(there), 0)
+            self.assertEqual(board(there, name="simon")[0], 200)
+        whole = Path("commands.log").read_bytes().splitlines(keepends=True)
+        self.assertEqual([line["first"] for line in record() if "first" in line], [2])
+        said = tools.run([DEPLOY / "entries", "setup.toml"], input=b"".join(whole),
+                         capture_output=True, timeout=PATIENCE).stdout.decode().splitlines()
+        self.assertEqual([line for line in said if "certify" in line], [])
+        Path("commands.log").write_bytes(b"".join(whole[:-2]))
+        with two_names():
+            self.assertEqual(board(there, name="simon")[0], 200)
 
     def test_an_office_that_a_failed_disk_has_shut(self):
         """Its next opening finds the change done, or not: until then no name is the first one."""

@@ -89,6 +89,12 @@ class CopyAndRecord(OfPapers):
                 "DELETE FROM lots")
         self.entries([f"montehondo: the office has no lot, {NEVER}"],
                      lacks=(64, "montehondo at edition 2"))
+        # Lists that are not there are named, and nothing else is left out.
+        for place in (9, 0):
+            with self.subTest(place=place):
+                copy_of(*DRAWN, f"UPDATE lots SET list = {place} WHERE place = 2")
+                self.entries(["montehondo: the office has the lot ENCINA, "
+                              f"list {place} (not there), {NEVER}"])
 
     def test_a_query_removes_the_lot(self):
         """After it the constituency has none, until there is another draw."""
@@ -194,6 +200,13 @@ class CopyAndRecord(OfPapers):
                 self.entries([f"montehondo: the office {said}"])
                 self.refuses("the record says something else of montehondo than the copy", "acts",
                              "--record", "commands.log")
+        # A key of a constituency that means nothing to the office is no rule of it.
+        stray = Path("setup.toml").read_text(encoding="utf-8").replace(
+            "[[constituency]]", "[[constituency]]\nrule = 1\nmost = {}", 1)
+        Path("setup.toml").write_text(stray, encoding="utf-8")
+        copy_of(*recorded_twice, setup_with(EXAMPLES, stray))
+        self.entries()
+        Path("setup.toml").write_text(EXAMPLES, encoding="utf-8")
         # The record has not the return of a station: what the certificate gave is not known.
         copy_of(*recorded_twice, "UPDATE past SET n = 7 - n WHERE list < 3")
         lines = [json.loads(line) for line in Path("commands.log").read_bytes().splitlines()]

@@ -14,6 +14,7 @@ import http.client
 import json
 import os
 import re
+import shutil
 import signal
 import socket
 import sqlite3
@@ -485,6 +486,24 @@ class TheLifeOfADesk(unittest.TestCase):
         self.assertEqual([line["n"] for line in lines], list(range(1, len(lines) + 1)))
         self.assertEqual([line["name"] for line in lines if "name" in line], ["clerk-1", "ana"])
 
+    def test_a_copy_with_another_ending_has_a_record_and_pages_of_its_own(self):
+        """Nothing that is tried with it is in those of the database of which it is a copy."""
+        desk = self.started().opened()
+        desk.ask("clerk-1", "POST", "/station/s1/lodge", SLIP)
+        self.assertEqual(desk.ended(signal.SIGINT)[0], 0)
+        record = self.folder / "evening.commands.log"
+        before = record.read_bytes()
+        shutil.copy(desk.db, self.folder / "evening.bak")
+        copy = self.started(db="evening.bak").opened()
+        closed = copy.ask("clerk-1", "POST", "/station/s1/close", {"rev": 1})
+        self.assertEqual(closed.text, '{"ok":"moved","rev":2}')
+        for name in ("evening.bak.commands.log", "evening.bak.pages"):
+            self.assertIn(f"{self.folder}/{name}", copy.said)
+        self.assertEqual(copy.ended(signal.SIGINT)[0], 0)
+        self.assertEqual(record.read_bytes(), before)
+        self.assertIn('"path": "/station/s1/close"',
+                      (self.folder / "evening.bak.commands.log").read_text(encoding="utf-8"))
+
     def test_a_port_that_is_taken_is_named(self):
         first = free_ports(3)
         with socket.create_server(("127.0.0.1", first + 1)):
@@ -515,6 +534,7 @@ class TheLifeOfADesk(unittest.TestCase):
         (self.folder / "left.commands.log").write_text("", encoding="utf-8")
         (self.folder / "broken.toml").write_text("[[profile]\n", encoding="utf-8")
         (self.folder / "text.db").write_text("no database", encoding="utf-8")
+        shutil.copy(self.folder / "other.db", self.folder / "other")
         before = {file: file.read_bytes() for file in self.folder.iterdir()}
         table = (
             ({"db": "other.db"}, (), "was made from another setup than"),
@@ -522,6 +542,7 @@ class TheLifeOfADesk(unittest.TestCase):
             ({"db": "text.db"}, (), "text.db is in use by another program, as by another desk, "
                                     "or cannot be read and written"),
             ({"db": "no/such/folder.db"}, (), "no database was made from"),
+            ({"db": "other"}, (), "other.db has the same record and the same pages as"),
             ({"db": "a.db"}, ("--name", "station:s3"), "s3 is no station of"),
             ({"db": "b.db"}, ("--name", "board:S2"), "S2 is the code of a station"),
             ({"db": "c.db"}, ("--office", "/no/such/program"), "/no/such/program is no program"),

@@ -200,6 +200,19 @@ class RoutesAndRoles(unittest.TestCase):
                 wanted = sees.value(f"{role}:{name}:{it.station}") == "1"
                 self.assertEqual(it.is_allowed(name, role), wanted)
 
+    def test_each_role_has_the_same_reports_below_now(self):
+        there, hidden = Map(TEXT, "is_there"), set()
+        for target, role, is_hidden in itertools.product(TARGETS, desk_roles.ROLES, (False, True)):
+            found, wanted = desk_roles.request_of(target), located(target)
+            if found and found.kind == "now":
+                with self.subTest(target=target, role=role, is_hidden=is_hidden):
+                    asks = "Office-There $is_there" in wanted[0].text
+                    said = there.value(f"{'1' if is_hidden else ''}:{role}") == "1" or not asks
+                    self.assertEqual(found.is_there(role, is_hidden), said)
+                    hidden |= set() if said else {(target, role)}
+        targets = ("/now/results", "/now/con/c1/provisional", "/now/con/c1/result")
+        self.assertEqual(hidden, set(itertools.product(targets, ("second", "station"))))
+
     def test_a_body_may_have_the_same_length(self):
         too_long = Map(TEXT, "is_too_long")
         lengths = (0, 1, 9, 10, 9999, 10_000, 16_383, 16_384, 16_385, 99_999, 1_048_575, 1_048_576,

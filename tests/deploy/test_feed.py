@@ -6,7 +6,7 @@ import sys
 import time
 from pathlib import Path
 
-from tests.support.desks import answering_desk
+from tests.support.desks import answering_desk, done, modelled
 from tests.support.office import with_stations
 from tests.support.pages import REOPENED, RESULT, TWIN, press, read, results_of
 from tests.support.published import (
@@ -103,6 +103,28 @@ class Feed(SiteCase):
         # The office has the other one no more.
         publish(TWIN)
         self.assertEqual(len(entries()), 1)
+
+    def test_how_much_was_counted(self):
+        """The title of provisional seats keeps the share that was counted when they were first
+        these, where it is one that there was."""
+        setup = with_stations(3)
+        Path("setup.toml").write_text(setup, encoding="utf-8")
+        with modelled(setup) as (office, port):
+            for code, share in (("s1", "33.33"), ("s2", "33.33")):
+                done(office, f"/station/{code}/lodge",
+                     {"slip": "p1", "votes": [100, 50], "blank": 0, "spoiled": 0})
+                done(office, f"/station/{code}/close", {"rev": 1})
+                press(port, "--setup", "setup.toml")
+                self.assertIn(f"with {share}% of the polling stations counted", read("feed.atom"))
+            said = read("feed.atom")
+            for other, wanted in (("33.33", "33.33"), ("66.67", "66.67"), ("100.00", "66.67"),
+                                  ("33.34", "66.67"), ("0.00", "66.67"), ("", "66.67"),
+                                  ("33.33\n", "66.67"), ("3333", "66.67")):
+                with self.subTest(share=other):
+                    Path("pages/feed.atom").write_text(said.replace("33.33", other),
+                                                       encoding="utf-8")
+                    press(port, "--setup", "setup.toml")
+                    self.assertIn(f"with {wanted}% of the polling", read("feed.atom"))
 
     def test_the_data_of_an_election(self):
         """The first election of the README, by the office itself: it is certified, a seat is

@@ -104,6 +104,35 @@ OFFICE = """
 """
 
 
+# The same office where it has no result for a name.
+HIDDEN = """
+  const [role, away] = arguments, asked = [], texts = { progress:
+    "c11                   9      9      0      0      0      0      1 open\\n" +
+    "c1                   20      3      5      1      1     10      4 open\\n" };
+  ask = async (method, target) => {
+    const what = target.split("/").at(-1);
+    asked.push(what);
+    return what === away ? { ok: false, status: 502, text: "", value: null }
+      : what === "result" ? { ok: false, status: 404, text: "", value: null }
+      : { ok: true, status: 200, text: texts[what] || "", value: what === "c1"
+        ? { blank: 1, certified: false, closed: 10, con: "c1", edition: 4, entry: "double",
+            gone: [{ list: "A", note: "resigned", place: 2 }], lot: [], note: "", seats: [],
+            spoiled: 2, stations: 20, votes: [30, 20] }
+        : { station: "s1", status: "received", rev: 1, slip: "p1", votes: [1, 2], blank: 0,
+            spoiled: 0, note: "" } };
+  };
+  person = { name: "clara", role };
+  shown = { con: "c1", view: null, station: "s1", found: null };
+  return look().then((trouble) => ({ trouble, asked: asked.slice(0, 4),
+    progress: element("progress-line").textContent, view: shown.view && [
+      shown.view.edition, shown.view.certified, shown.view.entry, shown.view.votes,
+      shown.view.missing, shown.view.queried + shown.view.corrected, shown.view.gone.length] }));
+"""
+VIEW = [4, False, "double", [30, 20], 3, 2, 1]
+COUNTED = ("10 of 20 stations closed; without a return 3, received 5, queried 1, corrected 1. "
+           "Waiting for their second entry: 6.")
+
+
 class Functions(Case):
     may_leave_files = True
 
@@ -126,11 +155,19 @@ class Functions(Case):
             found = it.run(f"{KNOWN} return waitsFor(arguments[0])", waiting)
             self.assertIn("Waiting too, by simon: A holder leaves: A 2, ", found)
             self.assertIn("resigned", found)
+            self.assertIn("or a lot is recorded there, or a certificate given or withdrawn, both "
+                          "names have to ask again", found)
             self.assertNotIn("asked for the same before", found)
-            found = it.run(f"{KNOWN} return waitsFor(arguments[0])", waiting | {"too_early": [
-                {"name": "berta", "time": "2026-11-29T21:00:00+01:00"}]})
-            self.assertIn("berta asked for the same before (", found)
-            self.assertIn("have berta ask again", found)
+            for changed, why in (("return", "a return of the constituency has changed since"),
+                                 ("edition", "a lot was recorded, or a certificate given or"),
+                                 ("unknown", "nobody knows whether a later request was done"),
+                                 (None, "nobody knows whether a later request was done")):
+                found = it.run(f"{KNOWN} return waitsFor(arguments[0])", waiting | {"too_early": [
+                    {"name": "berta", "time": "2026-11-29T21:00:00+01:00", "changed": changed}]})
+                self.assertIn("berta asked for the same before (", found)
+                self.assertIn(f"no longer counts: {'since then ' * (changed == 'edition')}{why}",
+                              found)
+                self.assertIn("have berta ask again", found)
             # The former result counts as long as less than three stations are closed.
             for closed, is_former in ((0, True), (2, True), (3, False), (4, False)):
                 with self.subTest(closed=closed):
@@ -248,6 +285,26 @@ class Functions(Case):
                 with self.subTest(entry=entry, status=status):
                     found = looked("clerk", of_return=status, entry=entry)
                     self.assertEqual((found["waits"], found["compares"]), (waits, compares))
+
+    @needs("chromium")
+    def test_what_is_shown_where_seats_are_hidden(self):
+        """Who enters slips a second time and a station get no result: the page takes the same from
+        two other reports."""
+        with browser.tab() as it:
+            it.open((DEPLOY / "www/clerk.html").as_uri())
+            it.run(KNOWN)
+            for role, asked, shown in (
+                    ("second", ["result", "c1", "progress", "stations"], True),
+                    ("station", ["result", "s1", "c1", "progress"], True),
+                    ("clerk", ["result", "s1"], False), ("board", ["result", "s1"], False)):
+                with self.subTest(role=role):
+                    found = it.run(HIDDEN, role)
+                    self.assertEqual(found["asked"], asked)
+                    self.assertEqual((found["view"], found["progress"]), (VIEW, COUNTED) if shown
+                                     else (None, ""))
+            # Where one of the two is not answered there is no view, and the page says so.
+            self.assertTrue(it.run(HIDDEN, "second", "progress")["trouble"].startswith(
+                " The office does not answer now."))
 
     @needs("chromium")
     def test_drafts_that_are_forgotten(self):

@@ -1,15 +1,21 @@
 """Who did what to a station."""
 
+import concurrent.futures
+import contextlib
 import json
+import os
+import threading
 from pathlib import Path
+from types import SimpleNamespace
 
 from tests.support.case import needs
 from tests.support.clerks import (
     SLIP, TWICE, choose_station, clerks_browser, office_with_a_second, said,
 )
 from tests.support.record import a_command, chained
-from tests.support.safeguards import office_and_site
-from tests.support.scripts import module
+from tests.support.running import PATIENCE, until
+from tests.support.safeguards import Safeguards, office_and_site
+from tests.support.scripts import loaded, module
 from tests.support.shown import shows_well
 from tests.support.site import SiteCase
 
@@ -301,3 +307,120 @@ class History(SiteCase):
                         self.assertNotIn("Done", line)
             with clerks_browser(front, "s1") as it:
                 self.assertFalse(it.visible("#who"))
+
+
+class Turns(Safeguards):
+    def test_how_many_a_name_may_ask_for(self):
+        """Two wait or are under way, over all offices, and of all names sixteen; others are
+        answered 429. One is read at a time. Who may not see it takes no place."""
+        recorder, go_on = loaded("recorder.py"), threading.Event()
+        recorder.turns = loaded("turns.py")
+        recorder.turns.REST = 0
+        record, under_way, most = recorder.Record("commands.log", 0), [], []
+
+        def held(*_):
+            under_way.append(1)
+            most.append(len(under_way))
+            go_on.wait(PATIENCE)
+            under_way.pop()
+            return {"commands": [], "names": []}
+
+        record.history = record.typed = held
+        offices = [recorder.Recorder(record, None, n, recorder.Limit()) for n in (1, 2)]
+        places = record.reading.places
+        with concurrent.futures.ThreadPoolExecutor(30) as at_once, contextlib.ExitStack() as ended:
+            ended.callback(go_on.set)
+
+            def asked(name, path="/history/s1", office=0, allowed="1"):
+                before = places.names.total()
+                fields = {"office-name": name, "office-role": "second", "office-allowed": allowed}
+                done = at_once.submit(offices[office].answered, "GET", path, fields, b"")
+                until(lambda: places.names.total() > before or done.done())
+                return done.result().status if done.done() else None
+
+            found = [asked("sara"), asked("sara", "/typed/c1", 1), asked("sara", office=1),
+                     asked("sara", "/typed/c1")]
+            self.assertEqual(found, [None, None, 429, 429])
+            self.assertEqual(asked("clara"), None)
+            self.assertEqual(asked("s1", allowed="0"), 403)
+            self.assertEqual([asked(f"name-{n}") for n in range(14)], [None] * 13 + [429])
+            # Nor does it wait for those that do.
+            self.assertEqual(asked("s1", allowed="0"), 403)
+            go_on.set()
+        self.assertEqual(set(most), {1})
+        self.assertEqual(dict(places.names), {})
+
+    def test_what_is_left_to_commands(self):
+        """Three times as long as it took, a second at most; also where it has failed."""
+        turns, clock, began = loaded("turns.py"), [1000.0], []
+
+        def sleep(seconds):
+            clock[0] += seconds
+
+        turns.time = SimpleNamespace(monotonic=lambda: clock[0], sleep=sleep)
+        reading = turns.Reading()
+
+        def taking(seconds):
+            began.append(round(clock[0] - 1000, 3))
+            clock[0] += seconds
+            return 1 / seconds
+
+        for seconds in (0.125, 2, 0.25):
+            self.assertEqual(reading.passed("clara", lambda: taking(seconds)), 1 / seconds)
+        self.assertRaises(ZeroDivisionError, reading.passed, "clara", lambda: taking(0))
+        for _ in range(3):
+            reading.passed("clara", lambda: taking(0.5))
+        # (0.125 * 4 = 0.5, 0.5 + 2 + 1 = 3.5, 3.5 + 0.25 * 4 = 4.5)
+        self.assertEqual(began, [0, 0.5, 3.5, 4.5, 4.5, 6, 7.5])
+
+    def test_what_is_not_shown_is_not_read(self):
+        """Of the lines of a second's history what was sent and answered is not even parsed."""
+        recorder, parsed = loaded("recorder.py"), []
+        recorder.sys = SimpleNamespace(stdout=self.enterContext(open("copy", "wb")))
+        record = recorder.Record("commands.log", 0)
+        entry = {"name": "sara", "role": "second", "address": "192.0.2.1", "office": 1,
+                 "method": "POST", "path": "/station/s1/confirm"}
+        for body, answer in (({"body": '"' * 16_384}, {"answer": "{}"}),
+                             ({"body_base64": "/w=="}, {"answer_base64": "/w=="})):
+            number = record.add(entry | body)
+            record.add({"to": number, "status": 409} | answer)
+        record.add(entry | {"bytes": 16_384, "status": 403})
+
+        def loads(line):
+            parsed.append(len(line))
+            return json.loads(line)
+
+        recorder.json = SimpleNamespace(loads=loads)
+        bare = ("n", "time", "name", "role", "act", "status")
+        short, whole = (record.history("s1", is_whole)["commands"] for is_whole in (False, True))
+        self.assertEqual(short, [{key: one[key] for key in bare} for one in whole])
+        self.assertEqual([(one["n"], one["status"]) for one in short],
+                         [(1, 409), (3, 409), (5, 403)])
+        self.assertEqual([(one.get("body", "")[:1], one.get("answer")) for one in whole],
+                         [('"', "{}"), ("", None), ("", None)])
+        self.assertLess(max(parsed[:5]), 500)
+        self.assertGreater(max(parsed[5:]), 16_384)
+
+
+class Floods(SiteCase):
+    @needs("nginx", "openssl")
+    def test_a_clerk_reads_while_a_second_asks_without_end(self):
+        """In the place of the record is a pipe, which nobody has read before the end."""
+        with office_with_a_second(TWICE) as (_, front):
+            file = front.folder / "log/commands.log"
+            file.rename(file.with_suffix(".own"))
+            os.mkfifo(file)
+            with concurrent.futures.ThreadPoolExecutor(9) as at_once, contextlib.ExitStack() as end:
+                end.callback(lambda: self.addCleanup(os.close, os.open(file, os.O_RDWR)))
+
+                def ask(name, target="/now/station/s1/history"):
+                    return at_once.submit(lambda: front.ask("GET", target, name=name).status)
+
+                given = [ask("sara") for _ in range(6)]
+                until(lambda: sum(one.done() for one in given) == 4)
+                # (nor who typed how many returns)
+                typed = ask("sara", "/now/con/c1/typed")
+                until(typed.done)
+                clerk = [ask("clara"), ask("clara", "/now/con/c1/typed")]
+            self.assertEqual(sorted(one.result() for one in given), [200] * 2 + [429] * 4)
+            self.assertEqual([one.result() for one in [typed, *clerk]], [429, 200, 200])

@@ -82,6 +82,11 @@ class InAFolder(Case):
             with self.subTest(words=words):
                 self.assertEqual(office_site(root, *words)[:2], (0, "nothing was changed\n"))
                 self.assertEqual(tree(root), before)
+        # An older package made the pages' folder for everybody.
+        pages = f"var/www/office/{ONE}"
+        (root / pages).chmod(0o755)
+        self.assertEqual(office_site(root, "--again")[:2], (0, f"folder /{pages}\n"))
+        self.assertEqual(tree(root), before)
         self.assertEqual(office_site(root, "--list")[1], f"{ONE}: port 8101, does not run\n")
 
         status, said, _ = office_site(root, "--remove", ONE)
@@ -149,6 +154,19 @@ class InAFolder(Case):
                 self.assertEqual(f"{looks.relative_to(root)} names no desk at 127.0.0.1:{port}, "
                                  "which is the site's: change it" in said, is_said, said)
                 self.assertEqual(office_site(root, "--remove", ONE)[0], 0)
+
+    @needs("dpkg-deb", "git", "openssl")
+    def test_a_file_of_the_proxy_that_is_not_the_packages(self):
+        """It stays where a site is taken away, and is named."""
+        root = self.unpacked()
+        self.assertEqual(office_site(root, ONE, "setup.toml", "--port", "8101")[0], 0)
+        folder = root / f"etc/nginx/office/{ONE}"
+        (folder / "redirects.conf").write_text("# of an administrator\n", encoding="utf-8")
+        status, said, _ = office_site(root, "--remove", ONE)
+        self.assertEqual((status, said.splitlines()[-1]), (0, f"left /etc/nginx/office/{ONE}/"
+                         "redirects.conf, which is not the package's"))
+        self.assertEqual({file.name for file in folder.glob("*.conf")},
+                         {"redirects.conf", "staff.conf", "embargo.conf"})
 
     def test_a_site_that_is_stopped(self):
         """None of its units is left that failed: its last look did, perhaps, and calls nobody."""
@@ -446,7 +464,20 @@ class InAMachine(Case):
                                       self.connects(it, user, read)), wanted)
         self.assertEqual([it.at(place).stat().st_mode & 0o777
                           for place in (f"/var/lib/office/{ONE}", f"/var/log/office/{ONE}",
-                                        f"/etc/nginx/office/{ONE}")], [0o700, 0o750, 0o750])
+                                        f"/etc/nginx/office/{ONE}", f"/var/www/office/{ONE}")],
+                         [0o700, 0o750, 0o750, 0o750])
+        # The pages are there before the hour: the proxy and the recorder read them, and no other.
+        names = [f"/var/www/office/{ONE}/{name}" for name in ("record.csv", "results.csv")]
+        for user, group, may in (("www-data", "www-data", True), ("nobody", "nogroup", False),
+                                 ("office-recorder", "www-data", True), ("office", "office", False),
+                                 ("office-press", "office-press", True)):
+            with self.subTest(user=user):
+                done = subprocess.run(
+                    it.inside("setpriv", f"--reuid={user}", f"--regid={group}",
+                              f"--groups={group}", "cat", *names),
+                    capture_output=True, text=True, timeout=PATIENCE)
+                self.assertEqual((bool(done.stdout), done.stderr.count("Permission denied")),
+                                 (True, 0) if may else (False, 2), done.stderr)
 
     @needs("dpkg-deb", "git", "openssl", "unshare", "nsenter", "nginx", "systemd-sysusers",
            "systemd-tmpfiles")
@@ -467,8 +498,14 @@ class InAMachine(Case):
         for package in ("newer.deb", "first.deb"):
             with self.subTest(package=package):
                 site.write_text("an older version's", encoding="utf-8")
+                pages = it.at(f"/var/www/office/{ONE}")
+                pages.chmod(0o755)
+                os.chown(pages, pages.stat().st_uid, pages.stat().st_uid)
                 said = self.installed(it, package)
                 self.assertIn(f"wrote /etc/nginx/office/{ONE}/*.conf", said)
+                group = it.at(f"/etc/nginx/office/{ONE}").stat().st_gid
+                self.assertEqual((pages.stat().st_mode & 0o7777, pages.stat().st_gid),
+                                 (0o750, group))
                 self.assertEqual(site.read_text(), wanted)
                 self.assertEqual({place: it.at(place).read_bytes() for place in kept}, kept)
         self.assertIn(f"left /var/lib/office/{ONE}\n", it.ran("dpkg", "--remove", "office"))

@@ -6,10 +6,13 @@ import ctypes
 import io
 import os
 import re
+import signal
 import socket
 import subprocess
 import sys
+import time
 from pathlib import Path
+from unittest import mock
 
 from tests.support.case import needs
 from tests.support.desks import recording_desk
@@ -49,6 +52,25 @@ def rules():
     return re.findall("^    nft '?(add .*?)'?$", step, re.M)
 
 
+def numbered(text):
+    """Rules with the numbers of the users in the place of their names."""
+    return re.sub("(?<=[{,] )[a-z-]+(?=[ ,])",
+                  lambda found: str(USERS.get(found[0], found[0])), text)
+
+
+def loaded_rules():
+    """Loads the rules of the steps in a network that this process has from now on, if it may."""
+    if ctypes.CDLL(None, use_errno=True).unshare(NEW_NETWORK):
+        return False
+    subprocess.run(["ip", "link", "set", "lo", "up"], check=True, timeout=PATIENCE)
+    done = subprocess.run(["nft", "-f", "-"], input=numbered("\n".join(rules())), text=True,
+                          capture_output=True, timeout=PATIENCE)
+    if not done.returncode:
+        return True
+    assert "Operation not" in done.stderr or "not supported" in done.stderr, done.stderr
+    return False
+
+
 def reaches(port, user):
     """Whether a user connects to a port of this network: a child, which alone becomes that user."""
     child = os.fork()
@@ -64,22 +86,77 @@ def reaches(port, user):
     return os.waitstatus_to_exitcode(os.waitpid(child, 0)[1]) == 0
 
 
+def answers(port, user):
+    """Whether root is answered at a port of this network where a user listens: a child does."""
+    ready, told = os.pipe()
+    child = os.fork()
+    if not child:
+        try:
+            os.setgroups([])
+            os.setgid(user)
+            os.setuid(user)
+            with socket.create_server(("127.0.0.1", port)):
+                os.write(told, b"1")
+                time.sleep(PATIENCE)
+        finally:
+            os._exit(1)
+    try:
+        os.read(ready, 1)
+        socket.create_connection(("127.0.0.1", port), timeout=1).close()
+        return True
+    except OSError:
+        return False
+    finally:
+        os.kill(child, signal.SIGKILL)
+        os.waitpid(child, 0)
+        os.close(ready)
+        os.close(told)
+
+
 class Ports(Safeguards):
     def test_the_rules_of_the_steps(self):
         found = dict(
             re.findall(r"tcp dport (\d+) meta skuid != \{ ([^}]*) \} reject", "\n".join(rules()))
         )
         self.assertEqual(found, {"8080": "root, office-recorder", "8090": "root, office-press"})
+        found = re.findall(r"tcp sport (\d+) meta skuid != \{ ([^}]*) \} drop", "\n".join(rules()))
+        self.assertEqual(found, [("8080", "root, office"), ("8090", "root, office-recorder")])
+
+    def test_the_ports_that_status_tries(self):
+        """That of the desk, and that at which the reader answers the press pages."""
+        status = loaded("status")
+        usual = dict.fromkeys(("desk", "rules", "reader", "reader_port", "recorder", "backups",
+                               "closed_to"), "") | {"name": "1"}
+        ports = {"desk": "127.0.0.1:1", "reader_port": "127.0.0.1:2"}
+        for open_port, wanted in (("127.0.0.1:1", {"port": False, "reader_port": True}),
+                                  ("127.0.0.1:2", {"port": True, "reader_port": False})):
+            def tried(user, port, reached=open_port):
+                return f"{user} reaches it" if port == reached else None
+
+            with mock.patch.object(status.looks, "tried_as", tried):
+                for closed_to in ("nobody", ""):
+                    found = status.look_at_office(usual | ports | {"closed_to": closed_to}, {})
+                    self.assertEqual({one.part: one.is_well for one in found if one.part != "desk"},
+                                     wanted if closed_to else {})
 
     @needs("nft", "ip")
     def test_which_users_reach_which_port(self):
-        """In a network of its own: nobody but root and the recorder reaches the office."""
+        """Nobody but root and the recorder reaches the office."""
+        self.in_its_own_network(self.in_a_network)
+
+    @needs("nft", "ip")
+    def test_who_answers_at_which_port(self):
+        """Another user who listens there while the office restarts is not heard."""
+        self.in_its_own_network(self.heard_in_a_network)
+
+    def in_its_own_network(self, act):
+        """Runs an act in a child, which makes a network of its own: 77 says that it cannot."""
         if os.geteuid():
             self.skipTest("it needs root")
         child = os.fork()
         if not child:
             try:
-                os._exit(self.in_a_network())
+                os._exit(act())
             except BaseException as error:  # whatever it is, the child ends here
                 print(repr(error), file=sys.stderr)
                 os._exit(99)
@@ -90,18 +167,8 @@ class Ports(Safeguards):
 
     @staticmethod
     def in_a_network():
-        if ctypes.CDLL(None, use_errno=True).unshare(NEW_NETWORK):
+        if not loaded_rules():
             return 77
-        text = "\n".join(rules())
-        for name, number in sorted(USERS.items(), key=lambda one: -len(one[0])):
-            text = re.sub(rf"(?<=[{{,] ){name}(?=[ ,])", str(number), text)
-        subprocess.run(["ip", "link", "set", "lo", "up"], check=True, timeout=PATIENCE)
-        done = subprocess.run(
-            ["nft", "-f", "-"], input=text, text=True, capture_output=True, timeout=PATIENCE
-        )
-        if done.returncode:
-            print(done.stderr, file=sys.stderr)
-            return 77 if "Operation not" in done.stderr or "not supported" in done.stderr else 1
         # (a user who may not read Python's own files has loaded what it needs)
         "127.0.0.1".encode("idna")
         listeners = [socket.create_server(("127.0.0.1", port), backlog=64) for port in (8080, 8090)]
@@ -125,23 +192,22 @@ class Ports(Safeguards):
         print(looks, file=sys.stderr) if looks != said else None
         return int(found != wanted or looks != said)
 
+    @staticmethod
+    def heard_in_a_network():
+        if not loaded_rules():
+            return 77
+        heard = {name: tuple(answers(port, USERS[name]) for port in (8080, 8090))
+                 for name in ("root", "office", "office-recorder", "nobody")}
+        wanted = {"root": (True, True), "office": (True, False), "office-recorder": (False, True),
+                  "nobody": (False, False)}
+        print(heard, file=sys.stderr) if heard != wanted else None
+        return int(heard != wanted)
+
     @needs("nft", "ip", "grep")
     def test_open_port_of_office_site(self):
         """The rules of office-site, loaded by its unit in a network of its own: nobody but root
         reaches a desk, and with --open-port everybody, in either order."""
-        if os.geteuid():
-            self.skipTest("it needs root")
-        child = os.fork()
-        if not child:
-            try:
-                os._exit(self.with_an_open_port())
-            except BaseException as error:  # whatever it is, the child ends here
-                print(repr(error), file=sys.stderr)
-                os._exit(99)
-        status = os.waitstatus_to_exitcode(os.waitpid(child, 0)[1])
-        if status == 77:
-            self.skipTest("no network of its own, or no nftables, on this machine")
-        self.assertEqual(status, 0)
+        self.in_its_own_network(self.with_an_open_port)
 
     @staticmethod
     def with_an_open_port():
@@ -171,9 +237,7 @@ class Ports(Safeguards):
                 with contextlib.redirect_stdout(io.StringIO()):
                     tool.write_rules(machine, None if asked == "again" else asked)
                 rules = machine.at(tool.RULES).read_text(encoding="utf-8")
-                for user in ("office-recorder", "office-press"):
-                    rules = rules.replace(user, str(USERS[user]))
-                Path("rules").write_text(rules, encoding="utf-8")
+                Path("rules").write_text(numbered(rules), encoding="utf-8")
                 words = acts[act].replace(tool.RULES, "rules").replace("/usr/sbin/nft", "nft")
                 done = subprocess.run(["/bin/sh", "-c", words], timeout=PATIENCE)
                 found.append((done.returncode, reaches(8080, 0), reaches(8080, USERS["nobody"]),

@@ -41,6 +41,13 @@ def done(act, number, **reached):
                                    "answer": json.dumps({"ok": "moved"} | reached)}]
 
 
+def imported(number, **counts):
+    """The answer to an import, where the command is the line of this number."""
+    counts = {"bad": 0, "differs": 0, "first": None, "lodged": 0, "ok": "import", "refused": 0,
+              "same": 0} | counts
+    return {"to": number, "status": 200, "answer": json.dumps(counts)}
+
+
 def lodged(*stations, begin=1):
     return [line for place, code in enumerate(stations)
             for line in done(f"/station/{code}/lodge", begin + 2 * place, rev=1)]
@@ -91,13 +98,66 @@ class Status(Safeguards):
             "refused": [command, answer(1, 409)], "unknown": [command, {"to": 1, "status": None}],
             "no answer": [command], "it may not": [command | {"status": 403}],
             "it waits": [a_command("{}", "/con/c1/certify") | {"status": 202}],
-            "an import": [a_command("x"), {"to": 1, "status": 200, "answer": '{"ok":"import"}'}],
+            "an import of nothing": [a_command("station,slip\n"), imported(1, bad=0)],
+            "an import of bad rows": [a_command("station,slip\n?\ns1,p1\n"), imported(1, bad=2)],
+            "an import that says nothing": [a_command("x"), {
+                "to": 1, "status": 200, "answer": '{"ok":"import"}'}],
+            "a vacancy of no list": [a_command('{"place":1}', "/con/c1/vacate"), {
+                "to": 1, "status": 200, "answer": '{"next":2,"ok":"vacated"}'}],
             "no JSON": [command, {"to": 1, "status": 200, "answer": "?"}],
             "a list": [command, {"to": 1, "status": 200, "answer": "[]"}],
             "nobody's answer": [{"to": 7, "status": 200, "answer": '{"rev":3}'}],
         }.items():
             with self.subTest(why=why):
                 self.assertEqual(self.looks({}, lines, [], "--forget"), ["/progress"])
+
+    def test_an_office_before_an_import_or_a_vacancy(self):
+        """Its own moment is one before a file of returns was imported, or a candidate was gone."""
+        head = "\ufeffstation,slip,blank,spoiled,A,B\r\n"
+        rows = 's1,p1,0,0,1,2\r\n"s2",p2,0,0,3,4\r\n'
+        one, two = (f"{code:16}     300 received     1 p1                     3       0       0\n"
+                    for code in ("s1", "s2"))
+        none = "{:16}     300 -\n".format
+        begin = "STATIONS c1 Twin\nstations 3 missing 1 closed 0\n"
+        whole = [a_command(head + rows), imported(1, lodged=2)]
+        again = [a_command(head + rows), imported(1, lodged=1, same=1)]
+        semicolons = [a_command((head + rows).replace(",", ";").encode(),
+                                "/con/c1/import/semicolon"), imported(1, differs=1, same=1)]
+        above = [a_command("\n" + head[1:] + rows), imported(1, lodged=2)]
+        bad = [a_command(head + rows + "s3,?\n"), imported(1, lodged=2, bad=1)]
+        gone = [a_command('{"list":"B","place":2,"note":"x"}', "/con/c1/vacate"),
+                {"to": 1, "status": 200, "answer": '{"next":3,"ok":"vacated"}'}]
+        table, who = "/con/c1/stations", {"list": "B", "place": 2, "note": "x"}
+        files = "2 stations of a file of /con/c1 had a return"
+        for why, lines, shown, is_well, words in (
+                ("all", whole, {table: begin + one + two + none("s3")}, True, None),
+                ("more", whole, {table: begin + one + two}, True, None),
+                ("before", whole, {table: begin + none("s1") + none("s2")}, False, files),
+                ("before the second", again, {table: begin + one + none("s2")}, False, files),
+                ("semicolons", semicolons, {table: begin + none("s1") + two}, False, files),
+                ("semicolons, all", semicolons, {table: begin + one + two}, True, None),
+                ("a blank line above", above, {table: begin + one + two}, True, None),
+                ("a bad row", bad, {table: begin + one + two + none("s3")}, True, None),
+                ("before it", bad, {table: begin + one + none("s2") + none("s3")}, False, files),
+                ("no constituency", whole, {table: 404}, False, files),
+                ("gone", gone, {"/con/c1": {"edition": 2, "gone": [who]}}, True, None),
+                ("two are gone", gone, {"/con/c1": {"gone": [who | {"place": 1}, who]}}, True,
+                 None),
+                ("another is", gone, {"/con/c1": {"gone": [who | {"place": 1}]}}, False,
+                 "B 2 of /con/c1 was gone"),
+                ("nobody is", gone, {"/con/c1": {"edition": 9, "gone": []}}, False,
+                 "B 2 of /con/c1 was gone")):
+            with self.subTest(why=why):
+                wanted = ("of the last acts of the record it has all 1 that were compared"
+                          if is_well else "it was put back to an earlier moment: it lacks what "
+                                          f"line 2 of the record answered, by which {words}")
+                # So it is at the next look, which has it from the one before.
+                for more in ("--forget",), ():
+                    self.looks(shown, lines, [(is_well, wanted)], *more)
+        # An office that does not say it now is wrong itself.
+        for lines, shown in ((whole, {table: 503}), (gone, {"/con/c1": {"edition": 2}})):
+            self.looks(shown, lines, [(True, "of the last acts of the record it has all 0 that "
+                                             "were compared")], "--forget")
 
     def test_it_stays_so(self):
         """An office that was put back is wrong until it has what it lacked, whatever it does."""
@@ -135,42 +195,46 @@ class Status(Safeguards):
 
 
 class Put(SiteCase):
+    def sent(self, act, code="s1", **body):
+        found = board(f"/station/{code}/{act}", json.dumps(body), "clara")
+        self.assertEqual(found[0], 200)
+
+    def of_copy(self):
+        """The lines of `entries` about a copy that `backup` makes now, and its status."""
+        self.assertEqual(backup("office.db", "copies", "commands.log")[0], 0)
+        ran = tools.run([DEPLOY / "entries", "setup.toml", "--office",
+                         max(Path("copies").glob("*.db"))],
+                        input=Path("commands.log").read_bytes(), capture_output=True,
+                        timeout=PATIENCE)
+        return ran.returncode, ran.stdout.decode().splitlines()[:-1]
+
+    def put(self, copy, desk):
+        """Ends an office, which goes on from a copy."""
+        desk.end()
+        for file in Path().glob("office.db*"):
+            file.unlink()
+        shutil.copy(copy, "office.db")
+        desk.start()
+
     def test_yesterday_over_today(self):
         """The whole office is put back, and goes on: `status` names it, and `entries` its copy."""
         with serving(with_stations(3)) as desk, recorder_alone(desk.port):
             configured(desk.port)
 
-            def sent(act, code="s1", **body):
-                found = board(f"/station/{code}/{act}", json.dumps(body), "clara")
-                self.assertEqual(found[0], 200)
-
-            def of_copy():
-                """The lines of `entries` about a copy that `backup` makes now, and its status."""
-                self.assertEqual(backup("office.db", "copies", "commands.log")[0], 0)
-                ran = tools.run([DEPLOY / "entries", "setup.toml", "--office",
-                                 max(Path("copies").glob("*.db"))],
-                                input=Path("commands.log").read_bytes(), capture_output=True,
-                                timeout=PATIENCE)
-                return ran.returncode, ran.stdout.decode().splitlines()[:-1]
-
-            sent("lodge", **SLIP)
+            self.sent("lodge", **SLIP)
             self.assertEqual(backup("office.db", "before")[0], 0)
             [yesterday] = Path("before").glob("*.db")
-            sent("close", rev=1)
-            self.assertEqual((said_by_status(), of_copy()), (
+            self.sent("close", rev=1)
+            self.assertEqual((said_by_status(), self.of_copy()), (
                 [(True, "of the last acts of the record it has all 1 that were compared")],
                 (0, [])))
-            desk.end()
-            for file in Path().glob("office.db*"):
-                file.unlink()
-            shutil.copy(yesterday, "office.db")
-            desk.start()
-            sent("lodge", "s2", **SLIP)
+            self.put(yesterday, desk)
+            self.sent("lodge", "s2", **SLIP)
             [(well, said)] = said_by_status()
             self.assertEqual((well, said), (
                 False, "it was put back to an earlier moment: it lacks what line 4 of the record "
                        "answered, by which /station/s1 came to 2"))
-            status, [line] = of_copy()
+            status, [line] = self.of_copy()
             self.assertEqual(status, 1)
             self.assertRegex(line, r"^the office has s1 at revision 1, as it was before line 4 .* "
                                    r"it never had both$")
@@ -188,6 +252,19 @@ class Put(SiteCase):
                     first = ran.stdout.decode().splitlines()[0]
                     self.assertEqual((ran.returncode, first[:len(begins)]), (wanted, begins), first)
 
+    def test_the_newest_copy_over_what_came_after_it(self):
+        """The next copy is that one again, by the name of the lines that the record has by then."""
+        with serving(with_stations(3)) as desk, recorder_alone(desk.port):
+            self.sent("lodge", **SLIP)
+            self.assertEqual(self.of_copy(), (0, []))
+            [copy] = Path("copies").glob("*.db")
+            self.sent("close", rev=1)
+            self.put(copy, desk)
+            status, [line] = self.of_copy()
+            self.assertEqual(status, 1)
+            self.assertRegex(line, "^the copy lacks what was done from line 4 of the record on .*: "
+                                   "the office was put back to an earlier moment$")
+
     def test_a_constituency_that_the_copy_lacks(self):
         """It is named where the record has commands to it in the office of the copy."""
         new(PROFILE + constituency("c2", "Once", 3, "d0") + LISTS + station("t1"), "copy.db")
@@ -195,14 +272,25 @@ class Put(SiteCase):
         refused = [a_command('{"rev":1}', "/station/t1/close"), answer(1, 404)]
         lodge, imported = a_command(json.dumps(SLIP), "/station/s1/lodge"), a_command("x")
         said = ["c1: the office does not have it, and this record has commands to it there"]
-        for why, lines, wanted in (
+        asks = ["the copy has no constituency to which this record has commands, so nobody knows "
+                "of which office it is: say so with --number, as 1 where there is one office"]
+        two = [lodge | {"office": 2}, answer(1)]
+        for why, lines, wanted, *number in (
+                ("nothing was done", [], []),
                 ("nothing was done there", refused, []),
                 ("a return", [*refused, lodge, answer(3)], said),
                 ("a file", [*refused, imported, answer(3, 400)], said),
-                ("nothing else was done", [lodge, answer(1)], said),
+                ("nothing else was done", [lodge, answer(1)], asks),
+                ("nothing else was done in this office", [lodge, answer(1)], said, 1),
+                # Of several offices one has no command yet: the copy is of that one, or not.
+                ("in another office alone", [lodge, answer(1)], [], 2),
+                ("in the second office alone", two, asks),
+                ("in the second office, and the copy is of the first", two, [], 1),
+                ("in the second office, and the copy is of it", two, said, 2),
                 ("in another office", [*refused, lodge | {"office": 2}, answer(3)], [])):
             with self.subTest(why=why):
-                ran = tools.run([DEPLOY / "entries", "setup.toml", "--office", "copy.db"],
+                ran = tools.run([DEPLOY / "entries", "setup.toml", "--office", "copy.db",
+                                 *[word for one in number for word in ("--number", str(one))]],
                                 input=chained(*lines), capture_output=True, timeout=PATIENCE)
                 self.assertEqual((ran.returncode, ran.stdout.decode().splitlines()[:-1]),
                                  (bool(wanted), wanted), ran)

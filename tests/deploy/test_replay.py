@@ -289,13 +289,16 @@ class Replay(SiteCase):
 
     def test_an_import_that_is_taken_in_part(self):
         """Of a file of which fourteen rows were recorded thirteen are now, as where the setup lacks
-        a station: it is named; all of them may be the same as those that are there."""
+        a station: it is named; all of them may be the same as those that are there. So it is where
+        the office has another row of a station, which the file has twice."""
         def said_of(lodged, same_as, ok="import"):
             return {"bad": 2, "differs": 0, "first": [11, 7], "lodged": lodged, "ok": ok,
                     "refused": 0, "same": same_as}
 
         before = json.dumps(said_of(13, 1))
         for now, wanted in ((said_of(13, 1), 0), (said_of(0, 14), 0), (said_of(12, 1), 1),
+                            (said_of(13, 1) | {"differs": 1}, 1),
+                            (said_of(13, 1) | {"first": [9, 7]}, 1),
                             ({"ok": "moved", "rev": 2}, 1)):
             with self.subTest(now=now, wanted=wanted):
                 with answering_desk({"/con/c1/import": now}) as (port, _):

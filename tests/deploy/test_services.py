@@ -168,7 +168,7 @@ class Services(SiteCase):
                     with self.subTest(file=file):
                         self.assertTrue(file in installed or file.endswith("/setup.json"))
         for line in ("-m 700 -o office -g office /var/lib/office",
-                     "-m 755 -o office-press -g office-press /var/www/office",
+                     "-m 750 -o office-press -g www-data /var/www/office",
                      "-m 750 -o office-recorder -g office-recorder /var/log/office"):
             with self.subTest(line=line):
                 self.assertIn(f"\n    install -d {line}\n", page)

@@ -604,7 +604,7 @@ seconds = 1800
         said = tomllib.loads(text)
         [office] = said["office"]
         for place in (said["record"]["file"], said["record"]["head"], said["pages"]["folder"],
-                      office["desk"], office["reader"], office["recorder"],
+                      office["desk"], office["reader"], office["reader_port"], office["recorder"],
                       office["backups"]):
             with self.subTest(place=place):
                 self.assertIn(place, services)

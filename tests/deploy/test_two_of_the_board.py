@@ -234,6 +234,38 @@ class Restarts(Safeguards):
             self.assertEqual(board("/con/c1/certify", name="simon")[0], 202)
 
 
+    def test_a_name_that_is_of_the_board_no_more(self):
+        """It does not count as the first of two from then on, also before the proxy knows it."""
+        file = Path("staff.conf")
+        for after, status in (
+                ("berta board;\nsimon board;\n", 200), ("Berta board;\n", 200),
+                ('berta "board c1 c2";\n', 200), ('"berta" board;\n', 202), ("", 202),
+                ("# berta board;\n", 202), ("berta clerk;\n", 202), ("berta2 board;\n", 202),
+                ('berta "board c2";\n', 202)):
+            with self.subTest(after=after):
+                Path("commands.log").unlink(missing_ok=True)
+                file.write_text("berta board; # of c1\nsimon board;\n", encoding="utf-8")
+                with two_names("--staff", "staff.conf") as messages:
+                    self.assertEqual(board("/con/c1/certify")[0], 202)
+                    file.write_text(after, encoding="utf-8")
+                    self.assertEqual(board("/con/c1/certify", name="simon")[0], status)
+                    self.assertEqual(len(messages), status == 200)
+                    # The one that counts now is the second name's.
+                    file.write_text("simon board;\ncarla board;\n", encoding="utf-8")
+                    self.assertEqual(board("/con/c1/certify", name="carla")[0],
+                                     202 if status == 200 else 200)
+        # Nobody knows who is of the board.
+        with two_names("--staff", "staff.conf") as messages:
+            file.unlink()
+            before = len(record())
+            self.assertEqual(board("/con/c2/certify")[0], 503)
+            self.assertEqual((messages, len(record())), ([], before))
+
+    def test_the_service_knows_the_names(self):
+        text = (DEPLOY / "office-recorder.service").read_text(encoding="utf-8")
+        self.assertIn(" --staff /etc/nginx/office/staff.conf ", text)
+
+
 class Hours(Safeguards):
     def at(self, *moments):
         """The answers to a request of berta and then of others, each at its moment."""
@@ -251,6 +283,35 @@ class Hours(Safeguards):
                       "office-allowed": "1"}
             found.append(one.answered("POST", "/con/c1/certify", fields, b"{}").status)
         return found
+
+    def test_many_that_wait(self):
+        """One name may have thousands that wait. An answer names the last five others, and what
+        waits in vain is looked for once a minute."""
+        waiting, moments = second_name.Waiting(), [0, 3590, 3610, 3649.9, 3650]
+
+        def entry(number, seconds):
+            moment = BEGIN + timedelta(seconds=seconds)
+            return {"n": number, "time": moment.isoformat(), "name": "berta", "office": 1,
+                    "path": "/con/c1/certify", "body": f"body {number}",
+                    "status": second_name.WAITS}, moment
+
+        for number, seconds in enumerate(moments):
+            with self.subTest(seconds=seconds):
+                one, moment = entry(number, seconds)
+                waiting.take(one)
+                bodies = [body for _, _, body, _ in waiting.requests[1, "c1"]]
+                # The first one is there yet where nobody looked for it, and does not wait.
+                first = 0 if seconds < 3650 else 1
+                self.assertEqual(bodies, [f"body {n}" for n in range(first, number + 1)])
+                before = range(int(seconds >= 3600), number)
+                self.assertEqual([body for *_, body in waiting.others(one, moment)],
+                                 [f"body {n}" for n in before])
+                self.assertEqual(list(waiting.firsts(entry(0, 0)[0] | {"name": "simon"}, moment)),
+                                 [0] if seconds < 3600 else [])
+        for number in range(5, 1000):
+            waiting.take(entry(number, 3700)[0])
+        self.assertEqual([body for *_, body in waiting.others(*entry(998, 3700))],
+                         [f"body {n}" for n in (994, 995, 996, 997, 999)])
 
     def test_within_an_hour(self):
         for moments, wanted in (

@@ -1,7 +1,10 @@
 """Who may read what the office has, and how little of its time that takes: the reader, the routes,
 the hour."""
 
+import concurrent.futures
+import contextlib
 import http.client
+import http.server
 import shutil
 import socket
 import threading
@@ -190,7 +193,8 @@ class Slips(SiteCase):
 
 
 class ProvisionalSeats(SiteCase):
-    """Where no seat may be shown before it is certified, strangers get no report that has some."""
+    """Where no seat may be shown before it is certified, clerks and the board alone get a report
+    that has some."""
 
     def found(self, front, desk, name, before=""):
         """Each report that is not answered as the office itself answers it, with its status."""
@@ -227,8 +231,10 @@ class ProvisionalSeats(SiteCase):
                     time.sleep(1.1)  # so that nothing is kept of what was answered before
                     for name in (None, "clara", "s1"):
                         self.assertEqual(self.found(front, desk, name), wanted, name)
-                    for name in ("clara", "bruno", "berta", "sara"):
+                    for name in ("clara", "bruno", "berta"):
                         self.assertEqual(self.found(front, desk, name, "/now"), {}, name)
+                    for name in ("s1", "sara"):
+                        self.assertEqual(self.found(front, desk, name, "/now"), wanted, name)
                     self.assertEqual(self.found(front, desk, None, "/now"),
                                      dict.fromkeys(TABLES, 401))
 
@@ -244,6 +250,32 @@ class ProvisionalSeats(SiteCase):
             published({}, "")
             shutil.rmtree(front.folder / "pages")
             self.assertEqual(self.found(front, desk, None), hidden)
+            self.assertEqual([self.found(front, desk, name, "/now") for name in ("sara", "clara")],
+                             [hidden, {}])
+            # Who claims a name has to have its password here as anywhere.
+            for name in ("sara", "s1", "clara"):
+                self.assertEqual(
+                    front.ask("GET", "/now/results", name=name, password="x").status, 401, name)
+
+    @needs("nginx", "openssl")
+    def test_below_now(self):
+        """A station and a second are answered 404, by the reader: the office is not asked."""
+        with recording_desk(b"{}") as (port, messages), site(port) as front:
+            targets = [f"/now{target}" for target in PROVISIONAL]
+
+            def statuses():
+                return {name: {front.ask("GET", target, name=name).status for target in targets}
+                        for name in ("clara", "berta", "sara", "s1")}
+
+            self.assertEqual(set().union(*statuses().values()), {200})
+            (front.folder / "pages/.provisional").unlink()
+            messages.clear()
+            self.assertEqual(statuses(), {"clara": {200}, "berta": {200}, "sara": {404},
+                                          "s1": {404}})
+            self.assertEqual(len(messages), 2 * len(targets))
+            for target in ("/now/con/c1", "/now/con/c1/seats", "/now/progress", "/now/country"):
+                self.assertEqual([front.ask("GET", target, name=name).status
+                                  for name in ("sara", "s1")], [200, 200], target)
 
     @needs("nginx", "openssl")
     def test_before_the_hour(self):
@@ -258,6 +290,45 @@ class ProvisionalSeats(SiteCase):
                 self.assertEqual(
                     [front.ask("GET", f"/now{target}", name=name).status
                      for name in ("clara", "s1", None)], [200, 403, 401], target)
+
+
+class Floods(SiteCase):
+    @needs("nginx", "openssl")
+    def test_a_clerk_reads_while_a_station_asks_without_end(self):
+        """Of the station's reports four wait; the page of a clerk has what it asks for."""
+        go_on, begun = threading.Event(), []
+
+        class Held(http.server.BaseHTTPRequestHandler):
+            def do_GET(self):
+                begun.append(self.path)
+                if self.path != "/con/c1/result":
+                    go_on.wait(PATIENCE)
+                self.send_response(200)
+                self.send_header("Content-Length", "2")
+                self.end_headers()
+                self.wfile.write(b"{}")
+
+            def log_message(self, *_):
+                pass
+
+        with http.server.ThreadingHTTPServer(("127.0.0.1", 0), Held) as desk:
+            threading.Thread(target=desk.serve_forever, args=(0.02,), daemon=True).start()
+            with site(desk.server_port) as front:
+                with concurrent.futures.ThreadPoolExecutor(8) as at_once, contextlib.ExitStack(
+                ) as ended:
+                    ended.callback(go_on.set)
+
+                    def ask(name, target):
+                        return at_once.submit(lambda: front.ask("GET", target, name=name).status)
+
+                    given = [ask("s1", target) for target in ("/now/progress", "/now/station/s1",
+                                                              "/now/results") * 2]
+                    until(lambda: sum(one.done() for one in given) == 2)
+                    self.assertEqual(ask("clara", "/now/con/c1/result").result(PATIENCE), 200)
+                    self.assertEqual(len(begun), 2)
+                    go_on.set()
+                self.assertEqual(sorted(one.result() for one in given), [200] * 4 + [429] * 2)
+            desk.shutdown()
 
 
 class Reader(Safeguards):
@@ -330,6 +401,54 @@ class Reader(Safeguards):
         self.assertGreater(time.monotonic() - began, 0.02 * 10 + 0.06 * 9 - 0.05)
         most_wait, statuses = at_once("/con/c1/returns", 40)
         self.assertEqual((most_wait, statuses[-1], 200 in statuses), (1, 429, True))
+
+    def test_how_many_reports_of_a_name(self):
+        """Four past the cache, of whichever office, and twenty-four of stations and of seconds;
+        others are answered 429. Of these one is asked for at a time: clerks do not wait for them.
+        """
+        reader, go_on, heard = loaded("reader.py"), threading.Event(), []
+        # (what is left to others afterwards, test_history tries)
+        reader.Turn = threading.Lock
+
+        class Desk:
+            def ask(self, _, path, **__):
+                heard.append(path)
+                if path != "/con/c1/result":
+                    go_on.wait(PATIENCE)
+                return reader.Answer(200, TABLE, "text/plain")
+
+        often = reader.Often()
+        places = [often.places, *often.places_of.values()]
+        offices = [reader.Reader(Desk(), threading.Semaphore(reader.AT_ONCE), often)
+                   for _ in range(2)]
+        with concurrent.futures.ThreadPoolExecutor(60) as at_once, contextlib.ExitStack() as ended:
+            ended.callback(go_on.set)
+
+            def asked(name, role, path="/progress", office=0):
+                def many():
+                    return sum(one.names.total() for one in places)
+
+                before, fields = many(), {"Office-Name": name, "Office-Role": role}
+                done = at_once.submit(offices[office].answered, "GET", path, fields, b"")
+                until(lambda: many() > before or done.done())
+                # (what the desk answers at once is waited for)
+                return done.result().status if done.done() or path != "/progress" else None
+
+            self.assertEqual([asked("s1", "station") for _ in range(5)], [None] * 4 + [429])
+            self.assertEqual(asked("s1", "station", office=1), 429)
+            self.assertEqual([asked("sara", "second") for _ in range(5)], [None] * 4 + [429])
+            self.assertEqual(asked("clara", "clerk", "/con/c1/result"), 200)
+            self.assertEqual([asked(f"t{n // 4}", "station") for n in range(21)],
+                             [None] * 20 + [429])
+            # Stations have no place, and seconds have.
+            self.assertEqual([asked("simon", "second") for _ in range(5)], [None] * 4 + [429])
+            for name, role in (("clara", "clerk"), ("berta", "board")):
+                self.assertEqual(asked(name, role, "/con/c1/result"), 200)
+            self.assertEqual(heard.count("/progress"), 1)
+            self.assertEqual([asked("clara", "clerk") for _ in range(5)], [None] * 4 + [429])
+            go_on.set()
+        self.assertEqual(heard.count("/progress"), 36)
+        self.assertEqual([dict(one.names) for one in places], [{}, {}, {}])
 
     def test_a_desk_that_is_away(self):
         """It is waited for, unless the proxy says that others are not to wait."""
