@@ -58,6 +58,20 @@ def said_by_press(port):
                "--setup", "setup.toml")
 
 
+@contextlib.contextmanager
+def pages_of_a_certificate():
+    """The pages of a certified constituency of two stations: its setup, its office and the port."""
+    setup = with_stations(2)
+    with modelled(setup) as (office, port):
+        done(office, "/con/c1/import", f"{COLUMNS}s1,p1,0,0,100,50\ns2,p2,0,0,20,60\n")
+        for code in ("s1", "s2"):
+            done(office, f"/station/{code}/close", {"rev": 1})
+        done(office, "/con/c1/certify", {"edition": 1})
+        Path("setup.toml").write_text(setup, encoding="utf-8")
+        press(port, "--setup", "setup.toml")
+        yield setup, office, port
+
+
 class ChangedFiles(SiteCase):
     of_the_program = False
 
@@ -253,14 +267,7 @@ class ChangedFiles(SiteCase):
     def test_stations_that_were_exchanged(self):
         """While the pages were away: the sums of a certificate stay, and the file is not that of
         the office. A withdrawn certificate's file is known from then on alone."""
-        setup = with_stations(2)
-        with modelled(setup) as (office, port):
-            done(office, "/con/c1/import", f"{COLUMNS}s1,p1,0,0,100,50\ns2,p2,0,0,20,60\n")
-            for code in ("s1", "s2"):
-                done(office, f"/station/{code}/close", {"rev": 1})
-            done(office, "/con/c1/certify", {"edition": 1})
-            Path("setup.toml").write_text(setup, encoding="utf-8")
-            press(port, "--setup", "setup.toml")
+        with pages_of_a_certificate() as (setup, office, port):
             right = read("stations-c1-2.csv")
             Path("pages/stations-c1-2.csv").write_text(
                 f"{COLUMNS}s1,p1,0,0,20,60\ns2,p2,0,0,100,50\n", encoding="utf-8")
@@ -279,14 +286,7 @@ class ChangedFiles(SiteCase):
     def test_pages_that_were_made_of_exchanged_stations(self):
         """A first round has not the time to ask the office of each constituency: pages that were
         made meanwhile of what somebody wrote are made again once the office has said it."""
-        setup = with_stations(2)
-        with modelled(setup) as (office, port):
-            done(office, "/con/c1/import", f"{COLUMNS}s1,p1,0,0,100,50\ns2,p2,0,0,20,60\n")
-            for code in ("s1", "s2"):
-                done(office, f"/station/{code}/close", {"rev": 1})
-            done(office, "/con/c1/certify", {"edition": 1})
-            Path("setup.toml").write_text(setup, encoding="utf-8")
-            press(port, "--setup", "setup.toml")
+        with pages_of_a_certificate() as (setup, office, port):
             right = {file.name: says(file.name) for file in Path("pages").glob("*c1*.[ch]*")}
             exchanged = f"{COLUMNS}s1,p1,0,0,20,60\ns2,p2,0,0,100,50\n"
             Path("pages/stations-c1-2.csv").write_text(exchanged, encoding="utf-8")

@@ -71,14 +71,18 @@ def loaded_rules():
     return False
 
 
+def become(user):
+    os.setgroups([])
+    os.setgid(user)
+    os.setuid(user)
+
+
 def reaches(port, user):
     """Whether a user connects to a port of this network: a child, which alone becomes that user."""
     child = os.fork()
     if not child:
         try:
-            os.setgroups([])
-            os.setgid(user)
-            os.setuid(user)
+            become(user)
             socket.create_connection(("127.0.0.1", port), timeout=5).close()
             os._exit(0)
         except OSError:
@@ -92,9 +96,7 @@ def answers(port, user):
     child = os.fork()
     if not child:
         try:
-            os.setgroups([])
-            os.setgid(user)
-            os.setuid(user)
+            become(user)
             with socket.create_server(("127.0.0.1", port)):
                 os.write(told, b"1")
                 time.sleep(PATIENCE)
