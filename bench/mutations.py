@@ -6,9 +6,9 @@
     bench/mutations.py --count 200 --seed 7 --part 1/2 --kept kept.json      (and 2/2 beside it)
 
 The code is the launcher, the scripts of deploy/, the recount, and the script of the clerks' page.
-A mutation turns a comparison, a sign, an `and` or a number. For each, the tests that name the file
-run until one fails, first those whose names are like the file's, of others the quick ones; a module
-that fails without any mutation is left out. The same seed and the same tree give the same
+A mutation turns a comparison, a sign, an `and` or a number. For each, the tests that name the file,
+or that have it through a module of tests/support, run until one fails, first those whose names are
+like the file's, of others the quick ones; a module that fails without any mutation is left out. The same seed and the same tree give the same
 mutations. All of this happens in a copy of the tree, a repository of its own. What it knows of the
 modules of tests, whether they pass and how long they take, is kept in a file with --kept. The last
 line is the score, and the exit status is 1 if a mutation survived.
@@ -130,20 +130,22 @@ def imported(path):
 
 
 def tests_of(file):
-    """The test modules that name a file, or else those whose modules of tests/support name it."""
+    """The test modules that name a file, and after them those whose modules of tests/support do:
+    each with its place in the order in which they are run."""
     names = {name for one in names_of(file) for name in {one.name, one.stem}}
     pattern = re.compile(rf"""["'/](?:{'|'.join(map(re.escape, sorted(names)))})["'\s?#]""")
     tests = {".".join(path.relative_to(ROOT).with_suffix("").parts): path
              for path in sorted((ROOT / "tests").rglob("test_*.py"))}
     if file == "office":
-        return [module for module in tests if ".launcher." in module]
+        return {module: likeness(module, file) for module in tests if ".launcher." in module}
     if file == SCRIPT:
         # Those that name the pages that are built of it, or have one in a browser.
         pattern = re.compile(r"clerk(?:_es)?\.html|support\.clerks")
-    found = [module for module, path in tests.items() if pattern.search(text_of(path))]
-    found = found or [module for module, path in tests.items()
-                      if any(pattern.search(text_of(one)) for one in imported(path))]
-    return found
+    named = {module for module, path in tests.items() if pattern.search(text_of(path))}
+    through = {module for module, path in tests.items()
+               if any(pattern.search(text_of(one)) for one in imported(path))}
+    likely = {module: likeness(module, file) for module in sorted(named | through)}
+    return {module: how + 3 * (how > 0 and module not in named) for module, how in likely.items()}
 
 
 def likeness(module, file):
@@ -186,7 +188,7 @@ def mutations_of(file, language):
 
 
 def git(folder, *words):
-    of_nobody = ("-c", "user.name=nobody", "-c", "user.email=nobody@localhost",
+    of_nobody = ("-c", "user.name=nobody", "-c", "user.email=nobody@example.org",
                  "-c", "commit.gpgsign=false")
     subprocess.run(["git", "-C", folder, *of_nobody, *words], check=True, stdout=subprocess.DEVNULL)
 
@@ -254,8 +256,9 @@ class Kept:
     def in_turn(self, file):
         """The tests of a file, those first that are most likely to fail soon."""
         self.read()
-        known = [module for module in tests_of(file) if self.modules.get(module, [True])[0]]
-        return sorted(known, key=lambda module: (likeness(module, file),
+        places = tests_of(file)
+        known = [module for module in places if self.modules.get(module, [True])[0]]
+        return sorted(known, key=lambda module: (places[module],
                                                  self.modules.get(module, (True, 60))[1]))
 
     def is_good(self, module):

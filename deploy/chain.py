@@ -8,6 +8,7 @@ import csv
 import hashlib
 import json
 import os
+import re
 import stat
 
 FIRST = "0" * 64
@@ -15,6 +16,8 @@ FIRST = "0" * 64
 MOST_SHOWN = 64 << 20
 # How many characters one of its rows may have: a time, a number, a hash and two commas.
 LONGEST_ROW = 256
+# One of its rows: a time, the number of lines, and the hash of the last of them.
+ROW = re.compile("[^,]*,[0-9]+,[0-9a-f]{64}")
 # How long a first line may be that says of which setup a record is.
 LONGEST_FIRST = 4096
 
@@ -26,6 +29,7 @@ def printable(said):
 
 def read_shown(file):
     """The hashes that were shown, by the numbers of their lines. Before the first there is none.
+    A file without the header or without a row is refused: nothing would be compared with it.
 
     The user of the pages may put something else in the place of the file: a pipe, which root would
     wait for, a link, which root would follow, or a file without an end."""
@@ -38,21 +42,28 @@ def read_shown(file):
         if found.st_size > MOST_SHOWN:
             raise ValueError(f"it has more than {MOST_SHOWN} bytes")
         try:
-            for row in csv.DictReader(rows_of(rows)):
+            table = csv.DictReader(rows_of(rows))
+            if not {"lines", "sha256"} <= set(table.fieldnames or ()):
+                raise ValueError("it has no header with lines and sha256")
+            for row in table:
                 shown.setdefault(int(row["lines"]), set()).add(row["sha256"])
         except csv.Error as error:
             raise ValueError(str(error)) from None
+    if not shown:
+        raise ValueError("it has no row")
     shown.pop(0, None)
     return shown
 
 
 def rows_of(file):
     """The rows of a file, one after the other. One that is too long is not read to its end, as of a
-    file of zeros alone, which takes no room on the disk."""
+    file of zeros alone, which takes no room on the disk. The last is passed over where it was cut,
+    as while the file was fetched."""
     while row := file.readline(LONGEST_ROW + 1):
         if len(row) > LONGEST_ROW:
             raise ValueError(f"one of its rows has more than {LONGEST_ROW} characters")
-        yield row
+        if row.endswith(("\n", "\r")) or ROW.fullmatch(row):
+            yield row
 
 
 def hash_of_file(file):

@@ -150,5 +150,5 @@ def parts_of(program, given, files, port):
     return (Part("the office", serve, lambda: b"listening on" in files.said.read_bytes(),
                  files.said),
             Part("the recorder", record, head.exists),
-            Part("the reader", read, (files.reader / "1.sock").exists),
+            Part("the reader", read, (files.reader / "1-names.sock").exists),
             Part("the press pages", press + site))

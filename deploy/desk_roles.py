@@ -68,6 +68,8 @@ TARGETS = [(kind, re.compile(pattern)) for kind, pattern in (
     ("setup", "/setup.json"),
     ("file", "/(?P<file>([a-z]{2}/)?([A-Za-z0-9_-][A-Za-z0-9_.-]*)?)"),
 )]
+# Reports with seats that may not be certified yet.
+PROVISIONAL = re.compile(f"/results|{CON}/(provisional|result)")
 # Of these a target with a question is the same without.
 FILES = ("page", "logout", "setup", "file")
 
@@ -96,8 +98,7 @@ class Request:
     @property
     def has_provisional(self):
         """Whether it is a report with seats that may not be certified yet."""
-        return (self.kind in ("table", "now")
-                and self.path.endswith(("/results", "/provisional", "/result")))
+        return self.kind in ("table", "now") and bool(PROVISIONAL.fullmatch(self.path))
 
     def is_there(self, role, is_hidden):
         """Whether there is such a report for a role, on a site that may hide provisional seats."""

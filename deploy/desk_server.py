@@ -279,8 +279,10 @@ class Handler(http.server.BaseHTTPRequestHandler):
         self.pass_on(self.server.house.reader, "GET", target, **fields)
 
     def answer_history(self, found):
+        person = self.server.person
         self.pass_on(self.server.house.recorder, "GET", f"/history/{found.station}",
-                     Office_Role=self.server.person.role, Office_Allowed=self.says_allowed(found))
+                     Office_Name=person.name, Office_Role=person.role,
+                     Office_Allowed=self.says_allowed(found))
 
     def answer_typed(self, found):
         person = self.server.person

@@ -88,13 +88,15 @@ class Return:
 class Con:
     """A constituency: its entry in setup.json, its sums in results.csv, its closed returns by their
     stations and, where it is certified, who is elected: list, place in it and name, or None for
-    both where a seat is empty."""
+    both where a seat is empty. After a vacancy that is who holds the seat now; `left` has the lists
+    of those who have left."""
 
     setup: dict
     published: dict
     certified: bool
     returns: dict = field(default_factory=dict)
     elected: list = field(default_factory=list)
+    left: set = field(default_factory=set)
 
     @property
     def code(self):
@@ -145,6 +147,11 @@ class Con:
                 ("spoiled", ""): self.total.spoiled,
                 **{("votes", code): n for code, n in zip(codes, self.total.votes)},
                 **{("seats", code): n for code, n in self.seats.items()}}
+
+
+def vacated(cons):
+    """The codes of the constituencies in which somebody has left."""
+    return ", ".join(con.code for con in cons if con.left)
 
 
 @dataclass
@@ -269,6 +276,7 @@ def read_con(pages, setup, row, sums):
     con = Con(setup, sums, certified)
     if certified:
         con.elected = [(one["list"], one["place"], one["name"]) for one in state["holders"]]
+        con.left = {one["list"] for one in state["view"]["gone"]}
         compare(pages.last, code, {("seats", one): n for one, n in state["seats"]["seats"].items()},
                 of_kinds(sums, "seats"))
     if sums["closed", ""]:

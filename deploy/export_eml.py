@@ -91,13 +91,16 @@ def candidate(place, name):
 
 
 def result(election, marks):
-    """The result of each certified constituency: its lists, each before those elected of it."""
+    """The result of each certified constituency: its lists, each before those who hold its seats
+    now, with a mark where these are not all who were elected."""
     contests = []
     for con in election.certified:
         parts = []
         for one in con.lists:
             elected = text("Elected", "yes" if con.seats[one["code"]] else "no")
             parts.append(element("Selection", affiliation(one), elected))
+            if one["code"] in con.left:
+                parts.append(comment(marks, "left"))
             for code, place, name in con.elected:
                 if code == one["code"]:
                     parts.append(comment(marks, "empty_seat") if name is None else element(

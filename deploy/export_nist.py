@@ -4,6 +4,8 @@ remembered."""
 import json
 from collections import Counter, defaultdict
 
+from export_data import vacated
+
 FILE = "nist-1500-100.json"
 SCOPE = "election"
 
@@ -95,7 +97,8 @@ def contest(con):
 
 
 def candidates(con):
-    """All candidates; those who are elected are winners, and nobody is without a certificate."""
+    """All candidates; those who hold a seat now are winners, and nobody is without a
+    certificate."""
     elected = {(code, place) for code, place, _ in con.elected}
     for one in con.lists:
         for place, name in enumerate(one["candidates"], 1):
@@ -115,7 +118,7 @@ def parties(election):
 
 
 def report(election, marks):
-    """The report, in one line. The mark is in its notes, since JSON has no comments."""
+    """The report, in one line. The marks are in its notes, since JSON has no comments."""
     day, issuer = str(election.day), election.authority or election.title
     whole = typed(
         "Election", Name=in_any_language(election.title), StartDate=day, EndDate=day,
@@ -123,7 +126,10 @@ def report(election, marks):
         BallotCounts=[one for con in election.cons for one in ballots(con)],
         Candidate=[one for con in election.cons for one in candidates(con)],
         Contest=[contest(con) for con in election.cons])
-    return json.dumps({"Notes": marks.say("mark"), **typed(
+    notes = [marks.say("mark")]
+    if codes := vacated(election.certified):
+        notes.append(marks.say("vacated", codes=codes))
+    return json.dumps({"Notes": " ".join(notes), **typed(
         "ElectionReport", Format="precinct-level", Status=status_of(election),
         GeneratedDate=election.time, Issuer=issuer, IssuerAbbreviation=issuer, SequenceStart=1,
         SequenceEnd=1, VendorApplicationId="deploy/export", GpUnit=places(election),

@@ -11,7 +11,7 @@ from functools import cached_property
 from pathlib import Path
 from tempfile import TemporaryDirectory
 
-from chain import Chain
+from chain import Chain, hash_of_file
 from press_data import json_text, read_setup, returns_csv
 from press_parts import hundredths
 from scripts import script
@@ -369,13 +369,28 @@ class Record(entries.Reading):
         return [one for one in self.events if one.what == what and one.code in codes]
 
 
-def read_record(file, text):
-    """The record of the office of a setup."""
+def of_whole(file, cons):
+    """Whether a setup.json has these constituencies. One of an older package does not say that a
+    return has two entries."""
+    try:
+        known = {con["code"]: con for con in json.loads(file.read_text(encoding="utf-8"))}
+    except (ValueError, KeyError, TypeError, RecursionError) as error:
+        raise Unusable(f"{file}: {error}") from error
+    return all(known.get(con["code"]) in (con, {key: con[key] for key in con if key != "entry"})
+               for con in cons)
+
+
+def read_record(file, text, whole=None):
+    """The record of the office of a setup; where the setup is a part of another one, `whole` is its
+    setup.json."""
     setup = {"constituency": recounts.read_setup(text)}
     with TemporaryDirectory(prefix="office-papers-") as folder:
         copy = Path(folder, "setup.toml")
         copy.write_text(text, encoding="utf-8")
-        digest = hashlib.sha256(json_text(read_setup(copy)).encode()).hexdigest()
+        made = json_text(read_setup(copy))
+    digest = hash_of_file(whole) if whole else hashlib.sha256(made.encode()).hexdigest()
+    if whole and not of_whole(whole, json.loads(made)):
+        raise Refused("setup_of_another", file=whole)
     record, chain, faults = Record(setup), Chain(), []
     with open(file, "rb") as lines:
         for number, line in enumerate(lines, 1):

@@ -210,12 +210,14 @@ def lot(forms, con, record):
     if not con.lot:
         needed = ", ".join(con.lists[place - 1]["code"] for place in con.lot_needed)
         return [forms.say("lot_missing", lists=needed) if needed else forms.say("lot_none")]
-    found = [forms.say("lot_drawn", lists=in_order(
-        forms, [con.lists[place - 1]["code"] for place in con.lot]))]
+    order = [con.lists[place - 1]["code"] for place in con.lot]
+    found = [forms.say("lot_drawn", lists=in_order(forms, order))]
     rule = con.setup["rule"]
     if rule.get("lot") == "alternating" and rule["method"] != "hare":
         found.append(forms.say("lot_turned"))
-    if drawn := record.events_of(con, "draw") if record else []:
+    drawn = record.events_of(con, "draw") if record else []
+    # (one that was drawn past the record has another moment than the record's last one)
+    if drawn and list(record.lots[con.code][-1][1]) == order:
         found.append(forms.say("lot_when", moment=forms.when(drawn[-1].time)))
     return found
 

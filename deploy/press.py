@@ -8,7 +8,9 @@ they are together; count.html, how far the count is; a page for each constituenc
 sites; the elected; and the same numbers as CSV and JSON. Where
 there are several offices the pages are those of all. With the setup file it also writes setup.json, which the clerks' page reads,
 draws the threshold, has turnout, names the candidates who are gone, and writes for each certificate the returns of its stations,
-as one CSV and as pages; where there is no certificate, those that are closed so far. With the head that the recorder writes, each
+as one CSV and as pages; where there is no certificate, those that are closed so far. The setup has to be that of the offices
+together. A constituency that two of them have, that is missing or unknown, or that is not as the setup has it is named on standard
+error, and the pages of all stay as they were. With the head that the recorder writes, each
 round shows how long the record of commands is and the hash of its last line, and record.csv keeps what was shown. The folder of the site says what the pages are called, in which language,
 and more (press_site.py). manifest.json has the hash of each file, feed.atom what was certified, withdrawn and vacated, and
 datapackage.json, the schemas and openapi.json say what the files have.
@@ -20,8 +22,9 @@ and the others are asked for in later rounds, those first that waited longest. I
 constituency, the rounds after it wait less. A file is written beside and renamed, so nobody reads half of one, and once more
 compressed. One that somebody else changed or removed is named on standard error and made again in the next round; a folder
 in its place is named and stays. Where the office does not answer, or not what can be used, the page that was there stays, with a
-line that says how old it is. With --every it goes on until it is ended. Each round prints a line, with how many GETs it took; the
-status is 1 where the last one failed in part. Python 3.11 or later.
+line that says how old it is. With --every it goes on until it is ended, also after a round that a full disk ended. Each round
+prints a line, with how many GETs it took; the status is 1 where the last one failed in part, or its head or its record of commands
+cannot be used. Python 3.11 or later.
 """
 
 import argparse
@@ -33,8 +36,6 @@ import re
 import signal
 import sys
 import time
-import urllib.error
-import urllib.request
 from dataclasses import dataclass, field
 from datetime import datetime
 from functools import partial
@@ -42,23 +43,22 @@ from pathlib import Path
 
 from press_data import (ACTS, OF_HASH, OPEN, STATION, adds_up, con_csv, con_json, datapackage, feed, goes_on,
                         index_csv, index_json, json_text, manifest, record_csv, results_csv,
-                        returns_csv, returns_in, schemas, shown_heads)
+                        returns_csv, returns_in, said_before, schemas, shown_heads)
 from press_country import together
 from press_embed import con_embedded, country_embedded, withdrawn_embedded
 from press_files import (allow_provisional, changed, is_folder, is_known, make_folder, moment_in, put, put_bytes, remove,
                          remove_folder, repair, restore, text_of, text_of_another)
 from press_image import shared_image
 from press_lists import elected_csv, elected_pages, list_pages
+from press_offices import Office, OtherSetup, compare_stations, results_of
 from press_pages import aged, con_bodies, con_page, count_pages, details_page, index_pages, unaged, withdrawn_page
 from press_parts import AGE
 from press_places import find_json, places_csv
-from press_results import NoAnswer, read_results, read_stations, without_provisional
+from press_results import NoAnswer, read_stations, without_provisional
 from press_site import LANGUAGES, Site, Wrong, fault_of, read_setup
 from press_stations import places_pages, stations_pages
 from press_templates import TemplateError
 
-# How long an answer may take: an import may have the office before.
-PATIENCE = 60
 # The files and the routes of the site, for programs.
 ROUTES = Path(__file__).resolve().with_name("openapi.json")
 # Stations that change while they are asked for are asked for again, so often.
@@ -71,54 +71,6 @@ MOST_NAMED = 20
 # that waited longer leaves less to those after it, at most ten of them: an answer may also be late
 # since the office was at an import.
 AGAIN, STATIONS, MOST_OWED = 60, 0.5, 5.0
-
-
-# ---- asking the office
-
-
-class Office:
-    """An office, how often it was asked, and how many seconds its answers took."""
-
-    def __init__(self, address):
-        self.address, self.asked, self.took = address.rstrip("/"), 0, 0.0
-        # A proxy of the environment has nothing to do with it.
-        self.opener = urllib.request.build_opener(urllib.request.ProxyHandler({}))
-
-    def get(self, target):
-        """Status and text of an answer. A proxy that limits how often it is asked is asked again."""
-        end = time.monotonic() + PATIENCE
-        while True:
-            status, text = self.get_once(target)
-            if status != 429 or time.monotonic() > end:
-                return status, text
-            time.sleep(0.5)
-
-    def get_once(self, target):
-        self.asked, began = self.asked + 1, time.monotonic()
-        try:
-            with self.opener.open(self.address + target, timeout=PATIENCE) as answer:
-                return answer.status, answer.read().decode()
-        except urllib.error.HTTPError as refusal:
-            with refusal:
-                return refusal.code, refusal.read().decode(errors="replace")
-        except (OSError, ValueError, urllib.error.URLError) as error:
-            raise NoAnswer(f"{target}: {error}") from error
-        except Exception as error:  # http.client has errors of its own: an answer that is cut off, or none
-            raise NoAnswer(f"{target}: {type(error).__name__}") from error
-        finally:
-            self.took += time.monotonic() - began
-
-    def text(self, target):
-        status, text = self.get(target)
-        if status != 200:
-            raise NoAnswer(f"{target}: status {status}")
-        return text
-
-    def json(self, target):
-        try:
-            return json.loads(self.text(target))
-        except json.JSONDecodeError as error:
-            raise NoAnswer(f"{target}: not JSON") from error
 
 
 # ---- files
@@ -146,21 +98,22 @@ def published(folder, *left):
             if file.is_file() and file.suffix != ".gz" and not file.name.startswith(".") and file.name not in left]
 
 
-def put_head(folder, file):
-    """Adds the head of the record of commands to those that were shown; the head, or None where there is none."""
+def put_head(folder, file, failures):
+    """Adds the head of the record of commands to those that were shown; the head, or None where there is none. What is wrong with
+    either is one of the failures."""
     shown = folder / "record.csv"
     try:
         head = json.loads(text_of_another(file))
         before, wrong = shown_heads(shown.read_bytes() if shown.exists() else b"")
         text = record_csv(before, head)
         if wrong:
-            print(f"failed: {shown}: {wrong} of its lines are no heads of a record, and are left out", file=sys.stderr, flush=True)
+            failures.append(f"{shown}: {wrong} of its lines are no heads of a record, and are left out")
         # A recorder that found another record than was shown says so in its head.
         head["whole"] = goes_on(before, head) and not head.get("fault")
         if not head["whole"]:
-            print(f"failed: {file}: line {head['n']} is the last of the record, and {shown} has more, or another", file=sys.stderr, flush=True)
+            failures.append(f"{file}: line {head['n']} is the last of the record, and {shown} has more, or another")
     except (OSError, ValueError, KeyError, TypeError, AttributeError, RecursionError) as error:
-        print(f"failed: {getattr(error, 'filename', None) or file}: {error!r}", file=sys.stderr, flush=True)
+        failures.append(f"{getattr(error, 'filename', None) or file}: {error!r}")
         return None
     put(folder, "record.csv", text)
     return head
@@ -254,8 +207,8 @@ def stations_of(office, code, before, entry):
         text = office.text(f"/con/{code}/stations")
         if text == before:
             return text, None, None
+        compare_stations(office, code, entry, text)
         stations = read_stations(text)
-        of_setup(f"/con/{code}/stations", stations, (station["code"] for station in entry["stations"]))
         closed = closed_returns(office, code, stations, entry)
         if closed is not None:
             return text, stations, closed
@@ -297,12 +250,17 @@ def open_file(code):
     return f"stations-{code}-{OPEN}.csv"
 
 
+def has_open(row):
+    """Whether a constituency has returns and no certificate, so that its table of stations is read, by its progress."""
+    return not row["certified"] and row["missing"] < row["stations"]
+
+
 def write_open(office, folder, site, code, con, entry, seen, may_ask):
     """The stations of a constituency without a certificate as they are, where they are to be asked for; the file of the closed
     returns that is there, or none."""
     row, name, now = con["progress"], open_file(code), time.monotonic()
     key = row, con["view"]
-    if not entry or row["certified"] or row["missing"] == row["stations"]:
+    if not entry or not has_open(row):
         seen.stations.pop(code, None)
         return {}
     before, since, text = seen.stations[code] if code in seen.stations and (folder / name).is_file() else (None, 0, None)
@@ -379,7 +337,8 @@ class Seen:
     without a certificate its stations, and when they were asked for; of each the electors of the stations that are counted, and the
     places of those with which its pages of stations begin; the constituencies of which the pages of lists were made; in each language, of
     which beginnings find.json was made; of each what the page of each place shows; the edition of each whose file of returns was
-    compared with the office; the seconds that the last round left for stations, fewer than none where it waited longer."""
+    compared with the office; the seconds that the last round left for stations, fewer than none where it waited longer; whether setup.json
+    was written."""
     cons: dict = field(default_factory=dict)
     written: dict = field(default_factory=dict)
     moments: dict = field(default_factory=dict)
@@ -391,9 +350,11 @@ class Seen:
     places: dict = field(default_factory=dict)
     compared: dict = field(default_factory=dict)
     left: float = 0.0
+    has_setup: bool = False
 
     def forget(self):
         """Each file is made again in the next round."""
+        self.has_setup = False
         for known in (self.written, self.stations, self.lists, self.found, self.places, self.compared):
             known.clear()
 
@@ -487,24 +448,15 @@ def write_lists(folder, site, cons, setup, electors, seen):
 def write_about(folder, site, cons, codes, setup, seen, head):
     """Writes the feed, after these constituencies, and what describes the other files. The codes are those of all constituencies,
     where they are known."""
-    moment, before = datetime.now().astimezone(), text_of(folder / "feed.atom")
-    put_dated(folder, "feed.atom", lambda since: feed(before, cons, codes, setup, site, since), moment)
+    moment, (known, has_others) = datetime.now().astimezone(), said_before(text_of(folder / "feed.atom"))
+    if has_others:
+        print(f"failed: {folder / 'feed.atom'}: what is none of the entries of these pages is left out", file=sys.stderr, flush=True)
+    put_dated(folder, "feed.atom", lambda since: feed(known, cons, codes, setup, site, since), moment)
     for name, text in {"openapi.json": text_of(ROUTES), **schemas()}.items():
         put(folder, name, text)
     put(folder, "datapackage.json", datapackage(published(folder), seen.cons, site))
     pages = [file for _, into in site.editions(folder) for file in published(into, "manifest.json")]
     put(folder, "manifest.json", manifest(pages, head, moment, folder))
-
-
-def results_of(offices):
-    """The results of all offices, each of one moment: by constituency its office and what it is; and what failed."""
-    found, failures = {}, []
-    for office in offices:
-        try:
-            found |= {code: (office, con) for code, con in read_results(office.text("/results")).items()}
-        except NoAnswer as error:
-            failures.append(str(error))
-    return found, failures
 
 
 class Round:
@@ -513,7 +465,7 @@ class Round:
 
     def __init__(self, offices, folder, site, setup, seen, seconds):
         self.folder, self.site, self.setup, self.seen, self.seconds = folder, site, setup, seen, seconds
-        found, self.failures = results_of(offices)
+        found, self.failures = results_of(offices, setup)
         self.whole = not self.failures
         # By constituency its office, what it is, and the files of returns that are there.
         self.offices = {code: office for code, (office, _) in found.items()}
@@ -531,6 +483,7 @@ class Round:
 
     def leave_as_it_is(self):
         """A file of all offices has all of them, or stays as it is."""
+        self.whole = False
         pages = [(site, page) for site, page in self.pages() if con_of(page.name) not in self.cons]
         for site, page in pages:
             self.mark_old(site, page)
@@ -561,6 +514,9 @@ class Round:
                         self.mark_old(site, page)
                 self.failed.add(code)
                 self.failures.append(str(error))
+                self.offices[code].compared.discard(code)
+                if self.whole and isinstance(error, OtherSetup):
+                    self.leave_as_it_is()
 
     def waits(self, code):
         """The order in which stations are asked for: first those of a certificate, and then those that waited longest."""
@@ -570,6 +526,10 @@ class Round:
         office, entry, may_ask = self.offices[code], self.setup.get(code), self.seconds > 0
         before = office.took
         try:
+            if code in office.other and not may_ask:
+                raise OtherSetup(office.other[code])
+            if entry and may_ask and code not in office.compared and not has_open(con["progress"]):
+                compare_stations(office, code, entry, office.text(f"/con/{code}/stations"))
             files = write_returns(office, self.folder, code, con, entry, self.seen, may_ask)
             files |= write_open(office, self.folder, self.site, code, con, entry, self.seen, may_ask)
             if con["view"]["certified"]:
@@ -584,8 +544,11 @@ class Round:
 
     def write_rest(self, head):
         """Writes the files that are of all constituencies."""
-        shown = head and self.cons and put_head(self.folder, head)
+        shown = head and self.cons and put_head(self.folder, head, self.failures)
         if self.whole:
+            if self.setup and not self.seen.has_setup:
+                put(self.folder, "setup.json", json_text(list(self.setup.values())))
+                self.seen.has_setup = True
             # (of one whose returns could not be read nobody knows whose electors are counted)
             electors = {code: many for code, many in self.seen.electors.items() if code not in self.failed}
             write_index(self.folder, self.site, self.cons, self.setup, electors, self.seen, shown)
@@ -600,7 +563,7 @@ def seconds_of_round(seen):
     return STATIONS + min(0.0, max(seen.left, -MOST_OWED))
 
 
-def look_for_changes(folder, site, setup, seen):
+def look_for_changes(folder, site, seen):
     """Says which files somebody else changed or removed, and makes them again. A former certificate's file of returns can be made by
     nobody, and is gone; the feed and the heads that were shown stay, which have moments of before."""
     found = changed(folder)
@@ -613,14 +576,12 @@ def look_for_changes(folder, site, setup, seen):
             remove(file.parent, file.name)
     if found:
         seen.forget()
-        write_given(folder, site, setup)
+        write_given(folder, site)
 
 
-def write_given(folder, site, setup):
+def write_given(folder, site):
     """Writes the files of what is given at the start."""
     allow_provisional(folder, site.provisional)
-    if setup:
-        put(folder, "setup.json", json_text(list(setup.values())))
     if known := site.for_clerks():
         put(folder, "site.json", json_text(known))
     else:
@@ -629,7 +590,7 @@ def write_given(folder, site, setup):
 
 def write_all(offices, folder, site, setup, seen, head=None, seconds=math.inf):
     """One round; how many pages of constituencies and of the country were written, and what failed."""
-    look_for_changes(folder, site, setup, seen)
+    look_for_changes(folder, site, seen)
     it = Round(offices, folder, site, setup, seen, seconds)
     if it.failures:
         it.leave_as_it_is()
@@ -640,6 +601,17 @@ def write_all(offices, folder, site, setup, seen, head=None, seconds=math.inf):
         withdraw(folder, site, {*it.cons, *setup})
     it.write_rest(head)
     return len(it.cons) - len(it.failed) + it.whole, it.failures
+
+
+def begin(folder, site):
+    """Makes the folder ready for the pages, and looks at what is in it."""
+    write_given(folder, site)
+    remove_languages(folder, site)
+    restore(folder)
+    for _, into in site.editions(folder):
+        if into != folder:
+            make_folder(into)
+        repair(into)
 
 
 def main():
@@ -661,13 +633,10 @@ def main():
         sys.exit(f"failed: {error}")
     site.meet(row["code"] for entry in setup for row in entry["lists"])
     entries = {entry["code"]: entry for entry in setup}
-    write_given(given.folder, site, entries)
-    remove_languages(given.folder, site)
-    restore(given.folder)
-    for _, folder in site.editions(given.folder):
-        if folder != given.folder:
-            make_folder(folder)
-        repair(folder)
+    try:
+        begin(given.folder, site)
+    except OSError as error:
+        sys.exit(f"failed: {error.filename or given.folder}: {error.strerror}")
     signal.signal(signal.SIGTERM, lambda *_: sys.exit(0))
     offices, seen, asked = [Office(address) for address in given.office], Seen(), 0
     while True:
@@ -677,6 +646,10 @@ def main():
                                           math.inf if given.every is None else seconds_of_round(seen))
         except TemplateError as error:
             sys.exit(f"failed: templates: {fault_of(error)}")
+        except OSError as error:
+            # As of a full disk: all that may not have been written is written in the next round.
+            seen.forget()
+            written, failures = 0, [f"{error.filename or given.folder}: {error.strerror}: the round ended there"]
         asked = sum(office.asked for office in offices)
         for failure in failures:
             print(f"failed: {failure}", file=sys.stderr, flush=True)

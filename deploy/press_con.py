@@ -12,8 +12,8 @@ from press_lots import lot_drawn, lot_said
 from press_open import reason_said, reopened_counted
 from press_parts import (COUNTED, NOTHING, TABLE_ROOM, Head, Part, blank_row, by_votes, changed,
                          changing, details_links, divided, hundredths, list_link, list_name,
-                         numbers, pieces, progress_bar, room_beside, rounded, row_of, sections,
-                         sections_on, shown_share, size, stacked_row, table, tables, together,
+                         list_share, numbers, pieces, progress_bar, room_beside, rounded, row_of,
+                         sections, sections_on, size, stacked_row, table, tables, together,
                          votes_said)
 from press_results import RULES, counted_share, lot_of, provisional_seats
 from press_templates import Markup
@@ -101,8 +101,7 @@ def last_seat(site, con):
     best = max(left, key=lambda code: quotient(code, left[code]))
     level = [code for code in left if quotient(code, left[code]) == quotient(best, left[best])]
     if quotient(best, left[best]) == quotient(award["list"], award["of_list"]):
-        found.append(site.said("last_seat_level",
-                               lists=Markup(", ").join(list_name(site, code) for code in level)))
+        found += level_said(site, votes, award["list"], level)
     else:
         found.append(said("last_seat_next", best, left[best]))
     if short := [row for row in con["short"] if row["short"] is not None]:
@@ -111,6 +110,17 @@ def last_seat(site, con):
                                votes=site.number(least["short"]),
                                loser=list_name(site, loser(con, least["list"]))))
     return found
+
+
+def level_said(site, votes, winner, level):
+    """Why the last seat went to this list and not to these, whose next quotient is as high: a lot
+    decided among lists of as many votes, and more votes before those of fewer (LOREG, article
+    163.1 d)."""
+    by_lot = [code for code in level if votes[code] == votes[winner]]
+    by_votes = [code for code in level if votes[code] != votes[winner]]
+    return [site.said(words, lists=Markup(", ").join(list_name(site, code) for code in codes))
+            for words, codes in (("last_seat_level", by_lot), ("last_seat_votes", by_votes))
+            if codes]
 
 
 def provisional_sections(site, con, none, why, room):
@@ -204,7 +214,7 @@ def share_of(con, entry, row):
     where the rule is not known."""
     if not entry:
         return int(row["share"].replace(".", ""))
-    return shown_share(row["votes"], base_of(con, entry), entry["threshold"], row["eligible"])
+    return list_share(con, row)
 
 
 def base_of(con, entry):
@@ -218,8 +228,8 @@ def con_head(site, con, entry, electors):
     """The lines under the title: how much is counted, the seats, what is missing, and who has won
     or who leads. The electors are those of the stations that are counted, or None."""
     tally, seats = con["tally"], con.get("seats")
-    standings = [Standing(row["name"], row["votes"], seats["seats"][row["code"]] if seats else 0)
-                 for row in tally["lists"]]
+    standings = [Standing(row["name"], row["votes"], seats["seats"][row["code"]] if seats else 0,
+                          list_share(con, row)) for row in tally["lists"]]
     headline = (has_won(site, standings, seats["total"]) if seats
                 else leads(site, standings, base_of(con, entry),
                            tally["closed"] == tally["stations"]))

@@ -3,6 +3,7 @@
 from dataclasses import dataclass, field
 
 from press_names import in_order
+from press_parts import list_share, rounded
 from press_results import lot_of, provisional_seats
 
 # How many of the closest seats are shown.
@@ -43,6 +44,7 @@ class Country:
     provisional_closed: int = 0
     provisional_stations: int = 0
     cons: int = 0
+    only: dict | None = None  # the constituency, where there is but one
     certified_cons: int = 0
     withdrawn: list = field(default_factory=list)  # codes of constituencies
     stations: int = 0
@@ -92,6 +94,13 @@ class Country:
         """Votes of which shares are: the valid ones, or those of the lists where every rule says so."""
         return sum(party.votes for party in self.parties) if self.bases == {"lists"} else self.valid
 
+    def share_of(self, party):
+        """The share of a list, or of several, in hundredths of a per cent; that which the page of
+        the only constituency has, where there is one."""
+        rows = self.only["tally"]["lists"] if self.only else ()
+        row = next((row for row in rows if row["code"] == party.code), None)
+        return list_share(self.only, row) if row else rounded(party.votes, self.base)
+
 
 def by_name(cons):
     """The constituencies in the order of their names: codes, and what each is."""
@@ -102,6 +111,7 @@ def together(cons, setup, counted):
     """The country, of its constituencies, whose setups may be missing. `counted` are the electors of
     the stations that are counted, by constituency."""
     found, parties = Country(cons=len(cons)), {}
+    found.only = next(iter(cons.values())) if len(cons) == 1 else None
     for code, con in cons.items():
         found.chamber += con["rule"]["seats"]
         add_votes(found, parties, con, setup.get(code))

@@ -456,15 +456,26 @@ def entry_of(site, code, con, event, moment):
 
 
 def said_before(text):
-    """The entries of a feed by their identifiers, in order of time."""
+    """The entries of a feed by their identifiers, in order of time; and whether it has others, or is no feed. An entry without an
+    identifier or a link to its constituency is none of these pages, and is left out."""
     try:
-        return {entry.findtext(f"{ATOM}id"): entry for entry in reversed(ET.fromstring(text).findall(f"{ATOM}entry"))}
+        found = ET.fromstring(text)
     except ET.ParseError:
-        return {}
+        return {}, bool(text)
+    entries = found.findall(f"{ATOM}entry")
+    known = {of: entry for entry in reversed(entries) if (of := entry.findtext(f"{ATOM}id")) and con_of_entry(entry)}
+    return known, found.tag != f"{ATOM}feed" or len(known) < len(entries)
+
+
+def con_of_entry(entry):
+    """The code of the constituency whose page an entry links to, or None."""
+    link = entry.find(f"{ATOM}link")
+    found = link is not None and re.fullmatch(r"con-(.+)\.html", link.get("href", ""))
+    return found[1] if found else None
 
 
 def stays(entry, cons, codes):
-    code = re.fullmatch(r"con-(.*)\.html", entry.find(f"{ATOM}link").get("href"))[1]
+    code = con_of_entry(entry)
     return code not in cons and (codes is None or code in codes)
 
 
@@ -492,13 +503,13 @@ def seen_before(site, tally, before, now):
     return now
 
 
-def feed(before, cons, codes, setup, site, moment):
-    """The feed after what was in it before, where these constituencies were read. Of others everything stays, but for those that
-    are none of all that there are, where their codes are known.
+def feed(known, cons, codes, setup, site, moment):
+    """The feed after the entries that were in it before, where these constituencies were read. Of others everything stays, but for
+    those that are none of all that there are, where their codes are known.
 
     An entry keeps the moment at which it was first seen, for as long as its constituency shows what it says. Where there was no
     feed, all that the office shows has the present moment, and the identifiers that it had."""
-    moment, known, shown, tallies = moment.isoformat(timespec="seconds"), said_before(before), {}, {}
+    moment, shown, tallies = moment.isoformat(timespec="seconds"), {}, {}
     for code, con in cons.items():
         candidates = {row["code"]: row["candidates"] for row in setup[code]["lists"]} if code in setup else {}
         for event in (*events(con, candidates), *provisional_event(site, con)):

@@ -4,8 +4,8 @@ script, as small pages whose links open in a window of their own."""
 from press_figures import half_circle
 from press_pages import (circle_of, country_head, others_cells, provisional_said, seats_cells,
                          seats_heads, total_cells, votes_cells)
-from press_parts import (NOTHING, base_of, by_votes, framed, list_name, numbers, rounded,
-                         stacked_row)
+from press_parts import (NOTHING, base_of, by_votes, framed, list_name, list_share, numbers,
+                         rounded, stacked_row)
 from press_results import by_seats, counted_share, provisional_seats
 
 # Lists that such a part shows, before the others together.
@@ -87,7 +87,8 @@ def con_rows(site, con, given, more, question):
 
     def cells(said, rows):
         votes = sum(row["votes"] for row in rows)
-        shown = [site.number(votes), site.share(rounded(votes, base))]
+        share = list_share(con, rows[0]) if len(rows) == 1 else rounded(votes, base)
+        shown = [site.number(votes), site.share(share)]
         return [said, seats([row["code"] for row in rows]),
                 *(shown if con["tally"]["closed"] else ["–", "–"])]
 

@@ -47,8 +47,13 @@ def put_bytes(file, data):
         return
     if not is_as(file, data):
         beside = file.with_name(f".{file.name}.new")
-        beside.write_bytes(data)
-        os.replace(beside, file)
+        try:
+            beside.write_bytes(data)
+            os.replace(beside, file)
+        except OSError:
+            # (half of it would only take room from a full disk)
+            beside.unlink(missing_ok=True)
+            raise
     leave(file, data)
 
 

@@ -16,10 +16,12 @@ NAMED, SHOWN_SEATS = 3, 8
 
 
 class Standing(NamedTuple):
-    """A list with its votes, and its seats where they are certified."""
+    """A list with its votes, its seats where they are certified, and its share as the tables have
+    it, where that is not the rounded one."""
     name: str
     votes: int
     seats: int = 0
+    share: int | None = None
 
 
 # ---- what is counted, and who leads
@@ -47,13 +49,14 @@ def leads(site, standings, base, whole=False):
         return None
     votes = ordered[0].votes
     first, others = [one for one in ordered if one.votes == votes], ordered[1:]
-    share, end = site.per_cent(rounded(votes, base)), "_all" if whole else ""
+    shares = [rounded(one.votes, base) if one.share is None else one.share for one in ordered]
+    share, end = site.per_cent(shares[0]), "_all" if whole else ""
     if len(first) > 1:
         return site.say("head_level", lists=level(site, first), share=share)
     if not others or not others[0].votes:
         return site.say(f"head_alone{end}", first=name(first[0]), share=share)
     second = [one for one in others if one.votes == others[0].votes]
-    ahead = site.per_cent(rounded(votes, base) - rounded(second[0].votes, base))
+    ahead = site.per_cent(shares[0] - shares[1])
     lists = level(site, second)
     return site.say(f"head_leads{end}", first=name(first[0]), share=share, ahead=ahead,
                     second=lists if len(second) == 1 else site.say("head_tied", lists=lists),
@@ -61,7 +64,7 @@ def leads(site, standings, base, whole=False):
 
 
 def level(site, standings):
-    """Lists with as many votes, by their names where they are few."""
+    """Lists with as many votes or seats, by their names where they are few."""
     if len(standings) > NAMED:
         return site.say("many_lists", many=len(standings))
     return site.listed([name(one) for one in standings])
@@ -70,23 +73,20 @@ def level(site, standings):
 def has_won(site, standings, total, majority=None):
     """Who has most of the seats, all of which are certified, in a sentence; None where there are
     none. With a majority, of how many seats that is."""
-    first, second = by(standings, "seats")
-    if not first or not first.seats:
+    ordered = sorted(standings, key=lambda one: (-one.seats, -one.votes))
+    if not ordered or not ordered[0].seats:
         return None
-    values = {"first": name(first), "seats": site.number(first.seats), "many": total}
-    if second and second.seats == first.seats:
-        return site.say("head_as_many", second=name(second), **values)
+    first = ordered[0]
+    most = [one for one in ordered if one.seats == first.seats]
+    values = {"seats": site.number(first.seats), "many": total}
+    if len(most) > 1:
+        return site.say("head_as_many", lists=level(site, most), **values)
+    values["first"] = name(first)
     if majority is None or total == 1:
         return site.say("head_most", **values)
     if first.seats >= majority:
         return site.say("head_majority", **values)
     return site.say("head_short", short=site.number(majority - first.seats), **values)
-
-
-def by(standings, what):
-    """The first two, with the most votes or seats; None in their place where there are fewer."""
-    ordered = sorted(standings, key=lambda one: (-getattr(one, what), -one.votes))
-    return [*ordered, None, None][:2]
 
 
 def name(standing):

@@ -8,8 +8,8 @@ from press_country import by_name
 from press_data import ELECTED, csv_text, in_a_cell
 from press_head import counted_line, list_outlook, state_alone
 from press_names import label
-from press_parts import (NOTHING, Head, base_of, by_votes, details_links, divided, framed,
-                         list_name, numbers, room_beside, rounded, searched, sections, stacked_row,
+from press_parts import (NOTHING, Head, by_votes, details_links, divided, framed,
+                         list_name, list_share, numbers, room_beside, searched, sections, stacked_row,
                          tables)
 from press_pages import counted_of_provisional
 from press_results import provisional_seats
@@ -30,7 +30,7 @@ def said_of(site, country, party):
     the word and with how much is counted."""
     base = site.said(f"base_{'lists' if country.bases == {'lists'} else 'valid'}")
     found = [site.said("list_votes", many=party.votes, base=base,
-                       share=site.per_cent(rounded(party.votes, country.base)))]
+                       share=site.per_cent(country.share_of(party)))]
     if country.certified_cons:
         words = "list_seats_all" if country.whole else "list_seats"
         found.append(site.said(words, many=country.chamber, seats=site.number(party.seats),
@@ -52,7 +52,7 @@ def votes_tables(site, rows, is_provisional):
             cells.append(site.templates.parts.provisional(given) if given else "–")
         votes = ["–", "–"]
         if con["tally"]["closed"]:
-            votes = [site.number(row["votes"]), site.share(rounded(row["votes"], base_of(con)))]
+            votes = [site.number(row["votes"]), site.share(list_share(con, row))]
         found.append(stacked_row(
             site, site.templates.parts.con_link(code, con["tally"]["name"]), *cells, *votes))
     heads = [Head(site.said("con")),

@@ -29,8 +29,8 @@ def lot_said(site, con):
 
 
 def lot_drawn(site, con):
-    """Which lists were level for the last seats and which of them a lot gave these, where quotients
-    show it; and last the order that was drawn. None of these where no lot was."""
+    """Which lists of the lot were level for the last seats and which of them it gave these, where
+    quotients show it; and last the order that was drawn. None of these where no lot was."""
     order = con["view"]["lot"]
     if not order:
         return []
@@ -41,9 +41,10 @@ def lot_drawn(site, con):
         quotients = [(one["list"], Fraction(votes[one["list"]], divisor(one["of_list"])))
                      for one in con["awards"]]
         last = quotients[-1][1]
-        winners = [code for code, quotient in quotients if quotient == last]
-        losers = [code for code, row in con["quotients"]
-                  if Fraction(votes[code], divisor(1 + sum(won for _, won in row))) == last]
+        # (a list that the lot does not name, of more or fewer votes, may have the same quotient)
+        winners = [code for code, quotient in quotients if quotient == last and code in order]
+        losers = [code for code, row in con["quotients"] if code in order
+                  and Fraction(votes[code], divisor(1 + sum(won for _, won in row))) == last]
         if losers:
             lists = [code for code in votes if code in {*winners, *losers}]
             said.insert(0, site.said("lot_decided", many=len(winners), lists=site.listed(lists),

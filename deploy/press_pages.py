@@ -29,7 +29,7 @@ DASH = ">–<"
 SHOWN_WITHOUT_SEAT = 20
 # Bytes of rows that the table of lists may have on the page of the country, and how many of the
 # closest seats.
-TABLES_OF_COUNTRY = ((math.inf, 10), (16_000, 10), (12_000, 10), (8_000, 10), (6_000, 5),
+TABLES_OF_COUNTRY = (*((room, CLOSEST) for room in (math.inf, 16_000, 12_000, 8_000)), (6_000, 5),
                      (4_400, 1), (3_000, 1))
 
 
@@ -76,7 +76,7 @@ def circle_of(site, country):
 def chart_of(site, country):
     """The bars of the votes, where there are some."""
     rows = [{"code": party.code, "name": party.name, "eligible": True,
-             "share": rounded(party.votes, country.base)}
+             "share": country.share_of(party)}
             for party in sorted(country.parties, key=lambda party: -party.votes) if party.votes]
     return bars(site, rows) if rows else None
 
@@ -153,7 +153,7 @@ def votes_cells(site, country, party, shares=None):
     """The cells of the votes of a list: dashes where no station is counted that has it."""
     if not party.closed:
         return ["–", "–"]
-    share = rounded(party.votes, country.base)
+    share = country.share_of(party)
     return [site.number(party.votes),
             changed(site, party.code, share, shares, site.share, site.per_cent)]
 
@@ -186,7 +186,8 @@ def turnout_said(site, country):
 def country_head(site, country, cons):
     """The lines under the title of the pages of the country: how much is counted, the seats, what
     is missing, and who has won, once all is certified, or who leads."""
-    standings = [Standing(party.name, party.votes, party.seats) for party in country.parties]
+    standings = [Standing(party.name, party.votes, party.seats, country.share_of(party))
+                 for party in country.parties]
     headline = (has_won(site, standings, country.certified, country.majority) if country.whole
                 else leads(site, standings, country.base, country.closed == country.stations))
     counted = counted_line(site, country.closed, country.stations,

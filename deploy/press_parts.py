@@ -177,6 +177,11 @@ def base_of(con):
     return con["tally"]["valid"]
 
 
+def list_share(con, row):
+    """The share of a list of a constituency in hundredths of a per cent, as each page has it."""
+    return shown_share(row["votes"], base_of(con), con["rule"]["threshold"], row["eligible"])
+
+
 def by_votes(con):
     """The lists of a constituency, those with most votes first."""
     return sorted(con["tally"]["lists"], key=lambda row: -row["votes"])

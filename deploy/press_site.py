@@ -34,6 +34,8 @@ ABOUT = {"title": str, "date": date, "authority": str, "licence": str, "language
          "contact": str, "accessibility": str, "place": str, "board": list, "timezone": str,
          "provisional": bool, "languages": list,
          "address": str}
+# The name of a table of texts: papers may have a language that the pages have not.
+LANGUAGE_NAME = "[a-z]{2,3}([-_][A-Za-z0-9]+)*"
 # What is of the whole site: the table of a language does not have it.
 WHOLE = {"language", "languages", "provisional", "timezone"}
 # What to write in the place of a value of another kind.
@@ -140,11 +142,25 @@ def read_about(file):
         about["date"] = day_of(about["date"])
     check_values(file, about)
     check_languages(file, [about.get("language", "en"), *about.get("languages", ())])
-    for language in LANGUAGES:
-        check_values(file, own := about.get(language, {}))
-        if wrong := WHOLE.intersection(own):
-            raise Wrong(f"{file}: {min(wrong)} is of all languages, not of [{language}] alone")
+    for key in about:
+        if key in LANGUAGES or re.fullmatch(LANGUAGE_NAME, key):
+            check_texts(file, key, about[key])
+        elif key not in ABOUT:
+            raise Wrong(f"{file}: no key is called {key!r}")
     return about
+
+
+def check_texts(file, language, own):
+    """The table of a language has texts alone. Values are those of languages that the pages have."""
+    if language in LANGUAGES:
+        check_values(file, own)
+    elif not isinstance(own, dict):
+        raise Wrong(f"{file}: {language} is {own!r}, and no table of texts of a language")
+    for key in own:
+        if key in WHOLE:
+            raise Wrong(f"{file}: {key} is of all languages, not of [{language}] alone")
+        if key not in ABOUT:
+            raise Wrong(f"{file}: no key of [{language}] is called {key!r}")
 
 
 def check_values(file, about):

@@ -5,23 +5,26 @@
 
     deploy/reader.py /run/office-reader --desk 127.0.0.1:8080 --read 127.0.0.1:8090
 
-In FOLDER it listens on a socket for each desk, `1.sock`, `2.sock`, .., for the proxy; and for each
-desk on a port of --read, in the same order, for the press pages. Whatever is not a GET is answered
-405, and the office does not hear of it. Nor does it hear a head or a body.
+In FOLDER it listens on two sockets for each desk, for the proxy: `1.sock`, `2.sock`, .., for what
+everybody asks for, and `1-names.sock`, .., for those whose password the proxy has seen, who do not
+wait for strangers. For each desk it listens on a port of --read, in the same order, for the press
+pages. Whatever is not a GET is answered 405, and the office does not hear of it. Nor does it hear a
+head or a body.
 
 The office answers one request after the other. Two reports are asked for at once, so that a command
-waits for two at most. Past the cache a name of the proxy may have four under way, all stations
-twenty-four, and all seconds as many; more are answered 429. Of both one is asked for at a time, and
-three times as long as it took is left to others, so that clerks do not wait for all of theirs. One
-station at a time waits for that, so that seconds do not wait for all of the stations'. Of the
-tables of all stations of a constituency the proxy has one at a time, and as much is left to others:
-the proxy waits for its next.
+waits for two at most. Past the cache a name of the proxy may have four under way, all stations twenty-four, and all
+seconds as many; where half of these are, a name may have two. More are answered 429. Of a name one
+is asked for at a time, and of all strangers. Of stations and seconds together too, and three times
+as long as it took is left to others, so that clerks do not wait for all of theirs. One station at a
+time waits for that, so that seconds do not wait for all of the stations'. So one at a time is asked
+for of what has all constituencies (/results and /country), whoever asks; and of the tables of all
+stations of a constituency, for which one of each name waits.
 
 The proxy says with each request what its name may see. `Office-Allowed` other than 1 is answered
-403, and `Office-There` other than 1 is answered 404. /stations/CODE and /returns/CODE are the tables of a constituency past the cache: a name of the
-staff gets twenty at once, and then two a second. To a role that does not see what slips say, a line
-of /stations/CODE ends with the revision, and /returns/CODE is 403. With `Office-Wait: no` a desk that
-does not listen is not waited for.
+403, and `Office-There` other than 1 is answered 404. /stations/CODE and /returns/CODE are the
+tables of a constituency past the cache: a name of the staff gets twenty at once, and then two a
+second. To a role that does not see what slips say, a line of /stations/CODE ends with the revision,
+and /returns/CODE is 403. With `Office-Wait: no` a desk that does not listen is not waited for.
 
 It goes on until it is ended. The status is 2 where its words are wrong. Python 3.11 or later.
 """
@@ -47,12 +50,16 @@ from recorder import (
 )
 from turns import Places, Turn
 
-# How many requests of the proxy are read at once; of a port there are few.
-THREADS, PORT_THREADS = 64, 4
+# How many requests of names are read at once; of strangers, whose answers the proxy keeps, and of a
+# port there are few.
+THREADS, OTHER_THREADS = 64, 4
 # How many reports of a desk are asked for at once. After a table of all stations the next waits
-# three times as long as it took, and a second at most; this many wait, and others are answered 429.
-AT_ONCE, REST, LONGEST_REST, WAITING = 2, 3, 1.0, 16
+# three times as long as it took, this many seconds at most; this many wait, and others are answered
+# 429.
+AT_ONCE, REST, LONGEST_REST, WAITING = 2, 3, 4.0, 16
 NOT_THERE = Answer(404)
+# What has all constituencies.
+WHOLES = ("/results", "/country")
 # Columns of the table of stations: its code, electors, a blank, the status and the revision.
 TO_REVISION = 16 + 8 + 1 + 9 + 5
 # How long a desk that takes no connection is waited for.
@@ -90,6 +97,11 @@ def without_slips(table):
     return b"\n".join(lines[:2] + [line[:TO_REVISION] for line in lines[2:]])
 
 
+def lock_of(locks, name):
+    """The lock of a name, or the one of all strangers."""
+    return locks.setdefault(name, threading.Lock())
+
+
 class Reader:
     """Asks a desk for reports: those of the proxy, with their names, or those of a port."""
 
@@ -99,8 +111,13 @@ class Reader:
         self.large, self.moment = threading.Lock(), 0.0
         self.places = threading.BoundedSemaphore(WAITING)
         # Of stations and seconds one report at a time, and most of the time is left to others; one
-        # station at a time waits for this.
-        self.others, self.stations = Turn(), threading.Lock()
+        # station at a time waits for this. Of another name, and of strangers, one at a time.
+        self.others, self.stations, self.names = Turn(), threading.Lock(), {}
+        # Of what has all constituencies one at a time, whoever asks. One of all stations and
+        # seconds waits for that, and meanwhile no other report of theirs waits for it.
+        self.wholes, self.whole_of_others = Turn(), threading.Lock()
+        # Of the tables of all stations one at a time for each name.
+        self.tables = {}
 
     def answered(self, method, path, fields, _):
         if method != "GET":
@@ -110,30 +127,35 @@ class Reader:
         if fields.get("Office-There", "1") != "1":
             return NOT_THERE
         name, role = fields.get("Office-Name"), fields.get("Office-Role")
-        if not name or not self.often:
+        if not self.often:
             return self.asked(path, fields, contextlib.nullcontext())
+        turn = self.turn_of(name, role, path in WHOLES)
+        if not name:
+            return self.asked(path, fields, turn)
         with self.often.places_of.get(role, self.often.places).taken(name) as has_place:
-            if not has_place:
-                return TOO_MANY
-            return self.asked(path, fields, self.turn_of(role))
+            return self.asked(path, fields, turn) if has_place else TOO_MANY
 
     @contextlib.contextmanager
-    def turn_of(self, role):
-        """The turn of a report that a name of a role has asked for."""
+    def turn_of(self, name, role, is_whole):
+        """The turn of a report that a name of a role has asked for, or a stranger."""
         with contextlib.ExitStack() as held:
-            if role == "station":
+            if is_whole:
+                held.enter_context(self.whole_of_others if role in HELD else contextlib.nullcontext())
+                held.enter_context(self.wholes)
+            elif role == "station":
                 held.enter_context(self.stations)
-            if role in HELD:
-                held.enter_context(self.others)
+            held.enter_context(self.others if role in HELD else lock_of(self.names, name))
             yield
 
     def asked(self, path, fields, turn):
-        wait = 0 if fields.get("Office-Wait") == "no" else None
+        wait, name = 0 if fields.get("Office-Wait") == "no" else None, fields.get("Office-Name")
         found = re.fullmatch("/(stations|returns)/([A-Za-z0-9_-]+)", path)
         if found and self.often:
-            return self.past_the_cache(*found.groups(), fields)
+            with lock_of(self.tables, name):
+                return self.past_the_cache(*found.groups(), fields)
         if re.fullmatch("/con/[^/]+/(stations|returns)", path) and self.often:
-            return self.ask_large(path)
+            with lock_of(self.tables, name):
+                return self.ask_large(path)
         with turn:
             return self.ask(path, wait)
 
@@ -193,11 +215,12 @@ def main():
     often = Often()
     for number, address in enumerate(desks, 1):
         desk, turns = Desk(address, CONNECTING), threading.Semaphore(AT_ONCE)
-        sources = [(listen(given.folder / f"{number}.sock", given.group), THREADS, often)]
+        of_proxy, of_pages = Reader(desk, turns, often), Reader(desk, turns)
+        sources = [(listen(given.folder / f"{number}.sock", given.group), OTHER_THREADS, of_proxy),
+                   (listen(given.folder / f"{number}-names.sock", given.group), THREADS, of_proxy)]
         if number <= len(given.read):
-            sources.append((listen_to_port(given.read[number - 1]), PORT_THREADS, None))
-        for listener, threads, names in sources:
-            reader = Reader(desk, turns, names)
+            sources.append((listen_to_port(given.read[number - 1]), OTHER_THREADS, of_pages))
+        for listener, threads, reader in sources:
             for _ in range(threads):
                 threading.Thread(target=serve, args=(listener, reader), daemon=True).start()
     threading.Event().wait()

@@ -355,10 +355,20 @@ class Maker:
                 row=row.number if row else "-",
             )
         else:
-            party, row = owner.setdefault(code.lower(), (one.party, one.row))
-            if has_party and party != one.party:
-                one.row.fault("code_two_parties", code=code, value=one.text, row=row.number)
+            first = owner.setdefault(code.lower(), one)
+            if not has_party:
+                self.note_code(one, first)
+            elif first.party != one.party:
+                one.row.fault("code_two_parties", code=code, value=one.text, row=first.row.number)
             given.setdefault(one.party, (code, one.row))
+
+    def note_code(self, one, first):
+        """Notes what a table without parties does not say: whether two lists are of one."""
+        code, names = one.made["code"], {"value": one.text, "other": first.text}
+        if code != first.made["code"]:
+            self.note_once("codes_alike", code=code, first=first.made["code"], **names)
+        elif one.party != first.party:
+            self.note_once("code_two_names", code=code, **names)
 
     def check_codes(self, con):
         seen = {}

@@ -72,7 +72,7 @@ def named(text, own, site, desk):
     # (in a site's own name nothing is replaced: it is put in last)
     text = text.replace(NAME, HERE).replace("refused.log", f"refused-{HERE}.log")
     text = re.sub(r"\$(\w+)", lambda it: f"${it[1]}_{desk}" if it[1] in own else it[0], text)
-    text = re.sub(r"(http://|upstream )(office|recorder)(?=[$1-9])", rf"\1\2_{desk}_", text)
+    text = re.sub(r"(http://|upstream |\$asked )(office|names|recorder)(?=[$1-9])", rf"\1\2_{desk}_", text)
     text = re.sub(r"(?<![/\w])office/(?=[\w.-]+\.(conf|pem))", f"office/{HERE}/",
                   at_site(text, HERE, "", ""))
     return text.replace("FILL IN the name", "The name").replace(HERE, site)

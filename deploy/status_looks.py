@@ -4,6 +4,7 @@ import base64
 import csv
 import hashlib
 import http.client
+import io
 import json
 import os
 import pwd
@@ -146,9 +147,14 @@ def look_at_recorder(file, of):
 
 
 def look_at_reader(file, of):
-    """The reader, by the progress that it gets from the desk. One that is away is not waited for."""
-    fields = {"Office-Allowed": "1", "Office-Wait": "no"}
-    return of_answer("reader", of, 200, answered(ToSocket(file), "/progress", fields))
+    """The reader, by the progress that it gets from the desk, at the socket for everybody and at that
+    for names. One that is away is not waited for."""
+    fields, path = {"Office-Allowed": "1", "Office-Wait": "no"}, Path(file)
+    for one in (path, path.with_name(f"{path.stem}-names{path.suffix}")):
+        found = of_answer("reader", of, 200, answered(ToSocket(str(one)), "/progress", fields))
+        if not found.is_well:
+            break
+    return found
 
 
 def spoken(seconds):
@@ -319,7 +325,7 @@ def stations_in(command):
     if body is None:
         body = base64.b64decode(command["body_base64"]).decode("utf-8-sig")
     separator = ";" if command["path"].endswith("/semicolon") else ","
-    rows = csv.reader(body.removeprefix("\ufeff").splitlines(), delimiter=separator)
+    rows = csv.reader(io.StringIO(body.removeprefix("\ufeff"), newline=""), delimiter=separator)
     # (the office passes over blank lines, also above the header)
     return list(dict.fromkeys(row[0] for row in [row for row in rows if row][1:] if row[0]))
 
@@ -352,7 +358,7 @@ def shown_by(address, target, stations=()):
 def returned(table, stations):
     """How many of these stations have a return, by the report of all stations: after the code, the
     electors and a blank it has a status, or a hyphen."""
-    there = {line[:16].strip() for line in table.splitlines()[2:] if line[25:26] not in ("-", "")}
+    there = {line[:16].strip() for line in table.split("\n")[2:] if line[25:26] not in ("-", "")}
     return len(there & set(stations))
 
 
@@ -390,9 +396,18 @@ def look_at_acts(address, number, acts, lacking, of):
 # ---- the record
 
 
-def look_at_record(file, head, seen, acts=None):
+def most_lines(folders):
+    """How many lines the record had by the name of a copy in these folders, and that name: the most
+    of all."""
+    names = [file.name for folder in folders for file in Path(folder).glob("office-*.db")]
+    found = (re.fullmatch(r"office-[0-9]{8}T[0-9]{6}Z-([0-9]{1,15})\.db", name) for name in names)
+    return max(((int(one[1]), one[0]) for one in found if one), default=(0, ""))
+
+
+def look_at_record(file, head, seen, acts=None, copied=(0, "")):
     """Whether the record is whole: what was there at the last look is there as it was, and each
-    line after it follows from the one before."""
+    line after it follows from the one before. By the names of the copies, which were read first, it
+    had this many lines before."""
     shown = None
     if head:
         # (where the recorder is away it is named itself)
@@ -408,6 +423,10 @@ def look_at_record(file, head, seen, acts=None):
     seen["record"] = now
     if shown and "fault" in shown:
         return Found("record", False, f"the recorder does no command: {shown['fault']}")
+    if copied[0] > now["n"]:
+        more, copy = copied
+        says = f"it has {now['n']} lines, and had {more} when {copy} was made"
+        return Found("record", False, says)
     new = now["n"] - before["n"]
     whole = "its 1 line is" if now["n"] == 1 else f"its {now['n']} lines are"
     return Found("record", True, f"{whole} whole, {new} of {'it' if now['n'] == 1 else 'them'} new",

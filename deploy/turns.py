@@ -25,7 +25,9 @@ class Places:
     def taken(self, name):
         """Whether there is a place for a name. It has the place until the context ends."""
         with self.lock:
-            is_free = self.names[name] < self.of_name and self.names.total() < self.of_all
+            # (where half of all are taken a name has two, as many as its page asks for at once)
+            of_name = self.of_name if 2 * self.names.total() < self.of_all else min(2, self.of_name)
+            is_free = self.names[name] < of_name and self.names.total() < self.of_all
             self.names[name] += is_free
         try:
             yield is_free

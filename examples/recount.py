@@ -8,8 +8,9 @@ Of a database it says for each constituency whether the totals agree with the cl
 it is certified, the seats with the votes. From returns it prints the seats: FOLDER has CODE.csv for
 each constituency, as 'office show --report returns' prints it, with all stations closed. Lots are
 lines 'CODE A B', the first list first; a lot has to name the lists that it decides among, and no
-other. The exit status is 0; 1 if something differs, if a station is not in the returns, or if a lot
-is missing or of other lists; 2 if a file cannot be used. Nothing is written to any file. Python 3.11 or later.
+other. A byte order mark in front of a file is ignored. The exit status is 0; 1 if something
+differs, if a station is not in the returns, or if a lot is missing or of other lists; 2 if a file
+cannot be used. Nothing is written to any file. Python 3.11 or later.
 """
 import argparse
 import csv
@@ -168,7 +169,7 @@ def count_returns(cons, folder, lots):
 def read_lots(file, cons):
     """The lists of each constituency's lot, in its order."""
     lots = {con["code"]: [] for con in cons}
-    lines = file.read_text(encoding="utf-8").splitlines() if file else []
+    lines = file.read_text(encoding="utf-8-sig").splitlines() if file else []
     for code, *lot in filter(None, map(str.split, lines)):
         if lots.get(code, lot):
             raise ValueError(f"{file}: {code} twice, or no constituency")

@@ -253,25 +253,29 @@ function focusOn(form, word) {
 async function command(target, body, done, receipt, isLook = () => false) {
   setBusy(true);
   say(T.sent);
-  const answer = await ask("POST", target, body), value = answer.value || {};
-  // A request of the board that waits for a second name is not done. That of a lot says among whom.
-  const waits = answer.status === 202, group = value.group || (waits && lotOf(value));
-  if (group) lot = { con: shown.con, edition: shown.view.edition, group };
-  if (shown.station && (value.now || value.rev)) revisions[shown.station] = value.now || value.rev;
-  if (answer.ok) shown.again = false;
-  if (answer.ok && receipt.leaves) listed.filter((one) => one.code === receipt.station).forEach((one) => { one.status = receipt.leaves; });
-  if (answer.ok && receipt.station) dropDraft(receipt.station);
-  showOpen();
-  const trouble = await look();
-  say(`${waits ? waitsFor(value) : answer.ok ? done(value) : sentence(answer)}${trouble}`, waits || value.word === "lot_missing" || (answer.ok && isLook(value)) ? "look" : answer.ok ? "done" : "refused");
-  if (answer.ok && !waits) showReceipt(done(value), receipt);
-  setBusy(false);
-  return answer;
+  try {
+    const answer = await ask("POST", target, body), value = answer.value || {};
+    // A request of the board that waits for a second name is not done. That of a lot says among
+    // whom.
+    const waits = answer.status === 202, group = value.group || (waits && lotOf(value));
+    if (group) lot = { con: shown.con, edition: shown.view.edition, group };
+    if (shown.station && (value.now || value.rev)) revisions[shown.station] = value.now || value.rev;
+    if (answer.ok) shown.again = false;
+    if (answer.ok && receipt.leaves) listed.filter((one) => one.code === receipt.station).forEach((one) => { one.status = receipt.leaves; });
+    if (answer.ok && receipt.station) dropDraft(receipt.station);
+    showOpen();
+    const trouble = await look();
+    say(`${waits ? waitsFor(value) : answer.ok ? done(value) : sentence(answer)}${trouble}`, waits || value.word === "lot_missing" || (answer.ok && isLook(value)) ? "look" : answer.ok ? "done" : "refused");
+    if (answer.ok && !waits) showReceipt(done(value), receipt);
+    return answer;
+  } finally {
+    setBusy(false);
+  }
 }
 
 function lotOf({ others }) {
   const order = others.filter(({ act }) => act === "draw").map(({ body }) => read(body).order).at(-1);
-  return Array.isArray(order) ? [...order].sort() : null;
+  return Array.isArray(order) && order.every(isCode) ? [...order].sort() : null;
 }
 
 // Until when a request waits for a second name, who asked for the same before a return or the
@@ -827,7 +831,7 @@ onSubmit("lodge", async (form) => {
   if (!checked(form)) return null;
   const { station } = shown, typed = figures(form), isFirst = !shown.again;
   const answer = await toStation("lodge", typed, (value) => value.ok === "same" ? T.same_recorded : T.lodged,
-    T.receipt_lodge, () => [[T.slip, shown.found.slip]]);
+    T.receipt_lodge, () => [[T.slip, typed.slip]]);
   if (answer.ok && isFirst) putOnPile(station, typed.slip);
   return answer;
 });
@@ -836,8 +840,12 @@ onSubmit("confirm", (form) => {
   return checked(form) && toStation("confirm", { rev: shown.found.rev, ...typed }, () => T.same_closed,
     T.receipt_confirm, () => slipRows(typed));
 });
-onSubmit("close", () => confirm(T.close_question({ station: shown.station })) &&
-  toStation("close", { rev: shown.found.rev }, isDone, T.receipt_close, () => shown.found ? slipRows(shown.found) : []));
+onSubmit("close", () => {
+  // (afterwards it may be another return already)
+  const { found } = shown;
+  return confirm(T.close_question({ station: shown.station })) &&
+    toStation("close", { rev: found.rev }, isDone, T.receipt_close, () => slipRows(found));
+});
 onSubmit("query", async (form) => {
   const note = form.elements.note.value;
   const answer = await toStation("query", { rev: shown.found.rev, note }, isDone, T.receipt_query, () => [[T.note, note]]);
@@ -859,8 +867,12 @@ async function isAsShown() {
   return false;
 }
 
-onSubmit("certify", async () => confirm(T.certify_question({ con: constituency().name })) && await isAsShown() &&
-  toCon("certify", { edition: shown.view.edition }, isDone, T.receipt_certify, () => shown.view ? listRows(shown.view) : []));
+onSubmit("certify", async () => {
+  if (!confirm(T.certify_question({ con: constituency().name })) || !await isAsShown()) return null;
+  // (afterwards it may be reopened already, or have another certificate)
+  const { edition } = shown.view, isGiven = (view) => view && view.certified && view.edition === edition + 1;
+  return toCon("certify", { edition }, isDone, T.receipt_certify, () => isGiven(shown.view) ? listRows(shown.view) : []);
+});
 onSubmit("draw", () => {
   const order = [...element("order").querySelectorAll("select")].map((choice) => choice.value);
   return toCon("draw", { edition: shown.view.edition, order }, isDone, T.receipt_draw, () => [[T.order_label, order.join(", ")]]);
@@ -985,7 +997,7 @@ function saidOf({ slip, votes, blank, spoiled, note, order, list, place }) {
   const drawn = Array.isArray(order) ? order.slice(0, 60).filter(isCode) : [];
   const gone = isCode(list) && isNumber(place) ? [`${list} ${place}`] : [];
   const parts = [...(isCode(slip) ? [T.said_slip({ slip })] : []), ...lists, ...others, ...drawn, ...gone,
-    ...(note ? [T.said_note({ note: isolated(String(note).slice(0, 200)) })] : [])];
+    ...(typeof note === "string" && note ? [T.said_note({ note: isolated(note.slice(0, 200)) })] : [])];
   return parts.length ? `: ${parts.join(", ")}` : "";
 }
 
@@ -1006,7 +1018,7 @@ async function showHistory() {
     element("history").replaceChildren(
       made("p", !commands.length ? T.nothing_done({ station }) : T.history_of({ station, part: whole ? "" : T.last_done })),
       made("ol", null, ...commands.map(({ time, name, role, act, status, body, answer: given }) => {
-        const at = made("time", time.slice(0, 19).replace("T", " "));
+        const at = made("time", moment(new Date(time)));
         at.dateTime = time;
         return made("li", null, at, ` ${name} (${ROLES[role] || role}) ${ACTS[act] || act}${saidOf(read(body))}. ${outcome(status, read(given))}`);
       })));
@@ -1104,8 +1116,10 @@ async function showWaiting() {
   setBusy(true);
   const answer = await listStations(), found = [], typed = await ask("GET", `/now/con/${shown.con}/typed`);
   const waiting = listed.filter(({ status }) => status !== "none" && status !== "closed");
+  let lost = answer.ok ? null : answer;
   for (const one of answer.ok ? waiting.slice(0, MOST_WAITING) : []) {
     const history = await ask("GET", `/now/station/${one.code}/history`);
+    if (!history.ok) lost = history;
     found.push({ ...one, ...lastOf((history.value && history.value.commands) || []) });
   }
   // What differs and what is queried waits for somebody to decide, the rest for its turn.
@@ -1122,7 +1136,8 @@ async function showWaiting() {
       ...(typed.ok ? typedTable(typed.value) : []));
     element("waiting").scrollIntoView({ block: "nearest" });
   }
-  say(answer.ok ? T.waiting_shown({ number: waiting.length }) : sentence(answer), answer.ok ? "" : "refused");
+  // (where who did what could not be read, what differs there is not known)
+  say(lost ? sentence(lost) : T.waiting_shown({ number: waiting.length }), lost ? "refused" : "");
   setBusy(false);
 }
 

@@ -173,6 +173,22 @@ class Entries(SiteCase):
                                  input=record, capture_output=True, timeout=PATIENCE)
                 self.assertEqual((done.returncode, done.stdout), (2, b""))
                 self.assertIn(b"it is no file", done.stderr)
+        # A file with which nothing would be compared is refused, as an answer in its place. A
+        # row that was cut while the file was fetched says nothing, and a whole one does.
+        for said, text, wanted in (
+                (b"no header with lines and sha256", "", 2),
+                (b"no header", "<html>401</html>\n", 2),
+                (b"no header", shown.partition("\n")[2], 2),
+                (b"no row", "time,lines,sha256\n", 2), (b"no row", shown[:60], 2),
+                (b"", shown[:-30], 0), (b"", shown[:-66], 0), (b"", shown[:-1], 0),
+                (b"", shown[:-2] + "g\n", 1)):
+            Path("cut.csv").write_text(text, encoding="utf-8")
+            for words in (["entries", "setup.toml"], ["replay", "--check"]):
+                with self.subTest(text=text, words=words):
+                    done = tools.run([DEPLOY / words[0], *words[1:], "--shown", "cut.csv"],
+                                     input=record, capture_output=True, timeout=PATIENCE)
+                    self.assertEqual((done.returncode, said in done.stderr),
+                                     (2 if wanted and words[0] == "entries" else wanted, True))
         # Nor does root follow a link, or read a file without an end.
         os.symlink("record.csv", "link.csv")
         Path("long.csv").write_bytes(b"time,lines,sha256\n")
@@ -277,7 +293,7 @@ class Shown(Safeguards):
                 Path("pages").mkdir(exist_ok=True)
                 Path("pages/record.csv").write_text(text, encoding="utf-8")
                 Path("head").write_text(json.dumps(record), encoding="utf-8")
-                head_of = press.put_head(Path("pages"), Path("head"))
+                head_of = press.put_head(Path("pages"), Path("head"), [])
                 [found] = press_pages.count_pages(site_of, {}, MOMENT, None, head_of)
                 self.assertEqual(
                     ("no line can be changed" in found, "not the record that was shown" in found),

@@ -59,6 +59,7 @@ WORDS = [
     (f"plan {GIVEN} --risk 5 --con c2", "returns.csv: these are the returns of c1"),
     ("plan --setup setup.toml --returns returns.csv returns.csv --risk 5",
      "returns.csv: the returns of c1 come twice"),
+    ("", "the following arguments are required: plan, draw or assess"),
     (f"draw {GIVEN} --seed 3141592653589793238x --draws 5", "a seed is 20 digits"),
     (f"draw {GIVEN} --seed 314 --draws 5", "a seed is 20 digits"),
     (f"draw {GIVEN} --seed {SEED} --draws 0", "from 1 to 999999 draws"),

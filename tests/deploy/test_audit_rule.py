@@ -177,6 +177,20 @@ def tight_election(made, method):
 
 
 class AuditRule(Case):
+    def test_a_bound_is_the_largest_of_all_assertions(self):
+        """Of which not all are looked at: those that are left out would not be more."""
+        made, looked_at = random.Random(5), 0
+        for method in METHODS * 100:
+            con, papers = made_election(made, method)
+            it = tool.Audit(con, papers)
+            for station, bound in it.bounds.items():
+                counts, most = it.seen(papers[station]), con.most(station)
+                self.assertEqual(bound, max(
+                    -((low * most - a * counts[i] - b * counts[j] - c * counts[k]) * tool.MILLION
+                      // margin) for (i, a), (j, b), (k, c), low, margin in it.rows))
+                looked_at += 1
+        self.assertGreater(looked_at, 1000)
+
     def test_worked_elections(self):
         for method, (seats, won, wanted, bounds) in WORKED.items():
             with self.subTest(method=method, seats=seats, won=won, wanted=wanted):

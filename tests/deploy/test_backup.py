@@ -14,13 +14,16 @@ import time
 from datetime import UTC, datetime
 from pathlib import Path
 
+from tests.support import tools
 from tests.support.case import PROGRAM, ROOT
 from tests.support.office import SETUP, with_stations
 from tests.support.record import LODGED, chained, replayed
 from tests.support.recorder import command, recorder_alone
 from tests.support.running import PATIENCE, free_port, until
 from tests.support.scripts import loaded
-from tests.support.site import EXAMPLES, Office, SiteCase, backup, new, plain, ran, rows, serving
+from tests.support.site import (
+    DEPLOY, EXAMPLES, Office, SiteCase, backup, new, plain, ran, rows, serving,
+)
 
 
 def office_table(rows):
@@ -52,13 +55,12 @@ class Backup(SiteCase):
             self.assertEqual(backup("links/link.db", "of_link")[0], 0)
             [of_link] = Path("of_link").iterdir()
             self.assertEqual(of_link.read_bytes(), copy.read_bytes())
-            # Nothing has changed: no second copy.
-            self.assertEqual(backup("office.db", "copies"),
-                             (0, f"copies/{copy.name} is the same already\n", ""))
+            # Nothing has changed: no second copy, and the first is counted again.
+            same = 0, f"copies/{copy.name} is the same already\nmontehondo agrees\n", ""
+            self.assertEqual(backup("office.db", "copies"), same)
             desk.end(signal.SIGKILL)
         self.assertTrue(Path("office.db-wal").exists(), "a killed office leaves its log")
-        self.assertEqual(backup("office.db", "copies"),
-                         (0, f"copies/{copy.name} is the same already\n", ""))
+        self.assertEqual(backup("office.db", "copies"), same)
         self.assertTrue(Path("office.db-wal").exists())
         ran(PROGRAM, "show", "--db", "office.db", "--report", "progress")
         self.assertEqual(rows(str(copy)), rows())
@@ -196,16 +198,18 @@ class Backup(SiteCase):
             script.copy_both(Path("office.db"), Path("copy.db"))
 
     def test_a_backup_whose_votes_do_not_agree(self):
-        """The copy is kept, and the status says that it does not agree; nobody else may read it."""
+        """The copy is kept, and the status says that it does not agree, each time; nobody else may
+        read it."""
         with serving(SETUP) as desk:
             self.assertEqual(
                 plain(desk.port, "POST", "/station/s1/lodge", json.dumps(LODGED)).status, 200)
             self.assertEqual(plain(desk.port, "POST", "/station/s1/close", '{"rev":1}').status, 200)
         with contextlib.closing(sqlite3.connect("office.db")) as it, it:
             it.execute("UPDATE totals SET n = n + 1")
-        status, out, _ = backup("office.db", "copies")
-        self.assertTrue(status, (status, out))
-        self.assertNotIn("agrees", out, (status, out))
+        for begin in ("copied office.db to ", "copies/office-"):
+            status, out, _ = backup("office.db", "copies")
+            self.assertEqual((status, out.splitlines()[1:]), (1, ["c1 differs: totals"]))
+            self.assertTrue(out.startswith(begin), out)
         [copy] = Path("copies").iterdir()
         self.assertEqual(stat.filemode(copy.stat().st_mode), "-rw-r-----")
 
@@ -267,7 +271,111 @@ class Backup(SiteCase):
             time.sleep(1.1)
         ahead.unlink()
         status, out, said = backup("office.db", "copies")
-        self.assertEqual((status, out.split()[1:], said), (0, ["is", "the", "same", "already"], ""))
+        self.assertEqual((status, out.split()[1:], said),
+                         (0, "is the same already montehondo agrees".split(), ""))
+        # The last one has the time that is ahead: no name gets an earlier one.
+        max(Path("copies").iterdir()).rename(ahead)
+        names = sorted(os.listdir("copies"))
+        Path("commands.log").write_bytes(b"one\n")
+        self.assertEqual(backup("office.db", "copies", "commands.log"), (
+            1, f"{ahead} is the same already\nmontehondo agrees\n",
+            f"backup: {ahead} has a later time than the clock, which was put back; its name does "
+            "not say that the record has 1 lines\n"))
+        self.assertEqual(sorted(os.listdir("copies")), names)
+
+    def test_two_copies_of_one_second(self):
+        """The first one stays, and the second is not made: one name is one copy."""
+        script, moment = loaded("backup"), datetime(2026, 11, 26, 22, 14, tzinfo=UTC)
+        script.datetime = type("Clock", (), {"now": lambda _: moment})
+        shutil.copy(ROOT / "examples/montehondo.db", "office.db")
+        copy, _ = script.back_up(Path("office.db"), Path("copies"))
+        first = copy.read_bytes()
+        with contextlib.closing(sqlite3.connect("office.db")) as it, it:
+            it.execute("UPDATE cons SET note = 'another'")
+        with self.assertRaisesRegex(script.Failed, f"{copy} is there already, and is another one"):
+            script.back_up(Path("office.db"), Path("copies"))
+        self.assertEqual((list(Path("copies").iterdir()), copy.read_bytes()), ([copy], first))
+
+    def test_a_record_that_was_cut(self):
+        """A name with more lines says that the record had them: it stays, and each run and `status`
+        say so, also where the record is gone and where a later copy has fewer, until it is moved
+        away."""
+        shutil.copy(ROOT / "examples/montehondo.db", "office.db")
+        lines = chained(*[{"name": "clara"}] * 7).splitlines(True)
+        Path("status.toml").write_text('[record]\nfile = "commands.log"\n[[office]]\n'
+                                       'name = "first"\nbackups = "copies"\n', encoding="utf-8")
+
+        def copied(number):
+            if number:
+                Path("commands.log").write_bytes(b"".join(lines[:number]))
+            else:
+                Path("commands.log").unlink()
+            status, out, said = backup("office.db", "copies", "commands.log")
+            self.assertEqual(out.splitlines()[-1], "montehondo agrees")
+            looked = tools.run([DEPLOY / "status", "--config", "status.toml"], text=True,
+                               capture_output=True, timeout=PATIENCE)
+            self.assertEqual(looked.returncode, status, looked.stdout)
+            if status and number:
+                self.assertIn(f"it has {number} lines, and had 7 when {longest.name} was made",
+                              looked.stdout)
+            return status, said
+
+        self.assertEqual(copied(7), (0, ""))
+        [longest] = Path("copies").iterdir()
+        for number in (4, 0, 5):
+            with self.subTest(number=number):
+                self.assertEqual(copied(number), (1, self.of_a_cut_record(number, longest)))
+                self.assertEqual(list(Path("copies").iterdir()), [longest])
+        with contextlib.closing(sqlite3.connect("office.db")) as it, it:
+            it.execute("UPDATE cons SET note = 'another'")
+        time.sleep(1.1)
+        for number in (5, 6):
+            self.assertEqual(copied(number), (1, self.of_a_cut_record(number, longest)))
+            self.assertTrue(longest.exists())
+            self.assertEqual(len(os.listdir("copies")), 2)
+        longest.rename("kept.db")
+        self.assertEqual(copied(6), (0, ""))
+
+    @staticmethod
+    def of_a_cut_record(number, copy):
+        return (f"backup: commands.log has {number} lines, and had 7 when {copy} was made: keep "
+                "that copy\n")
+
+    def test_a_copy_that_is_published(self):
+        """By the lines of README.md: the newest one, whatever its name is, if it agrees. Otherwise
+        what was published stays."""
+        page = (DEPLOY / "README.md").read_text(encoding="utf-8")
+        [lines] = re.findall(r"\n    \(\n((?:    .*\n)*?.*recount.py office.db\n(?:    .*\n)*?)"
+                             r"    \)\n", page)
+        for old, new in (("systemctl start office-backup@$site",
+                          f"{DEPLOY}/backup data.db lib/$site/backup"),
+                         ("runuser -u office -- ", ""), ("/var/lib/office", "lib"),
+                         ("/usr/lib/office", str(ROOT / "examples")), ("/var/www/office", "pages")):
+            self.assertIn(old, lines)
+            lines = lines.replace(old, new)
+        Path("pages/site").mkdir(parents=True)
+        Path("lib/site/backup").mkdir(parents=True)
+        Path("lib/site/backup/office-20261126T221400Z-00001234.db").write_bytes(b"an older copy")
+
+        def publish():
+            return tools.run(["sh", "-c", f"(\n{lines})"], env={**os.environ, "site": "site"},
+                             capture_output=True, timeout=PATIENCE).returncode
+
+        published = Path("pages/site/office.db")
+        self.assertTrue(publish())
+        self.assertFalse(published.exists(), "without a database nothing is published")
+        shutil.copy(ROOT / "examples/montehondo.db", "data.db")
+        self.assertEqual(publish(), 0)
+        wanted = max(Path("lib/site/backup").iterdir()).read_bytes()
+        self.assertEqual((published.read_bytes(), stat.filemode(published.stat().st_mode)),
+                         (wanted, "-rw-r--r--"))
+        with contextlib.closing(sqlite3.connect("data.db")) as it, it:
+            it.execute("UPDATE totals SET n = n + 1")
+        time.sleep(1.1)
+        # Also where the service does not say that it differs.
+        for lines in (lines, lines.replace("lib/$site/backup\n", "lib/$site/backup || true\n", 1)):
+            self.assertTrue(publish())
+            self.assertEqual(published.read_bytes(), wanted)
 
     def test_the_lines_in_the_name_of_a_copy(self):
         """How many whole lines the record had, which are counted when the database is copied and
@@ -281,22 +389,25 @@ class Backup(SiteCase):
         copy, _ = script.back_up(Path("office.db"), Path("copies"), lines)
         self.assertRegex(copy.name, r"^office-\d{8}T\d{6}Z-00000004\.db$")
         self.assertEqual(backup("office.db", "copies", "commands.log"),
-                         (0, f"{copy} is the same already\n", ""))
+                         (0, f"{copy} is the same already\nmontehondo agrees\n", ""))
         # After more lines the same copy has another name: it lacks nothing of these either.
         with open("commands.log", "ab") as it:
             it.write(b"five\n")
         status, out, said = backup("office.db", "copies", "commands.log")
         [copy] = Path("copies").iterdir()
-        self.assertEqual((status, out, said), (0, f"{copy} is the same already\n", ""))
+        self.assertEqual((status, out, said),
+                         (0, f"{copy} is the same already\nmontehondo agrees\n", ""))
         self.assertRegex(copy.name, r"^office-\d{8}T\d{6}Z-00000005\.db$")
         status, _, said = backup("office.db", "others", "missing.log")
         self.assertEqual((status, said), (0, ""))
         self.assertRegex(os.listdir("others")[0], r"^office-\d{8}T\d{6}Z-00000000\.db$")
         Path("folder").mkdir()
-        status, out, said = backup("office.db", "more", "folder")
-        self.assertEqual((status, out.splitlines()[-1]), (1, "montehondo agrees"))
-        self.assertIn("backup: folder: ", said)
-        self.assertRegex(os.listdir("more")[0], r"^office-\d{8}T\d{6}Z\.db$")
+        for _ in range(2):
+            status, out, said = backup("office.db", "more", "folder")
+            self.assertEqual((status, out.splitlines()[-1]), (1, "montehondo agrees"))
+            self.assertIn("backup: folder: ", said)
+            [name] = os.listdir("more")
+            self.assertRegex(name, r"^office-\d{8}T\d{6}Z\.db$")
         # The user of the record has put a pipe in its place: nobody waits for it.
         os.mkfifo("pipe")
         status, out, said = backup("office.db", "last", "pipe")

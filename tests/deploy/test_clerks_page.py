@@ -71,8 +71,8 @@ class ClerksPage(SiteCase):
              "another return of its station is recorded.")
         # It is no plain success, and the lines that are to be looked at stay on the page.
         self.assertEqual(it.run("return [document.getElementById('said').className, "
-                                "document.querySelectorAll('#not-accepted li').length]"),
-                         ["look", 6])
+                                "document.querySelectorAll('#not-accepted li').length, "
+                                "document.getElementById('receipt').open]"), ["look", 6, True])
         for station, lodged in LATE.items():
             choose_station(it, station)
             self.assertEqual(it.text("#return"), f"Station {station} has no return yet.")

@@ -140,6 +140,15 @@ class Copies(Case):
             self.assertEqual(names({"commands-20261126T221359Z.log": 1}),
                              ("commands-20261126T221400Z.log", None))
 
+    def test_the_record_goes_on_with_the_last_that_it_has(self):
+        """Of two that are kept, which are both its beginning, the one with the later name."""
+        later = "commands-20261126T230000Z.log"
+        Path("kept", RECORD).write_bytes(b"one\n")
+        Path("kept", later).write_bytes(b"one\ntwo\n")
+        Path("commands.log").write_bytes(b"one\ntwo\nthree\n")
+        self.assertEqual(self.sends(), (0, "", ["list", f"append {later} 8 6"]))
+        self.assertEqual(contents("kept"), {RECORD: b"one\n", later: b"one\ntwo\nthree\n"})
+
     def test_what_the_key_cannot_do(self):
         """Overwrite, shorten, remove, rename, read or run anything."""
         Path("kept", COPY).write_bytes(b"a copy")
@@ -189,6 +198,12 @@ class Copies(Case):
         Path("commands.log").write_bytes(b"one\ntwo\nthree\n")
         self.assertEqual(self.sends(), (0, "", ["list", f"append {RECORD} 6 8"]))
         self.assertEqual(contents("kept"), {RECORD: b"one\ntwo\nthree\n"})
+
+    def test_words_that_it_does_not_know(self):
+        for words in ((), ("kept", "kept"), ("--again", "kept"), ("--kept",), ("",) * 4):
+            with self.subTest(words=words), contextlib.redirect_stderr(io.StringIO()) as said:
+                self.assertEqual(self.keep.main(words), 2)
+                self.assertTrue(said.getvalue().startswith("usage: keep-copies FOLDER"))
 
     def test_a_disk_without_room(self):
         keep = loaded("keep-copies")

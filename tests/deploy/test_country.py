@@ -206,9 +206,9 @@ class Country(SiteCase):
                              files)
             tries(lambda: self.round_beside_returns(desk, list(returns["c1"])[:20] * 5))
             self.look_at_country(returns, sums)
-            # With the setup every return is published too: the returns of each, and the edition
-            # that they are of.
-            self.round_of(desk, 1 + 52 * 2, "certified, each return published", "--setup",
+            # With the setup every return is published too: the stations of each, which are those
+            # of the setup, the returns, and the edition that they are of.
+            self.round_of(desk, 1 + 52 * 3, "certified, each return published", "--setup",
                           "setup.toml")
             self.assertEqual({con: read(f"stations-{con}-2.csv") for con in files}, files)
             tries(lambda: self.pages_cost_little(desk.port))

@@ -302,9 +302,11 @@ class CountryPage(SiteCase):
         # where each certified constituency has a former result.
         lists, north = setup_of_four().replace('base = "valid"',
                                                'base = "lists"'), FOUR_BEFORE.partition("este")[0]
-        with four() as (_, port):
-            Path("lists.toml").write_text(lists, encoding="utf-8")
+        Path("lists.toml").write_text(lists, encoding="utf-8")
+        with modelled(lists) as (office, port):
+            count_four(office)
             press(port, "--setup", "lists.toml", *site_folder(before=FOUR_BEFORE), folder="lists")
+        with four() as (_, port):
             press(port, "--setup", "setup.toml", *site_folder(before=north), folder="north")
         self.assertEqual(page_of("con-norte.html", "lists").tables["Votes of each list"][0],
                          without)

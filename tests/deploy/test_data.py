@@ -17,7 +17,7 @@ from tests.support.pages import (
 )
 from tests.support.published import (
     AGAIN, ATOM, CERTIFIED, HARE, OPEN, VACATED, a_head, beside, checked, entries, faults,
-    json_files, jsonschema, package_faults, publish, rows_of, schema_of,
+    json_files, jsonschema, package_faults, publish, rows_of, schema_of, write_setup,
 )
 from tests.support.site import SiteCase
 
@@ -60,8 +60,8 @@ class Data(SiteCase):
     def test_each_published_json_is_of_its_schema(self):
         by = "jsonschema and" if jsonschema else "jsonschema is not there, so by"
         print(f"schemas are tried by {by} the checker of tests/support/published.py")
-        Path("setup.toml").write_text(with_stations(1), encoding="utf-8")
         for answers in (TWIN, VACATED, REOPENED, OPEN, AGAIN, HARE, beside(TWIN)):
+            write_setup(answers)
             with self.subTest(answers=answers):
                 for words in ((), ("--setup", "setup.toml", *a_head(7))):
                     with self.subTest(words=words):
@@ -105,8 +105,8 @@ class Data(SiteCase):
                 faults(schema, {"a": "x"})
 
     def test_the_data_package_describes_each_csv(self):
-        Path("setup.toml").write_text(with_stations(1), encoding="utf-8")
         for answers in (OPEN, TWIN, REOPENED, AGAIN, beside(TWIN)):
+            write_setup(answers)
             with self.subTest(answers=answers):
                 publish(answers, "--setup", "setup.toml", *a_head(7))
                 package = json.loads(read("datapackage.json"))
@@ -122,6 +122,7 @@ class Data(SiteCase):
                                     for resource in package["resources"]))
                 self.assertTrue(all(field["description"] for resource in package["resources"]
                                     for field in resource["schema"]["fields"]))
+        write_setup(REOPENED)
         publish(REOPENED, "--setup", "setup.toml")
         described = {resource["path"]: resource
                      for resource in json.loads(read("datapackage.json"))["resources"]}
@@ -154,14 +155,15 @@ class Data(SiteCase):
     def test_what_shares_are_of(self):
         """results.csv has the electors, where the setup is known, and the votes that shares are
         of."""
-        Path("setup.toml").write_text(with_stations(4, 250), encoding="utf-8")
+        Path("setup.toml").write_text(
+            with_stations(4, 250).replace("threshold = 0", "threshold = 300"), encoding="utf-8")
         spoiled = OPEN | results_of(with_lists(
             OPEN["/results"][0], votes=[90, 2], eligible=[True, False], provisional=[3, 0]) | {
                 "status": "open",
                 "blank": 8, "spoiled": 5, "closed": 1, "received": 0, "stations": 4,
                 "threshold": 300}) | {
-            "/con/c1/stations": TWIN["/con/c1/stations"]
-            + "".join(f"s{n}                   300 -\n" for n in (2, 3, 4))}
+            "/con/c1/stations": TWIN["/con/c1/stations"].replace(" 300 ", " 250 ")
+            + "".join(f"s{n}                   250 -\n" for n in (2, 3, 4))}
         for words, electors in ((("--setup", "setup.toml"), "1000"), ((), "")):
             with self.subTest(words=words, electors=electors):
                 publish(spoiled, *words)

@@ -336,6 +336,7 @@ class AnOpenDesk(unittest.TestCase):
                  ("DELETE", "/con/c1/certify", None, 405), ("GET", "/con/c1/tally?x", None, 404),
                  ("GET", "/station/s1/nothing", None, 404), ("GET", "/../setup.toml", None, 404),
                  ("GET", "/evening.db", None, 404), ("GET", "/.index.html.new", None, 404),
+                 ("POST", "/nothing", b"x", 413),
                  ("POST", "/station/s1/lodge", b"x" * 16_385, 413),
                  ("POST", "/con/c1/import", b"x" * 1_048_577, 413),
                  ("POST", "/con/c1/trial", b"x" * 1_048_576, 400))

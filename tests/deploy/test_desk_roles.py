@@ -1,5 +1,6 @@
 #!/usr/bin/env python3
-"""Compares the routes and roles of `deploy/desk` with those of the proxy, request by request.
+"""Compares the routes and roles of `deploy/desk` with those of the proxy, request by request; and
+tries its gate.
 
     python3 tests/deploy/test_desk_roles.py
 
@@ -10,12 +11,15 @@ It needs nothing but Python.
 import itertools
 import re
 import sys
+import threading
+import time
 import unittest
 from pathlib import Path
 
 DEPLOY = Path(__file__).resolve().parent.parent.parent / "deploy"
 sys.path.insert(0, str(DEPLOY))
 import desk_roles
+import desk_server
 
 REPORTS = ("tally", "seats", "quotients", "awards", "quota", "short", "holders", "past",
            "provisional", "result", "stations", "returns")
@@ -28,7 +32,7 @@ TARGETS = [
     *(f"/con/c1/{name}" for name in REPORTS),
     "/now/progress", "/now/country", "/now/results", "/now/station/s1", "/now/con/c1",
     *(f"/now/con/c1/{name}" for name in REPORTS), "/now/station/s1/history",
-    "/now/con/c1/typed",
+    "/now/con/c1/typed", "/con/result", "/now/con/result", "/now/con/provisional",
     *(f"/station/s1/{act}" for act in OF_STATION), *(f"/con/c1/{act}" for act in OF_CON),
     "/clerk.html", "/logout", "/setup.json", "/", "/index.html", "/con-c1.json", "/feed.atom",
     "/embed.html", "/embed-c1.html", "/es/embed-c1.html", "/es/index.html",
@@ -45,16 +49,15 @@ TARGETS = [
 ]
 # By what a location passes on to, the kind of its requests.
 KINDS = {
-    "http://office$office": "table", "http://office$office$table": "now",
-    "http://office$office/station/$station": "now_slips",
-    "http://office$office/$table/$con": "now_all", "http://recorder$office": "command",
-    "http://recorder$office/history/$station": "history",
-    "http://recorder$office/typed/$con": "typed", "http://office1/progress": None,
+    "office$office": "table", "names$office": "slips", "names$office$table": "now",
+    "names$office/station/$station": "now_slips", "names$office/$table/$con": "now_all",
+    "recorder$office": "command", "recorder$office/history/$station": "history",
+    "recorder$office/typed/$con": "typed", "names1/progress": None, "$asked": None,
 }
 # And by the names of those that the proxy answers itself. A load balancer has no business here.
 OTHER_KINDS = {
     "/clerk.html": "page", "/logout": "logout", "/setup.json": "setup", "/": "file",
-    r"/\.": None, "/health": None, "@no_health": None,
+    r"/\.": None, "/health": None, "@no_health": None, "@guess": None,
     r"^/([a-z]{2}/)?embed(-[A-Za-z0-9_-]{1,16})?\.html$": "file",
 }
 
@@ -92,9 +95,10 @@ class Location:
     def __init__(self, how, name, text):
         self.name, self.text = name, text
         self.is_exact, self.pattern = how == "=", pattern_of(name) if how == "~" else None
-        passed = re.search(r"proxy_pass (\S+);", text)
+        # What a name asks for is passed on by another location, once its password is known.
+        passed = re.search(r"(?:proxy_pass http://|set \$asked )(\S+);", text)
         self.kind = KINDS[passed[1]] if passed else OTHER_KINDS[name]
-        if self.kind == "table" and "Office-Allowed $sees_slips" in text:
+        if "$sees_slips" in text and "$fetched_elsewhere" in text:
             self.kind = "slips"
         table = re.search(r"set \$table (\S+);", text)
         self.parts = {"table": table[1]} if table else {}
@@ -206,7 +210,7 @@ class RoutesAndRoles(unittest.TestCase):
             found, wanted = desk_roles.request_of(target), located(target)
             if found and found.kind == "now":
                 with self.subTest(target=target, role=role, is_hidden=is_hidden):
-                    asks = "Office-There $is_there" in wanted[0].text
+                    asks = "set $there $is_there" in wanted[0].text
                     said = there.value(f"{'1' if is_hidden else ''}:{role}") == "1" or not asks
                     self.assertEqual(found.is_there(role, is_hidden), said)
                     hidden |= set() if said else {(target, role)}
@@ -230,6 +234,33 @@ class RoutesAndRoles(unittest.TestCase):
         roles = {role for _, role in re.findall(r"(\S+) (\w+);", staff)} | {"station"}
         self.assertEqual(set(desk_roles.ROLES), roles)
         self.assertIn(f'"~^{desk_roles.NAME}\\z" $remote_user;', TEXT)
+
+
+class TheGate(unittest.TestCase):
+    def test_who_shuts_it_waits_for_what_is_under_way(self):
+        gate, begun, ended = desk_server.Gate(), threading.Event(), []
+
+        def under_way():
+            with gate.passed() as is_open:
+                begun.set()
+                time.sleep(0.3)
+                ended.append(is_open)
+
+        command = threading.Thread(target=under_way)
+        command.start()
+        begun.wait()
+        gate.shut(60)
+        self.assertEqual(ended, [True])
+        command.join()
+        with gate.passed() as is_open:
+            self.assertFalse(is_open)
+
+    def test_it_waits_no_longer_than_so(self):
+        gate = desk_server.Gate()
+        with gate.passed():
+            began = time.monotonic()
+            gate.shut(0.1)
+            self.assertLess(time.monotonic() - began, 30)
 
 
 if __name__ == "__main__":

@@ -20,6 +20,7 @@ import tomllib
 import xml.etree.ElementTree as ET
 from datetime import date
 from pathlib import Path
+from types import SimpleNamespace
 from unittest import mock
 
 from tests.support import tools
@@ -86,8 +87,9 @@ def ran(*words, **how):
 
 
 @functools.cache
-def published(setup, certified, closed):
-    """The files that press.py publishes of two towns, of which some are certified."""
+def published(setup, certified, closed, left):
+    """The files that press.py publishes of two towns, of which some are certified; there these
+    places of list A of c1 are vacated."""
     with tempfile.TemporaryDirectory(prefix="office-export-") as folder, contextlib.chdir(folder):
         Path("setup.toml").write_text(setup, encoding="utf-8")
         Path("site").mkdir()
@@ -100,6 +102,8 @@ def published(setup, certified, closed):
                     done(office, f"/station/{code}/close", {"rev": 1})
             for code in certified:
                 done(office, f"/con/{code}/certify", {"edition": 1})
+            for place in left:
+                done(office, "/con/c1/vacate", {"list": "A", "place": place, "note": "resigned"})
             press(port, "--setup", "setup.toml", "--site", "site")
         return {file.name: file.read_bytes() for file in Path("pages").iterdir()
                 if file.suffix in (".json", ".csv")}
@@ -193,12 +197,12 @@ def lines_of(name):
 class OfExport(Case):
     prefix = "office-export-"
 
-    def publish_towns(self, *certified, setup=TOWNS, closed=("s1", "s2", "t1")):
+    def publish_towns(self, *certified, setup=TOWNS, closed=("s1", "s2", "t1"), left=()):
         """A folder with what is published of the two towns."""
         Path("codes.csv").write_text(CODES, encoding="utf-8")
         shutil.rmtree("pages", ignore_errors=True)
         Path("pages").mkdir()
-        for name, data in published(setup, certified, tuple(closed)).items():
+        for name, data in published(setup, certified, tuple(closed), left).items():
             Path("pages", name).write_bytes(data)
 
     def refused(self, said, *words, status=1, **how):
@@ -339,6 +343,11 @@ class Formats(OfExport):
                     self.assertIn(said, flat)
         self.assertLess(max(map(len, text.splitlines())), 80)
 
+    def test_a_long_word_of_a_title_stays_whole(self):
+        title = "Wahl-" + "x" * TOOL.WIDTH
+        it = SimpleNamespace(title=title, day="1", time="2", cons=[], certified=[])
+        self.assertIn(title, TOOL.readme(it, {}, TOOL.Texts("en")))
+
     def test_the_same_files_lead_to_the_same_bytes(self):
         export(*WORDS, *SPAIN, folder="again")
         for name in ALL:
@@ -397,6 +406,35 @@ class Seats(OfExport):
         text = read("eml-520.xml", "out")
         self.assertEqual(text.count("A seat of this list is empty"), 1)
         self.assertLess(text.index(">Bea<"), text.index("A seat of this list is empty"))
+
+
+    def test_who_follows_after_a_vacancy(self):
+        """Of A the first of two holders leaves, and the third candidate follows: each file says
+        that these are the holders of now."""
+        for left, people in (((), [(1, "Íñigo & Ana"), (2, "Abel]]>")]),
+                             ((1,), [(2, "Abel]]>"), (3, "Ada")])):
+            with self.subTest(left=left):
+                shutil.rmtree("out", ignore_errors=True)
+                self.publish_towns("c1", left=left)
+                export(*WORDS, *SPAIN)
+                [contest] = eml("eml-520.xml").iter(f"{EML}Contest")
+                self.assertEqual(elected(contest)[0], ("A", "yes", people))
+                [of_c1] = re.findall("(?s)Id=\"A\">.*Id=\"B\">", read("eml-520.xml", "out"))
+                said = "<!-- Holders of this list have left: those who follow them have their seats"
+                self.assertEqual((said in of_c1, "have left" in read("eml-520.xml", "out")),
+                                 (bool(left), bool(left)))
+                winners = [int(one["@id"].rpartition(".")[2]) for one in
+                           nist()["Election"][0]["Candidate"] if "PostElectionStatus" in one
+                           and one["PartyId"] == "party.A"]
+                self.assertEqual(winners, [place for place, _ in people])
+                readme = " ".join(read("README.txt", "out").split())
+                for text in (nist()["Notes"], readme):
+                    for said in ("Holders have left in these constituencies: c1.",
+                                 "Han causado baja electos en estas circunscripciones: c1."):
+                        self.assertEqual(said in text, bool(left), text)
+                for said in ("Who is elected is here who holds the seat at that time",
+                             "Como electo figura aquí quien ocupa el escaño a esa hora"):
+                    self.assertIn(said, readme)
 
 
 class Differences(OfExport):

@@ -59,6 +59,36 @@ class Feed(SiteCase):
         publish(answers, "--setup", "setup.toml")
         self.assertEqual({one[0] for one in entries()}, seen)
 
+    def test_entries_that_are_none_of_these_pages(self):
+        """As somebody else wrote them: they are left out, and a line says so; the others stay, with
+        their moments, and the pages are written."""
+        Path("setup.toml").write_text(with_stations(1), encoding="utf-8")
+        with answering_desk(TWIN) as (port, _):
+            words = (sys.executable, DEPLOY / "press.py", f"http://127.0.0.1:{port}", "pages",
+                     "--setup", "setup.toml")
+            ran(*words)
+            before, whole = entries(), read("feed.atom")
+            for other in ("<entry/>", "<entry><id>x</id></entry>",
+                          "<entry><id>x</id><link/></entry>",
+                          '<entry><id>x</id><link href="y"/></entry>',
+                          '<entry><link href="con-c1.html"/></entry>'):
+                with self.subTest(other=other):
+                    Path("pages/feed.atom").write_text(
+                        whole.replace("</feed>", f"{other}</feed>"), encoding="utf-8")
+                    said = ran(*words)
+                    self.assertIn("feed.atom: what is none of the entries of these pages is left "
+                                  "out\n", said)
+                    self.assertIn(" pages 2 failed 0 ", said)
+                    self.assertEqual(entries(), before)
+                    self.assertNotIn("left out", ran(*words))
+            # Whatever is no feed is made new.
+            for other in ("<a/>", "\0", f"<feed>{whole}"):
+                with self.subTest(other=other[:9]):
+                    Path("pages/feed.atom").write_text(other, encoding="utf-8")
+                    self.assertIn(" is left out\n", ran(*words))
+                    self.assertEqual([one[1:4] for one in entries()],
+                                     [one[1:4] for one in before])
+
     def test_texts_in_the_feed(self):
         """Whatever is in a name or in a note, the feed is XML, and keeps its moments."""
         texts = TWIN | results_of(RESULT | {

@@ -108,6 +108,50 @@ class ValuesOfAnotherKind(Case):
                                  (1, "", f"failed: setup.toml: {said}\n"))
                 self.assertEqual(os.listdir("."), ["setup.toml"])
 
+    def test_setup_json_writes_all_or_nothing(self):
+        """Where one of its files cannot be written the others stay as they are, and nothing is left
+        beside them. Of a rename that the disk refuses after others a line says so."""
+        places = ("share/setup.json", "share/setup.json.gz", "codes.conf")
+        Path("share").mkdir()
+        Path("setup.toml").write_text(EXAMPLE, encoding="utf-8")
+        self.assertEqual(tool("setup-json", "setup.toml", "share", "codes.conf"), (0, "", ""))
+        before = {name: Path(name).read_bytes() for name in places}
+        Path("setup.toml").write_text(EXAMPLE.replace("Alpha", "Gamma"), encoding="utf-8")
+        there = sorted(os.walk("."))
+
+        def assert_as_before(said, *words):
+            status, printed, errors = tool("setup-json", "setup.toml", *words)
+            self.assertEqual((status, errors.count("\n")), (1, 1), errors)
+            self.assertTrue(errors.startswith("failed: ") and said in errors, errors)
+            self.assertEqual(printed, "")
+
+        for folder, codes in (("share", "none/codes.conf"), ("share", "setup.toml/codes.conf"),
+                              ("none", "codes.conf")):
+            with self.subTest(folder=folder, codes=codes):
+                assert_as_before(".new: No", folder, codes)
+                self.assertEqual({name: Path(name).read_bytes() for name in places}, before)
+                self.assertEqual(sorted(os.walk(".")), there)
+        for place in places:
+            with self.subTest(place=place):
+                os.rename(place, "kept")
+                Path(place).mkdir()
+                assert_as_before(f"{place}: a folder is in its place", "share", "codes.conf")
+                Path(place).rmdir()
+                os.rename("kept", place)
+                self.assertEqual({name: Path(name).read_bytes() for name in places}, before)
+                self.assertEqual(sorted(os.walk(".")), there)
+        write, replace = loaded("setup-json").write, os.replace
+
+        def refused(old, new):
+            if str(new) == "codes.conf":
+                raise PermissionError(1, "Operation not permitted", old)
+            replace(old, new)
+
+        with mock.patch("os.replace", refused), self.assertRaisesRegex(
+                OSError, "Operation not permitted; already written: setup.json: "):
+            write({Path("share/setup.json"): b"new", Path("codes.conf"): b"new"})
+        self.assertEqual(sorted(os.walk(".")), there)
+
     def test_setup_json_takes_codes_that_differ_in_capitals_alone(self):
         """As the office does: the proxy tells these apart by patterns."""
         Path("setup.toml").write_text(EXAMPLE + STATION.replace("s1", "S1"), encoding="utf-8")

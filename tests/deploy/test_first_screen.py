@@ -252,6 +252,24 @@ class FirstScreen(SiteCase):
                    if caption.startswith("Provisional seats")]
         self.assertEqual([row[0][0] for row in table[1:5]], list("DBCA"))
 
+    def test_who_has_won_as_many_seats(self):
+        """Each list with the most seats is named, those of more votes first; many are a number."""
+        for language, two, three, four_of_them in (
+                ("en", "B and A have won 2 of 6", "C, B and A have won 2 of 6",
+                 "4 lists have won 2 of 8"),
+                ("es", "B y A han obtenido 2 de 6", "C, B y A han obtenido 2 de 6",
+                 "4 candidaturas han obtenido 2 de 8")):
+            site = press_site.Site(Path(site_folder(site=f'language = "{language}"\n')[1]))
+            for seats, said in (([2, 2, 1, 1], two), ([2, 2, 2, 0], three),
+                                ([2, 2, 2, 2], four_of_them)):
+                with self.subTest(language=language, seats=seats):
+                    standings = [press_head.Standing(name, votes, many) for name, votes, many
+                                 in zip("ABCD", (10, 20, 30, 40), seats)]
+                    for majority in (None, 4):
+                        headline = press_head.has_won(site, standings, max(6, sum(seats)), majority)
+                        self.assertTrue(re.sub("[\u2068\u2069]", "", headline).replace(
+                            "\u00a0", " ").startswith(f"{said} "), headline)
+
     def test_one_and_many(self):
         """Numbers and their nouns agree, in both languages."""
         for language, one, two in (("en", "1\u00a0vote ahead", "2\u00a0votes ahead"),

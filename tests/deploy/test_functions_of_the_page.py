@@ -3,6 +3,8 @@
 The page is opened as a file, without an office.
 """
 
+import json
+
 from tests.support import browser
 from tests.support.case import Case, needs
 from tests.support.rounds import DEPLOY
@@ -190,6 +192,85 @@ class Functions(Case):
                         "closings = [{ time: 0, closed: 3 }, { time: arguments[0] * 1000, "
                         "closed: 5 }]; return pace().map((one) => one.textContent)", seconds)
                     self.assertEqual(found, [f"Closed in the last {one}" for one in said])
+            # What waits where who did what could not be read: what differs there is not known.
+            for status, wanted in (
+                    (200, ["", "Returns that wait: 1. Below are those that differ or are queried, "
+                           "and then those that wait longest."]),
+                    (429, [f"{STATUSES[429]} Wait a moment, and do it again.", ""])):
+                with self.subTest(status=status):
+                    found = it.run(
+                        f"{KNOWN} const [status] = arguments, asked = [ask, listStations]; "
+                        "listStations = async () => { "
+                        "listed = [{ code: 's1', status: 'recorded' }]; return { ok: true }; }; "
+                        "ask = async (method, target) => target.endsWith('typed') ? { ok: false } "
+                        ": { ok: status === 200, status, value: null }; "
+                        "return showWaiting().then(() => { [ask, listStations] = asked; return "
+                        "['alert', 'status'].map((one) => element(one).textContent); })", status)
+                    self.assertEqual(found, wanted)
+            # What others typed is shown where it is a text, and lists where they are codes.
+            self.assertEqual([it.run("return saidOf(arguments[0])", {"note": note})
+                              for note in ({"toString": 1, "valueOf": 1}, ["a"], 7, "")], [""] * 4)
+            self.assertIn("torn", it.run("return saidOf(arguments[0])", {"note": "torn"}))
+            for order, wanted in ((["B", "A"], ["A", "B"]), ([{"toString": 1}], None),
+                                  (["A", "<b>"], None), ("AB", None)):
+                found = it.run("return lotOf({ others: [{ act: 'draw', body: arguments[0] }] })",
+                               json.dumps({"order": order}))
+                self.assertEqual(found, wanted)
+            # A receipt has what was sent, whatever is recorded or can be read by then.
+            for form, then, has, has_not in (
+                    ("close", "{ ...given, votes: [1, 39] }", ["20"], ["39"]),
+                    ("close", "null", ["20"], []), ("lodge", "null", ["p7"], ["p1"])):
+                with self.subTest(form=form, then=then):
+                    text, is_busy = it.run(
+                        f"""{KNOWN} const [form] = arguments, kept = [ask, look, window.confirm];
+                        const given = {{ station: "s1", rev: 2, slip: "p1", votes: [20, 20],
+                          blank: 0, spoiled: 0, status: "received" }};
+                        shown.found = given; showConstituency(); window.confirm = () => true;
+                        look = async () => {{ shown.found = {then}; return ""; }};
+                        ask = async () => ({{ ok: true, status: 200, value: {{ rev: 3 }} }});
+                        for (const one of element(form).querySelectorAll("input")) one.value =
+                          one.name === "slip" ? "p7" : one.name === "total" ? "400" :
+                          one.name === "votes" ? "200" : "0";
+                        element(form).dispatchEvent(new Event("submit", {{ cancelable: true }}));
+                        return new Promise((done) => setTimeout(() => {{
+                          [ask, look, window.confirm] = kept;
+                          done([element("receipt").textContent, busy]);
+                        }}, 200));""", form)
+                    self.assertFalse(is_busy)
+                    self.assertEqual([one for one in has if one not in text], [], text)
+                    self.assertEqual([one for one in has_not if one in text], [], text)
+            # The closed returns are learned from ten on, at twice as many again, and from 300 on
+            # no more.
+            for before, closed, is_asked in ((0, 9, False), (0, 10, True), (10, 19, False),
+                                             (10, 20, True), (299, 598, True), (300, 600, False)):
+                with self.subTest(before=before, closed=closed):
+                    found = it.run(
+                        f"{KNOWN} const [before, closed] = arguments, kept = ask; let many = 0; "
+                        "learned = { con: 'c1', closed: before, spreads: [] }; "
+                        "shown.view = { certified: false, closed }; "
+                        "ask = async () => { many += 1; return { ok: false }; }; "
+                        "return learn().then(() => { ask = kept; return many; })", before, closed)
+                    self.assertEqual(found, is_asked)
+            # Names of stations and the former result are each there or not.
+            for value in ({"stations": {"s1": {"name": "Hall", "place": ""}}},
+                          {"former": {"c1": {"A": 60}}}, {}):
+                with self.subTest(value=value):
+                    found = it.run(
+                        "const [value] = arguments, asked = ask; siteAgain = 0; "
+                        "ask = async () => ({ ok: true, value }); "
+                        "return learnSite().then(() => { ask = asked; return known; })", value)
+                    self.assertEqual([sorted(found[of]) for of in ("stations", "former")],
+                                     [sorted(value.get(of, {})) for of in ("stations", "former")])
+            # A history has its moments as the page has others, whatever zone the server is in.
+            found = it.run(
+                f"{KNOWN} const asked = ask; "
+                "ask = async () => ({ ok: true, value: { whole: true, commands: [ "
+                "{ time: '2026-11-29T21:14:00.120+05:45', name: 'clara', role: 'clerk', "
+                "act: 'close', status: 200, answer: '{}' }] } }); "
+                "return showHistory().then(() => { ask = asked; "
+                "return [document.querySelector('#history time').textContent, "
+                "moment(Date.UTC(2026, 10, 29, 15, 29))]; })")
+            self.assertEqual(found[0], found[1])
             # A row in quotes goes over as many lines as it takes to close them.
             found = it.run("return rowsOfFile(arguments[0])",
                            'a,"b\nc"\n\nd,"e""f"\n"g\nh\ni",j\nk\n')

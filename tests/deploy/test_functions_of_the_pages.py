@@ -2,10 +2,8 @@
 names at their limit. No office is asked.
 """
 
-import contextlib
 import csv
 import gzip
-import io
 import json
 import math
 import os
@@ -83,6 +81,9 @@ class HalfCircles(Case):
         self.assertEqual((texts[:16], len(texts)), ([f"L{n:02} 1" for n in range(16)], 17))
         self.assertEqual((found["named"], found["many"], found["said"].count("L")), (16, 17, 17))
         self.assertIsNone(figures.half_circle(site.Site(), {"A": 1}, 1)["named"])
+        # A label is beyond the edge of the dots: of one dot 7 above 100 and its size.
+        [(_, words)] = figures.half_circle(site.Site(), {"A": 1}, 1)["sides"]
+        self.assertEqual(words, [("2.0", f"{3 - 107 - figures.places_of_dots(1)[1]:.1f}", "A 1")])
 
 
 class Figures(Case):
@@ -111,6 +112,36 @@ class Figures(Case):
                 con = {"tally": {"lists": [{"code": code, "votes": many}
                                            for code, many in zip("ABC", votes)]}}
                 self.assertEqual(country.first_list(con), wanted)
+
+    def test_what_is_compared_with_a_former_result(self):
+        """Shares once all is counted, and where they are those of the valid votes."""
+        it = site.Site()
+        it.former = {"c1": {"seats": {"A": 2}, "votes": {"A": 60}, "valid": 80}}
+        for closed, bases, seats, wanted in (
+                (2, {"valid"}, {}, (None, {"A": 7500})), (1, {"valid"}, {}, (None, None)),
+                (2, {"lists"}, {}, (None, None)), (2, {"valid", "lists"}, {}, (None, None)),
+                (1, {"valid"}, {"seats": {}}, ({"A": 2}, None))):
+            with self.subTest(closed=closed, bases=bases, seats=seats):
+                all_of_it = country.Country(closed=closed, stations=2, bases=bases)
+                self.assertEqual(pages.former_of(it, all_of_it, {"c1": seats}), wanted)
+
+    def test_how_many_lists_the_line_of_seats_has(self):
+        given = {f"L{n}": 20 - n for n in range(10)} | {"L99": 0}
+        line = head.seats_line(site.Site(), "certified", "", given)
+        self.assertEqual([code for code, _ in line["seats"]], [f"L{n}" for n in range(8)])
+        self.assertIn("23", line["others"])
+        del given["L8"], given["L9"]
+        self.assertIsNone(head.seats_line(site.Site(), "certified", "", given)["others"])
+
+    def test_nobody_has_won_where_there_is_no_seat(self):
+        for standings in ([], [head.Standing("Alpha", 9), head.Standing("Beta", 0)]):
+            self.assertIsNone(head.has_won(site.Site(), standings, 0))
+
+    def test_where_the_majority_is(self):
+        """Between the dot before it and its own, from the left."""
+        dots = [(3.0, 100), (2.5, 60), (2.0, 100)]
+        self.assertEqual([figures.majority_angle(dots, majority) for majority in (1, 2, 3)],
+                         [math.pi, 2.75, 2.25])
 
     def test_a_country_that_is_certified_whole_is_final(self):
         whole = country.Country(parties=[country.Party("A", "Alpha", seats=3)], chamber=3,
@@ -175,6 +206,17 @@ class Figures(Case):
                          {"s1": ("closed", ["p1", 120, 3, 1]), "s2": None})
         with self.assertRaises(results.NoAnswer):
             results.read_stations("a\nb\ns1 300 lost 2 p1 120 3 1\n")
+
+    def test_in_how_many_constituencies_each_list_is_first(self):
+        """The list with the most of them first, whatever the order of the constituencies; one
+        where two have as many votes counts for none."""
+        def con(*votes):
+            return {"tally": {"lists": [{"code": code, "votes": many}
+                                        for code, many in zip("ABC", votes)]}}
+
+        cons = {"c1": con(9, 5, 1), "c2": con(1, 9, 2), "c3": con(7, 7, 2), "c4": con(2, 3, 1),
+                "c5": con(0, 0, 0)}
+        self.assertEqual(figures.map_key(cons), [("B", 2), ("A", 1)])
 
     def test_places_of_stations(self):
         entry = {"stations": [{"code": "s1"}, {"code": "s2"}, {"code": "s3"}]}
@@ -277,14 +319,13 @@ class Heads(Case):
         f"2026-11-29T21:14:{n:02}.120+01:00,{n},{n:064x}\n" for n in (7, 9))
 
     def put(self, text, head=None):
-        """The head of a round with this file of heads; and what is said on the error stream."""
+        """The head of a round with this file of heads; and the failures that are said of it."""
         Path("record.csv").write_bytes(text)
         time, lines, code = self.NINE.rstrip().split(",")
         good = json.dumps({"time": time, "n": int(lines), "hash": code})
         Path("head").write_text(good if head is None else head, encoding="utf-8")
-        with contextlib.redirect_stderr(io.StringIO()) as said:
-            found = press.put_head(Path(), Path("head"))
-        return found, said.getvalue(), Path("record.csv").read_text(encoding="utf-8")
+        found = press.put_head(Path(), Path("head"), said := [])
+        return found, "\n".join(said), Path("record.csv").read_text(encoding="utf-8")
 
     def test_a_file_that_is_spoiled(self):
         """The heads that are whole stay, and the new one is in a line of its own: what is none is
@@ -305,8 +346,8 @@ class Heads(Case):
                 found, said, after = self.put(text.encode())
                 self.assertEqual(after, self.COLUMNS + kept + self.NINE)
                 self.assertEqual((found["n"], found["whole"]), (9, True))
-                self.assertEqual(said, f"failed: record.csv: {wrong} of its lines are no heads of "
-                                 "a record, and are left out\n" if wrong else "")
+                self.assertEqual(said, f"record.csv: {wrong} of its lines are no heads of a "
+                                 "record, and are left out" if wrong else "")
                 self.assertEqual(self.put(after.encode()), (found, "", after))
 
     def test_a_file_of_rubbish(self):
@@ -320,9 +361,8 @@ class Heads(Case):
         """It is the one that is named."""
         Path("record.csv").mkdir()
         Path("head").write_text('{"time": "x", "n": 9, "hash": "9"}', encoding="utf-8")
-        with contextlib.redirect_stderr(io.StringIO()) as said:
-            self.assertIsNone(press.put_head(Path(), Path("head")))
-        self.assertTrue(said.getvalue().startswith("failed: record.csv: "), said.getvalue())
+        self.assertIsNone(press.put_head(Path(), Path("head"), said := []))
+        self.assertTrue(said[0].startswith("record.csv: "), said)
 
     def test_a_head_that_is_none(self):
         """It is named, the file stays as it is, and the round goes on."""
@@ -335,7 +375,7 @@ class Heads(Case):
             with self.subTest(head=head[:99]):
                 found, said, after = self.put(before.encode(), head)
                 self.assertEqual((found, after), (None, before))
-                self.assertTrue(said.startswith("failed: head: "), said)
+                self.assertTrue(said.startswith("head: "), said)
 
 
 class Names(Case):

@@ -266,7 +266,7 @@ class History(SiteCase):
             front.ask("POST", "/station/s3/lodge", {
                 "slip": "p1. Done. \u202e", "votes": ["1. Done.", 2], "blank": "0. Done.",
                 "spoiled": 1, "order": ["A. Done.", "B"]}, "clara")
-            times = [line["time"][:19].replace("T", " ") for line in front.record(5)[:4]]
+            times = [line["time"] for line in front.record(5)[:4]]
             shown_there = ("return [...document.querySelectorAll('#history li')].map((e) => "
                            "e.textContent)")
             seen = {"clara": ["clara (clerk) entered it: slip p1, A 120, B 17, blank 2, spoiled 1. "
@@ -289,8 +289,10 @@ class History(SiteCase):
                         choose_station(it, "s1")
                         it.click("#who")
                         said(it, "The history of station s1 is shown.")
+                        moments = it.run(
+                            "return arguments[0].map((time) => moment(new Date(time)))", times)
                         self.assertEqual(it.run(shown_there),
-                                         [f"{time} {line}" for time, line in zip(times, lines)])
+                                         [f"{time} {line}" for time, line in zip(moments, lines)])
                         shows_well(it, f"history-{name}")
                         # It is of this station, and of no other.
                         choose_station(it, "s2")

@@ -287,7 +287,7 @@ class Replay(SiteCase):
 
     def test_an_office_that_has_another_return(self):
         """It has gone on by itself: what the record did over its own return is not done over that
-        one, at the station and in the constituency, and each is named."""
+        one, at the station and in its constituency, and each is named."""
         setup_json(with_stations(2) + constituency("c2", "Port", 3, "d0")
                    + party_list("A", "Alpha", "Ana", "Abel") + party_list("B", "Beta", "Bea")
                    + station("t1"), "one")
@@ -295,20 +295,27 @@ class Replay(SiteCase):
         result = {"name": "Twin Town", "seats": 3, "method": "dhondt", "threshold": 0,
                   "base": "valid", "lot_rule": "fixed", "lists": lists}
         differs = 409, '{"refused":7,"rev":1,"word":"differs"}'
-        targets = ("/station/s1/lodge", "/station/s2/lodge", "/station/t1/lodge",
-                   "/station/s1/close", "/station/s2/close", "/station/t1/close",
-                   "/con/c1/certify", "/con/c2/certify", "/con/c1/vacate")
+        targets = {f"/station/{code}/lodge": LODGED for code in ("s1", "s2", "t1")} | {
+            f"/station/{code}/close": {"rev": 1} for code in ("s1", "s2", "t1")} | {
+            f"/con/{code}/certify": {"edition": 1} for code in ("c1", "c2")} | {
+            "/con/c1/vacate": {"list": "A", "place": 1, "note": "x"}}
+        own, heads = LODGED | {"rev": 1, "votes": [7, 7]}, "station,slip,blank,spoiled,A,B\n"
         answers = dict.fromkeys(targets, "{}") | {
-            "/station/s1/lodge": differs, "/progress": "c1 2 2\nc2 1 1\n",
+            "/station/s1/lodge": differs, "/progress": "c1 2 2\nc2 1 1\n", "/station/s1": own,
             "/con/c1/result": result, "/con/c2/result": result | {"name": "Port"},
-            "/con/c1/stations": "STATIONS\nstations 2\ns1 300 -\ns2 300 -\n",
-            "/con/c2/stations": "STATIONS\nstations 1\nt1 300 -\n"}
-        commands = [entry for place, target in enumerate(targets) for entry in (
-            a_command("{}", target), {"to": 2 * place + 2, "status": 200, "answer": "{}"})]
+            **dict.fromkeys(("/con/c1", "/con/c2"), {"edition": 1, "lot": []}),
+            "/con/c1/stations": "STATIONS\nstations 2\ns1 300 received 1 p1 14 0 0\n"
+                                "s2 300 closed 2 p1 3 0 0\n",
+            "/con/c1/returns": heads + "s1,p1,0,0,7,7\ns2,p1,0,0,1,2\n",
+            "/con/c2/stations": "STATIONS\nstations 1\nt1 300 closed 2 p1 3 0 0\n",
+            "/con/c2/returns": heads + "t1,p1,0,0,1,2\n"}
+        commands = [entry for place, (target, body) in enumerate(targets.items()) for entry in (
+            a_command(json.dumps(body), target),
+            {"to": 2 * place + 2, "status": 200, "answer": "{}"})]
         known = {"setup": hash_of_file("one/setup.json")}, *commands
         unknown = {"n": 1, "to": 0, "status": 409, "answer": ""}, *commands
         for record, words, left in ((known, ("--setup", "one/setup.json"), [3, 6]),
-                                    (unknown, (), [3, 6, 7])):
+                                    (unknown, (), [3, 6])):
             with self.subTest(words=words), answering_desk(answers) as (port, asked):
                 status, printed, _ = replay(chained(*record), f"http://127.0.0.1:{port}", *words)
                 sent = [target for target in asked if target in targets]
@@ -317,8 +324,23 @@ class Replay(SiteCase):
                 self.assertEqual([int(line.split(":")[0].removeprefix("line "))
                                   for line in printed.splitlines()[:-1]],
                                  [2, *(2 * place + 2 for place in left)])
-                self.assertEqual(printed.count(
-                    "it was not sent: the office has something else than line 2"), len(left))
+                for line in (2, 8):
+                    self.assertIn("it was not sent: the office has something else than line "
+                                  f"{line}\n", printed)
+
+    def test_names_with_other_ends_of_a_line(self):
+        """A reader of text may take U+0085 or U+2028 for the end of a line, and an office does
+        not: it is the right one, and has no constituency more."""
+        for name in ("Twin\\u0085 Town", "Twin\\u2028 Town"):
+            text = with_stations(2).replace("Twin Town", name)
+            for file in Path().glob("office.db*"):
+                file.unlink()
+            setup_json(text, "one")
+            with self.subTest(name=name), serving(text) as desk:
+                status, said, error = replay(self.record("one"), f"http://127.0.0.1:{desk.port}",
+                                             "--setup", "one/setup.json")
+                self.assertEqual((status, said.split(";")[0], error),
+                                 (0, "sent 1, to look at 0", ""))
 
     def test_a_check_compares_the_setup_where_it_is_named(self):
         setup_json(with_stations(2), "one")

@@ -2,6 +2,7 @@
 
 import concurrent.futures
 import contextlib
+import itertools
 import os
 import re
 import resource
@@ -21,13 +22,19 @@ from tests.support.running import PATIENCE, tries, until
 from tests.support.scripts import loaded
 from tests.support.site import DEPLOY, NAME, SiteCase
 
-# A request with its status, how many answers come at once, and how many a second after that.
-RATES = (("GET /con/c1/tally", b"200", 400, 200), ("GET /station/s1", b"401", 400, 200),
-         ("GET /progress", b"200", 400, 200), ("GET /con/c1/stations", b"401", 10, 2),
-         ("GET /nonesuch", b"404", 200, 50), ("GET /now/progress", b"401", 200, 50),
-         ("GET /now/con/c1", b"401", 200, 50), ("POST /con/c1/certify", b"401", 100, 20),
-         ("POST /station/s1/lodge", b"401", 100, 20), ("GET /clerk.html", b"401", 100, 20),
-         ("POST /con/c1/import", b"401", 60, 1))
+# A request with its status, how many answers come at once, how many a second after that, and the
+# first letter of the clerk who sends it, where one does.
+RATES = (("GET /con/c1/tally", b"200", 400, 200, ""), ("GET /progress", b"200", 400, 200, ""),
+         ("GET /nonesuch", b"404", 200, 50, ""), ("GET /clerk.html", b"401", 100, 20, ""),
+         ("GET /station/s1", b"401", 100, 20, ""), ("GET /con/c1/stations", b"401", 100, 20, ""),
+         ("GET /now/progress", b"401", 100, 20, ""), ("GET /now/con/c1", b"401", 100, 20, ""),
+         ("POST /con/c1/certify", b"401", 100, 20, ""),
+         ("POST /con/c1/import", b"401", 100, 20, ""),
+         ("GET /now/con/c1", b"200", 200, 50, "a"), ("GET /station/s1", b"200", 200, 50, "b"),
+         ("GET /con/c1/stations", b"200", 10, 2, "c"),
+         ("GET /now/con/c1/stations", b"200", 10, 2, "d"),
+         ("POST /station/s1/lodge", b"200", 100, 20, "e"),
+         ("POST /con/c1/import", b"200", 60, 1, "f"))
 
 
 def taken(front, connections):
@@ -142,14 +149,15 @@ class Limits(SiteCase):
     def test_how_often_an_address_may_ask(self):
         """Of each sort of request as many as are answered at once, and those of three seconds
         more."""
-        with recording_desk(b"</html>\r\n") as (port, _), proxy(port) as front:
-            def asked(place, target, status, at_once, rate):
-                began = time.monotonic()
-                self.assertEqual(pipelined(front, target, at_once + 3 * rate, f"127.0.12.{place}"),
-                                 {status: at_once + 3 * rate}, target)
+        staff = "".join(f"{who}{n} clerk;\n" for who in "abcdef" for n in range(3))
+        with recording_desk(b"</html>\r\n") as (port, _), proxy(port, staff=staff) as front:
+            def asked(place, target, status, at_once, rate, who):
+                name = f"{who}{place // len(RATES)}"
+                fields = f"Authorization: {front.authorization(name)}\r\n" if who else ""
+                began, times = time.monotonic(), at_once + 3 * rate
+                found = pipelined(front, target, times, f"127.0.12.{place + 1}", fields)
+                self.assertEqual(found, {status: times}, target)
                 return target, time.monotonic() - began - (3 * rate - 1) / rate
-
-            places = iter(range(1, 250))
 
             def all_of(rows, most):
                 """Asks all at once, each from an address of its own; those that took longer by more
@@ -161,9 +169,40 @@ class Limits(SiteCase):
                 return tuple(row for row, (_, more) in zip(rows, found) if more >= most)
 
             late = RATES
-            for _ in range(3):
+            for n in range(3):
+                places = itertools.count(n * len(RATES))
                 late = late and all_of(late, 2.5)
             self.assertEqual(late, ())
+
+    @needs("nginx", "openssl")
+    def test_how_often_a_name_asks_from_many_addresses(self):
+        """As often as one address: its reads and its commands. Guesses at its password, and another
+        name, do not count."""
+        with recording_desk(b"</html>\r\n") as (port, _), proxy(port) as front:
+            def took(asked, name, times, net, password=None, status=b"200"):
+                """Asks so often, together from four addresses; how long that took."""
+                fields = f"Authorization: {front.authorization(name, password)}\r\n"
+                began = time.monotonic()
+                with concurrent.futures.ThreadPoolExecutor(4) as addresses:
+                    found = list(addresses.map(
+                        lambda n: pipelined(front, asked, times // 4, f"127.0.{net}.{n}", fields),
+                        range(1, 5)))
+                self.assertEqual(found, [{status: times // 4}] * 4, asked)
+                return time.monotonic() - began
+
+            for asked, name, times, seconds, net in (
+                ("GET /now/con/c1", "clara", 400, 200 / 50, 30),
+                ("POST /station/s1/lodge", "clara", 200, 100 / 20, 33),
+            ):
+                with self.subTest(asked=asked):
+                    guesses = took(asked, name, 100, net, "guess", b"401")
+                    found = took(asked, name, times, net + 1)
+                    print(f"{asked}: {found:.1f} s, after guesses of {guesses:.1f} s")
+                    self.assertGreater(found, seconds - 0.5)
+                    nets = iter((net + 11, net + 21, net + 31))
+                    tries(lambda: self.assertLess(took(asked, "bruno", 60, next(nets)), 3))
+            # Of guesses the proxy's own log has nothing: it would have those beyond the limit too.
+            self.assertEqual(errors(front), "")
 
     @needs("nginx", "openssl")
     def test_tables_of_stations_from_many_addresses(self):
@@ -278,6 +317,27 @@ class Limits(SiteCase):
             tries(at_once)
             tries(under_way)
             self.assertEqual(errors(front), "")
+
+    @needs("nginx", "openssl")
+    def test_how_many_files_may_be_on_their_way(self):
+        """Sixteen of an address, as each has its room in memory from its first byte on."""
+        with recording_desk() as (port, _), proxy(port) as front, contextlib.ExitStack() as held:
+            begun = (f"POST /con/c1/import HTTP/1.1\r\nHost: {NAME}\r\nAuthorization: "
+                     f"{front.authorization('clara')}\r\nContent-Length: 100000\r\n\r\nx").encode()
+            nets = iter(range(40, 44))
+
+            def on_their_way():
+                source, them = self.opened(front, held, 16, f"127.0.{next(nets)}")
+                for one in them:
+                    one.sendall(begun)
+                until(lambda: taken(front, them))
+                self.assertEqual([front.ask("POST", target, "x", "clara", source=source).status
+                                  for target in ("/con/c1/trial", "/station/s1/lodge")],
+                                 [429, 200])
+                self.assertEqual(front.ask("POST", "/con/c1/import", "x", "clara",
+                                           source="127.0.45.1").status, 200)
+
+            tries(on_their_way)
 
     @needs("nginx", "openssl")
     def test_fifteen_hundred_connections(self):

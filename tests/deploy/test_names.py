@@ -3,7 +3,9 @@ feed.
 """
 
 import re
+from pathlib import Path
 
+from tests.support.office import with_stations
 from tests.support.pages import REOPENED, TWIN, Page, read, renamed, results_of
 from tests.support.rounds import OfPages
 
@@ -30,6 +32,10 @@ class Names(OfPages):
         names = {"Twin Town": f"{TURNED}\u2069 <Town>", "Alpha": f"{TURNED}A", "Beta": f"{TURNED}B",
                  "Ana": f"{TURNED}C", "Bea": f"{TURNED}D"}
         gone = [["A", 1, f"{TURNED}E"]]
+        setup = with_stations(1)
+        for name, other in names.items():
+            setup = setup.replace(f'"{name}"', f'"{other}"')
+        Path("setup.toml").write_text(setup, encoding="utf-8")
         for answers, more in ((TWIN, {"gone": gone}),
                               (REOPENED, {"gone": gone, "note": f"{TURNED}F"})):
             [result] = answers["/results"]
@@ -46,7 +52,7 @@ class Names(OfPages):
             titles = re.findall("<title>(.*)</title>", feed)[1:]
             self.assertEqual([title.startswith("\u2068\u202eTwin &lt;Town&gt;\u2069: ")
                               for title in titles], [True] * len(titles))
-            self.assertEqual("(\u2068Ana\u2069)" in feed, True)
+            self.assertEqual(f"({isolated(names['Ana'])})" in feed, True)
 
     def test_the_title_of_a_page(self):
         self.publish(TWIN)

@@ -201,6 +201,15 @@ class InAFolder(Case):
                    "names and passwords: choose another name\n"))
         self.assertEqual(tree(root), before)
         self.assertEqual(office_site(root, ONE, "--name", "clerk:eva")[0], 0)
+        # Who shares them already may say so again, and who has own ones keeps these.
+        self.assertEqual(office_site(root, OTHER, "--passwords-of", ONE)[0], 0)
+        third = "third.example.org"
+        self.assertEqual(office_site(root, third, "setup.toml", "--port", "8103")[0], 0)
+        before = tree(root)
+        status, out, said = office_site(root, third, "--passwords-of", ONE)
+        self.assertEqual((status, out), (1, ""))
+        self.assertIn(f"{third} has names and passwords of its own: ", said)
+        self.assertEqual(tree(root), before)
 
     @needs("dpkg-deb", "git", "openssl")
     def test_what_is_refused(self):

@@ -2,7 +2,9 @@
 
 import contextlib
 import json
+import os
 import re
+import shutil
 import signal
 import sys
 import time
@@ -10,8 +12,11 @@ from pathlib import Path
 
 from tests.support import tools
 from tests.support.case import PROGRAM, needs
-from tests.support.office import SETUP, constituency, party_list, profile, station
-from tests.support.pages import read
+from tests.support.desks import done, modelled
+from tests.support.office import (
+    LISTS, PROFILE, SETUP, constituency, party_list, profile, station,
+)
+from tests.support.pages import press, read, shown_text
 from tests.support.proxy import Proxy
 from tests.support.running import PATIENCE, free_port, until
 from tests.support.site import DEPLOY, SiteCase, plain, ran, rows, serving
@@ -25,6 +30,118 @@ def three_offices_setup():
         setup += party_list("A", "Alpha", "Ana") + party_list("B", "Beta", "Bea")
         setup += "".join(station(f"s{c}-{n}") for n in range(1, c + 1))
     return setup
+
+
+# Two constituencies of a station each; and what an edited setup has in the place of what the
+# office has, with what is said to be otherwise.
+TOWNS = {code: constituency(code, f"Town <{code}>", 3, "d0") + LISTS + station(f"{code}-s1")
+         for code in ("c1", "c2")}
+EDITED = (
+    ("seats = 3", "seats = 4", "seats"), ('"dhondt"', '"sainte-lague"', "method"),
+    ("threshold = 0", "threshold = 300", "threshold"), ('"valid"', '"lists"', "base"),
+    ('"valid"\n', '"valid"\nlot = "alternating"\n', "lot_rule"),
+    ('"Town <c1>"', '"Town"', "name"), ('"Alpha"', '"Alfa"', "lists"),
+    (LISTS, party_list("B", "Beta", "Bea") + party_list("A", "Alpha", "Ana", "Abel"), "lists"),
+    # (no report has the candidates who hold no seat)
+    ('"Abel"', '"Other"', "candidates"), ('["Bea"]', '["Bea", "Other"]', None),
+    ('profile = "d0"\n', 'profile = "d0"\nentry = "double"\n', "entry"),
+    (station("c1-s1"), station("c1-s1") + station("c1-s2"), "stations"))
+IN_TABLE = ((station("c1-s1"), station("c1-s1", 3000)), ('"c1-s1"', '"c1-s9"'))
+
+
+@contextlib.contextmanager
+def certified(setup):
+    """The port of an office with this setup, which has certified its first constituency."""
+    with modelled(setup) as (office, port):
+        if "c1-s1" in setup:
+            done(office, "/station/c1-s1/lodge",
+                 {"slip": "p1", "votes": [20, 10], "blank": 0, "spoiled": 0})
+            done(office, "/station/c1-s1/close", {"rev": 1})
+            done(office, "/con/c1/certify", {"edition": 1})
+        yield port
+
+
+class PagesOfOffices(SiteCase):
+    """The country is published where the offices have the constituencies of the setup, each of
+    them once, and as the setup has it."""
+
+    def setUp(self):
+        super().setUp()
+        Path("setup.toml").write_text(PROFILE + "".join(TOWNS.values()), encoding="utf-8")
+        self.words = ["--setup", "setup.toml"]
+
+    def pages(self, *ports, status=1):
+        """Runs press.py over these offices; what it says on standard error."""
+        done = tools.run(
+            [sys.executable, DEPLOY / "press.py", *(f"http://127.0.0.1:{port}" for port in ports),
+             "pages", *self.words], capture_output=True, text=True, timeout=PATIENCE)
+        self.assertEqual(done.returncode, status, done)
+        return done.stderr
+
+    def test_constituencies_that_are_there_twice_or_not(self):
+        """They are named, the country stays as it was, and says so, and the pages of the others
+        are written."""
+        one, two, both = PROFILE + TOWNS["c1"], PROFILE + TOWNS["c2"], PROFILE + "".join(
+            TOWNS.values())
+        with certified(one) as first, certified(two) as second, certified(both) as whole:
+            self.assertEqual(self.pages(first, second, status=0), "")
+            before = read("results.csv"), read("index.csv")
+            for ports, said, old in (
+                    ([first], "no office has the constituency c2", ["c2"]),
+                    ([second, second], "more than one office has the constituency c2",
+                     ["c1", "c2"]),
+                    ([first, whole], "more than one office has the constituency c1", ["c1"])):
+                with self.subTest(said=said):
+                    self.assertIn(f"failed: /results: {said}", self.pages(*ports))
+                    self.assertEqual((read("results.csv"), read("index.csv")), before)
+                    self.assertEqual([code for code in ("c1", "c2")
+                                      if 'class="old"' in read(f"con-{code}.html")], old)
+                    self.assertIn('class="old"', read("index.html"))
+                    self.pages(first, second, status=0)
+                    self.assertNotIn('class="old"', read("index.html"))
+            Path("setup.toml").write_text(one, encoding="utf-8")
+            self.assertIn("failed: /results: the setup lacks the constituency c2",
+                          self.pages(whole))
+            self.assertEqual((read("results.csv"), read("index.csv")), before)
+            # Without a setup nobody knows which there are; of two nobody knows which is right.
+            self.words = []
+            self.pages(first, status=0)
+            self.assertIn("more than one office has the constituency c1", self.pages(first, whole))
+
+    def test_a_setup_that_was_edited(self):
+        """Whatever an office has otherwise is named, and no page and no file has it of the
+        setup."""
+        setup = PROFILE + TOWNS["c1"]
+        with certified(setup) as port:
+            for old, new, what in EDITED:
+                with self.subTest(what=what, new=new):
+                    self.assertIn(old, setup)
+                    Path("setup.toml").write_text(setup.replace(old, new), encoding="utf-8")
+                    self.assertEqual(
+                        self.pages(port, status=int(what is not None)),
+                        what and "failed: /results: not as the setup has it, the constituency c1 "
+                        f"({what}); left as they are: 0 pages\n" or "")
+                    if what:
+                        self.assertEqual(os.listdir("pages"), [".provisional"])
+                    shutil.rmtree("pages")
+
+    def test_a_setup_with_other_stations_or_electors(self):
+        """They are compared once a start: in the round that has time for it the pages stay as they
+        were, with a line on their age. The setup that is published stays too."""
+        setup = PROFILE + TOWNS["c1"]
+        Path("setup.toml").write_text(setup, encoding="utf-8")
+        with certified(setup) as port:
+            self.assertIn(" GETs 4 ", press(port, *self.words))
+            before = read("results.csv"), read("setup.json")
+            self.assertIn("Turnout: 10.00%.", shown_text(read("con-c1.html")))
+            for old, new in IN_TABLE:
+                with self.subTest(new=new):
+                    Path("setup.toml").write_text(setup.replace(old, new), encoding="utf-8")
+                    self.assertIn("than those of the setup; left as they are: ", self.pages(port))
+                    self.assertEqual((read("results.csv"), read("setup.json")), before)
+                    for name in ("index.html", "con-c1.html"):
+                        self.assertIn('class="old"', read(name))
+                        self.assertIn("Turnout: 10.00%.", shown_text(read(name)))
 
 
 class Offices(SiteCase):

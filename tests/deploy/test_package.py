@@ -259,8 +259,8 @@ esac
         status, said, asked = self.before_an_upgrade("starts failed")
         self.assertEqual((status, asked), (0, copies))
         self.assertEqual(said, "".join(
-            f"office: office@{site}.service has no copy: journalctl -u office-backup@{site}.service"
-            " says why\n" for site in ("starts", "failed")))
+            f"office: office@{site}.service has no good copy: journalctl -u office-backup@{site}"
+            ".service says why\n" for site in ("starts", "failed")))
         status, said, asked = self.before_an_upgrade("runs")
         self.assertEqual((status, asked), (1, copies[:1]))
         self.assertTrue(said.endswith("says why\noffice: nothing was changed\n"), said)

@@ -55,6 +55,54 @@ WOULD = (("with its provisional seats", " would have it."),
 
 
 class PagesOfAnEvening(SiteCase):
+    def test_a_share_just_below_the_threshold(self):
+        """2.995 per cent are 3.00 of a list that takes part, and 2.99 of one that does not; the
+        same on each page and in each part that has the share."""
+        for threshold, share in ((300, "2.99%"), (0, "3.00%")):
+            for many in (1, 2):
+                with self.subTest(threshold=threshold, many=many):
+                    setup = profile("d", threshold=threshold)
+                    for n in range(many):
+                        setup += constituency(f"c{n}", f"Town {n}", 1, "d")
+                        setup += party_list("A", "Alpha", "Ana") + party_list("B", "Beta", "Bea")
+                        setup += station(f"s{n}", 30_000)
+                    Path("setup.toml").write_text(setup, encoding="utf-8")
+                    with modelled(setup) as (office, port):
+                        done(office, "/station/s0/lodge",
+                             {"slip": "p1", "votes": [19_401, 599], "blank": 0, "spoiled": 0})
+                        done(office, "/station/s0/close", {"rev": 1})
+                        press(port, "--setup", "setup.toml")
+                    # Of the country no threshold is; but one constituency is the country.
+                    of_all = share if many == 1 else "3.00%"
+                    for name, wanted in (("con-c0.html", share), ("embed-c0.html", share),
+                                         ("list-B.html", share), ("index.html", of_all),
+                                         ("embed.html", of_all)):
+                        cells = [cell for rows in page_of(name).tables.values() for row in rows
+                                 for cell in row if re.match(r"[23]\.\d\d%", cell)]
+                        self.assertEqual(set(cells), {wanted}, name)
+                    self.assertIn(f"{of_all} of the valid votes", shown_text(read("list-B.html")))
+                    # 97.005 are 97.01, and as far from what is shown of the other list.
+                    for name, other in (("con-c0.html", share), ("index.html", of_all)):
+                        ahead = "94.02" if other == "2.99%" else "94.01"
+                        self.assertIn(f"{ahead} points", shown_text(read(name)), name)
+
+    def test_a_list_that_goes_on_on_another_page(self):
+        """With two hundred constituencies: each page links the other one. With one it has none."""
+        for many, wanted in ((200, ["list-A.html", "lists-A-1.html"]), (1, ["list-A.html"])):
+            setup = profile("d0") + "".join(
+                constituency(f"c{n}", f"District {n} of the country", 1, "d0")
+                + party_list("A", "Alpha", "Ana") + station(f"s{n}") for n in range(many))
+            Path("setup.toml").write_text(setup, encoding="utf-8")
+            with self.subTest(many=many), modelled(setup) as (_, port):
+                press(port, "--setup", "setup.toml", folder=f"pages{many}")
+                pages = {file.name: file.read_text(encoding="utf-8")
+                         for file in Path(f"pages{many}").glob("list*.html")}
+                self.assertEqual(sorted(pages), wanted)
+                found = {name: set(re.findall(r'href="(lists?-A(?:-1)?\.html)"', text))
+                         for name, text in pages.items()}
+                for name in pages:
+                    self.assertEqual(found[name] - {"list-A.html"}, {*wanted[1:]} - {name})
+
     def test_the_rows_of_seats_add_up_to_all(self):
         """In each state seats that nobody has are rows of their own, on the page of the country and
         in the parts for other sites; the last row has all of them."""

@@ -1,14 +1,18 @@
 """The papers that a board signs, with the record of commands: incidents, times, who is gone."""
 
 import hashlib
+import json
+import shutil
 from pathlib import Path
 
 from tests.support import tools
+from tests.support.office import LISTS, constituency, station
 from tests.support.papers import (
-    COPY, OfPapers, copy_of, done, paper, papers, recorded,
+    COPY, DRAWN, OfPapers, copy_of, done, paper, papers, recorded,
 )
 from tests.support.record import chained
 from tests.support.running import PATIENCE
+from tests.support.scripts import module
 from tests.support.site import DEPLOY, EXAMPLES
 
 
@@ -118,6 +122,56 @@ class OfTheRecord(OfPapers):
         papers("doubles", COPY, "out", "--record", "commands.log", "--station", "04-001-B")
         self.assertIn("First entry not in the record of commands Closed by not in the record of "
                       "commands", paper("out", "doubles-*").text)
+
+    def test_the_moment_of_a_lot(self):
+        """That of the record, where it has the lot of the copy: another one was drawn past it, as
+        the copy's last edition was."""
+        draws = [done("berta", "/con/montehondo/draw", {"edition": 1, "order": order})
+                 for order in (["ENCINA", "ROBLE"], ["ROBLE", "ENCINA"])]
+        copy_of(*DRAWN, "UPDATE cons SET edition = 6",
+                "UPDATE returns SET rev = 5 WHERE station = '01-001-A'")
+        query = done("clara", "/station/01-001-A/query", {"rev": 2, "note": "120?"})
+        for also, wanted in ((draws[:1], True), (draws[1:], False), (draws[::-1], True),
+                             (draws, False), ([draws[0], query], False), ([], False)):
+            with self.subTest(also=also):
+                recorded(also=also)
+                papers("count", COPY, "out", "--record", "commands.log")
+                found = paper("out", "act-count-*").text
+                self.assertIn("came out in this order: 1. ENCINA, 2. ROBLE.", found)
+                self.assertEqual("The lot was recorded on 26 November 2026, 22:14 (+00:00)."
+                                 in found, wanted)
+
+    def test_the_record_of_several_offices(self):
+        """It begins with the hash of the whole setup, of which the copy has a part."""
+        other = constituency("c2", "Port", 3, "loreg")
+        Path("setup.toml").write_text(EXAMPLES + other + LISTS + station("t1"), encoding="utf-8")
+        tools.run([DEPLOY / "setup-json", "setup.toml", "."], check=True, timeout=PATIENCE)
+        copy_of()
+        recorded(setup=hashlib.sha256(Path("setup.json").read_bytes()).hexdigest())
+        self.refuses("of another setup; where there are several offices, give the setup.json",
+                     "acts", "--record", "commands.log")
+        papers("acts", COPY, "out", "--record", "commands.log", "--setup", "setup.json")
+        self.assertIn("up to line 63", paper("out", "act-count-*").text)
+        whole = Path("setup.json").read_text(encoding="utf-8")
+        for text, said, status in ((whole.replace("Aurora", "Aurelia"), "does not have the", 1),
+                                   (whole.replace('"c2"', '"c3"'), "record of another setup", 1),
+                                   ("[5]", "failed: other.json: ", 2), ("x", "failed: ", 2)):
+            Path("other.json").write_text(text, encoding="utf-8")
+            shutil.rmtree("out", ignore_errors=True)
+            with self.subTest(said=said):
+                self.refuses(said, "acts", "--record", "commands.log", "--setup", "other.json",
+                             status=status)
+
+    def test_a_whole_setup_that_an_older_package_wrote(self):
+        """It does not say that returns are entered twice, and the copy does; nor the other way."""
+        of_whole, file = module("papers_data").of_whole, Path("setup.json")
+        one = {"code": "c1", "name": "Twin Town", "seats": 3}
+        double = one | {"entry": "double"}
+        for known, con, wanted in ((one, one, True), (double, double, True), (one, double, True),
+                                   (double, one, False), (one | {"seats": 4}, double, False)):
+            with self.subTest(known=known, con=con):
+                file.write_text(json.dumps([known, one | {"code": "c2"}]), encoding="utf-8")
+                self.assertEqual(of_whole(file, [con]), wanted)
 
     def test_records_that_are_refused(self):
         copy_of()

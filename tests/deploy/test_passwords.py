@@ -162,6 +162,12 @@ class Passwords(SiteCase):
             [bool(re.fullmatch("([a-z2-7]{4}-){5}[a-z2-7]{4}", one)) for _, one in given],
             [True] * 12)
         self.assertEqual(len({one for _, one in given}), 12)
+        # First that of one station, and then those of the others, which have none yet.
+        self.assertEqual(password("stations", "s1")[0], "s1")
+        before = (folder / "stations/s1").read_bytes()
+        self.assertEqual(password("stations", "--new")[::2], ["s2"])
+        self.assertEqual((folder / "stations/s1").read_bytes(), before)
+        self.assertEqual(password("stations", "--new"), [])
         password("stations", "--all")
         for file in (folder / "staff.htpasswd", folder / "stations/s1", folder / "stations/s2"):
             with self.subTest(file=file):

@@ -9,7 +9,9 @@ from tests.support import browser
 from tests.support.case import needs
 from tests.support.countries import FOUR_BEFORE, four, setup_of_four
 from tests.support.desks import answering_desk, done, modelled
-from tests.support.office import PROFILE, profile, with_stations
+from tests.support.office import (
+    PROFILE, constituency, party_list, profile, station, with_stations,
+)
 from tests.support.pages import TWIN, page_of, press, read, shown_text, site_folder
 from tests.support.published import package_faults
 from tests.support.scripts import module
@@ -21,6 +23,34 @@ press_templates = module("press_templates")
 
 PLACES = ('station,name,place\nn1,"School <old>, hall",Ribera\nn2,Hall,Monte Alto\n'
           'e1,Town hall,Alcañiz\ns1,School,Ribera\no1,,Getafe\no2,,Getafe\n')
+
+# Where the last quotients are equal, by hand: the method and its lots, seats, votes of A, B and C,
+# the order of a lot, and what the page says of the last seat and of the lot.
+LOT_OF = "Exactly as high was the next quotient of {}: a lot decided."
+VOTES_OF = ("Exactly as high was the next quotient of {}, with fewer votes in all: of equal "
+            "quotients the list with more votes gets the seat.")
+TIED = "{} tied for the last seat; the lot gave it to {}."
+EQUALS = {
+    # 30 : 3 and 10
+    "votes": ("dhondt", "fixed", 3, [30, 10, 1], [], [VOTES_OF.format("B")]),
+    "votes of two": ("dhondt", "fixed", 3, [30, 10, 10], [], [VOTES_OF.format("B, C")]),
+    # the third seat is A's by votes, 30 : 3; the fourth is of B or C
+    "lot below votes": ("dhondt", "fixed", 4, [30, 10, 10], ["C", "B"],
+                        [LOT_OF.format("B"), TIED.format("B and C", "C")]),
+    # 30 : 3 of A and of B, and 10 of C
+    "lot and votes": ("dhondt", "fixed", 5, [30, 30, 10], ["B", "A"],
+                      [LOT_OF.format("A"), VOTES_OF.format("C"), TIED.format("A and B", "B")]),
+    # of the second seat the order is turned round
+    "turned lot": ("dhondt", "alternating", 3, [100, 100, 1], ["B", "A"],
+                   [LOT_OF.format("B"), TIED.format("A and B", "A")]),
+    # 30 : 3 and 10
+    "Sainte-Laguë": ("sainte-lague", "fixed", 2, [30, 10, 1], [], [VOTES_OF.format("B")]),
+    # 150 : 3 and 70 : 1.4
+    "modified": ("modified-sainte-lague", "fixed", 2, [150, 70, 1], [], [VOTES_OF.format("B")]),
+    # 3 x 2 and 1 x 2 over 4 leave 2 each; of 1, 1 and 2 votes all leave 2 or 0
+    "remainders by votes": ("hare", "fixed", 2, [3, 1, 0], [], []),
+    "remainders by lot": ("hare", "fixed", 2, [1, 1, 2], ["B", "A"], []),
+}
 
 
 class Places(SiteCase):
@@ -148,8 +178,10 @@ class Places(SiteCase):
         before = {name: read(name) for name in own if not name.endswith(".gz")}
         with answering_desk(TWIN) as (port, _):
             # The setup has these constituencies still: the office is another one.
-            press(port, *words)
-            self.assertEqual({name: read(name) for name in before}, before)
+            press(port, *words, status=1)
+            self.assertEqual([name for name in before if 'class="old"' not in read(name)],
+                             [name for name in before if not name.endswith(".html")])
+            self.assertIn("Alpha", shown_text(read("con-norte.html")))
             Path("setup.toml").write_text(with_stations(1), encoding="utf-8")
             # A page of the board's own, whose name is like that of a constituency.
             for name in ("con-tact.html", "con-tact.csv"):
@@ -320,6 +352,36 @@ class Lists(SiteCase):
                 with self.subTest(folder=folder, sentence=sentence):
                     self.assertIn(sentence, shown_text(read(name, folder)))
         self.assertNotIn("The last seat", read("con-oeste.html"))
+
+    def test_which_equal_quotients_a_lot_decided(self):
+        """A lot decides among lists of as many votes alone: of equal quotients the list with more
+        votes has the seat, and is none of those that tied. So say the pages of the constituency
+        and of the country, and its part for other sites; of remainders nothing is said."""
+        for case, (method, lots, seats, votes, lot, said) in EQUALS.items():
+            setup = f'{profile("d0", method)}lot = "{lots}"\n' + constituency(
+                "c1", "Twin Town", seats, "d0") + "".join(
+                    party_list(code, name, "Ana", "Bea") for code, name in (
+                        ("A", "Alpha"), ("B", "Beta"), ("C", "Gamma"))) + station("s1")
+            Path("setup.toml").write_text(setup, encoding="utf-8")
+            with self.subTest(case=case), modelled(setup) as (office, port):
+                done(office, "/station/s1/lodge",
+                     {"slip": "p1", "votes": votes, "blank": 0, "spoiled": 0})
+                done(office, "/station/s1/close", {"rev": 1})
+                if lot:
+                    done(office, "/con/c1/draw", {"edition": 1, "order": lot})
+                done(office, "/con/c1/certify", {"edition": 2 if lot else 1})
+                press(port, "--setup", "setup.toml", *site_folder(site='languages = ["es"]\n'))
+                text, spanish = (shown_text(read("con-c1.html", folder))
+                                 for folder in ("pages", "pages/es"))
+                self.assertEqual("con menos votos en total: a igual cociente" in spanish,
+                                 any("fewer votes in all" in sentence for sentence in said))
+                # (a sentence on a lot is also under the title)
+                found = re.findall("Exactly as high [^.]*[.]|[A-C] and [A-C] tied [^.]*[.]", text)
+                self.assertEqual(sorted({*found}), sorted(said))
+                tied = [sentence for sentence in said if "tied" in sentence]
+                for name in ("index", "embed-c1"):
+                    text = shown_text(read(f"{name}.html"))
+                    self.assertEqual(re.findall("[A-C] and [A-C] tied [^.]*[.]", text), tied)
 
 
 class Shown(SiteCase):

@@ -268,7 +268,8 @@ class Ports(Safeguards):
         )
         self.assertEqual(
             set(re.findall(r"^\s*server ([^{;]+);", proxy, re.M)),
-            {"unix:/run/office-reader/1.sock", "unix:/run/office-recorder/1.sock"},
+            {"unix:/run/office-reader/1.sock", "unix:/run/office-reader/1-names.sock",
+             "unix:/run/office-recorder/1.sock"},
         )
         for name in ("split", "nginx.conf"):
             self.assertNotIn("server 127.0.0.1", (DEPLOY / name).read_text(encoding="utf-8"))

@@ -3,6 +3,7 @@
 import json
 import os
 import re
+import resource
 import subprocess
 import sys
 from pathlib import Path
@@ -28,13 +29,14 @@ LOTS = (("dhondt", "fixed", [1, 2], False), ("dhondt", "alternating", [2, 1], Tr
 class PressPages(SiteCase):
     def test_a_page_of_the_press(self):
         """Twin Town: every number of its result is in a table. The office is asked for the results,
-        the returns, and once more for the edition that these are of."""
+        for the stations with their electors, which are those of the setup, for the returns, and
+        once more for the edition that these are of."""
         Path("setup.toml").write_text(with_stations(1), encoding="utf-8")
         with answering_desk(TWIN) as (port, asked):
             last = press(port, "--setup", "setup.toml")
             self.assertTrue(
-                re.fullmatch(r"\d\d:\d\d:\d\d pages 2 failed 0 GETs 3 in \d+\.\d s", last), last)
-            self.assertEqual(asked, ["/results", "/con/c1/returns", "/con/c1"])
+                re.fullmatch(r"\d\d:\d\d:\d\d pages 2 failed 0 GETs 4 in \d+\.\d s", last), last)
+            self.assertEqual(asked, ["/results", "/con/c1/stations", "/con/c1/returns", "/con/c1"])
         page = page_of("con-c1.html")
         self.assertEqual(page.figures, 2)
         self.assertEqual(page.tables["Seats of each list"],
@@ -275,7 +277,7 @@ class PressPages(SiteCase):
         setup."""
         name = "<script>alert('&\"')</script> "
         setup = with_stations(1).replace('"Alpha"', json.dumps(name))
-        setup = setup.replace('"Ana"', '"<i>Ana</i>"')
+        setup = setup.replace('"Ana"', '"<i>Ana</i>"').replace('"Twin Town"', '"A & <B>"')
         Path("setup.toml").write_text(setup, encoding="utf-8")
         answers = renamed(TWIN | results_of(RESULT | {
             "gone": [["A", 1, "<b>ill</b>"]],
@@ -332,6 +334,39 @@ class PressPages(SiteCase):
         press(port, folder="others", status=1)
         self.assertEqual(os.listdir("others"), [".provisional"])
 
+    def test_a_disk_without_room(self):
+        """A round that cannot write ends with a line that says so, and the next one after that
+        writes everything, in a program that goes on."""
+        Path("setup.toml").write_text(with_stations(1), encoding="utf-8")
+        no_limit = resource.RLIM_INFINITY
+        with answering_desk(TWIN) as (port, _):
+            words = [sys.executable, DEPLOY / "press.py", f"http://127.0.0.1:{port}", "pages",
+                     "--setup", "setup.toml"]
+            how = {"stdout": subprocess.PIPE, "stderr": subprocess.STDOUT, "text": True,
+                   "preexec_fn": lambda: resource.setrlimit(resource.RLIMIT_FSIZE,
+                                                            (9_000, no_limit))}
+            ended = subprocess.run(words, timeout=PATIENCE, check=False, **how)
+            self.assertEqual((ended.returncode, ended.stdout.splitlines()[0]),
+                             (1, "failed: pages: File too large: the round ended there"))
+            self.assertEqual(list(Path("pages").glob(".*.new")), [])
+            # The files of the start cannot be written either.
+            names = "".join(f"x{n},{'N' * 300}\n" for n in range(60))
+            ended = subprocess.run([*words, *site_folder(stations=f"station,name\n{names}")],
+                                   timeout=PATIENCE, check=False, **how)
+            self.assertEqual((ended.returncode, ended.stdout),
+                             (1, "failed: pages: File too large\n"))
+            with subprocess.Popen([*words, "--every", "0.1"], **how) as process:
+                try:
+                    for said in ("failed: pages: File too large: ", " pages 0 failed 1 ") * 2:
+                        self.assertIn(said, process.stdout.readline())
+                    resource.prlimit(process.pid, resource.RLIMIT_FSIZE, (no_limit, no_limit))
+                    self.assertTrue(any(" pages 2 failed 0 " in process.stdout.readline()
+                                        for _ in range(9)))
+                    for name in ("index.html", "con-c1.html", "stations-c1-1.html"):
+                        page_of(name)
+                finally:
+                    process.terminate()
+
     def test_a_page_that_gets_old_and_is_written_again(self):
         """While the office gives no answer each page says so, and later none has an age. While the
         returns of a constituency cannot be read, its own page says so, and the country goes on."""
@@ -367,9 +402,9 @@ class PressPages(SiteCase):
                         self.assertEqual(read("con-c1.html"), first)
                         self.assertNotIn('class="old"', read("index.html"))
                 # A change of the progress alone changes the page too.
-                answers["/results"] = [RESULT | {"stations": 2, "received": 1}]
+                answers["/results"] = [RESULT | {"closed": 0, "received": 1}]
                 until(lambda: page_of("con-c1.html").tables["Returns of the stations"][1]
-                      == ["2", "0", "1", "0", "0", "1"])
+                      == ["1", "0", "1", "0", "0", "0"])
             finally:
                 process.terminate()
                 process.wait(timeout=PATIENCE)

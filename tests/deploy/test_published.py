@@ -14,11 +14,11 @@ from pathlib import Path
 from tests.support import tools
 from tests.support.case import needs
 from tests.support.desks import answering_desk
-from tests.support.office import with_stations
 from tests.support.pages import TWIN, press, read, site_folder
 from tests.support.proxy import proxy
 from tests.support.published import (
     VACATED, a_head, before_the_hour, beside, of_readers, publish, published_site, rows_of,
+    write_setup,
 )
 from tests.support.running import PATIENCE
 from tests.support.site import DEPLOY, EXAMPLES, NAME, SiteCase, readme_election, serving
@@ -69,16 +69,15 @@ class Published(SiteCase):
                 with answering_desk(TWIN) as (port, _):
                     round_of = tools.run([sys.executable, DEPLOY / "press.py",
                                           f"http://127.0.0.1:{port}", "pages", *words],
-                                         capture_output=True, text=True, timeout=PATIENCE,
-                                         check=True)
+                                         capture_output=True, text=True, timeout=PATIENCE)
                 self.assertEqual(
-                    "of the record, and pages/record.csv has more, or another" in round_of.stderr,
-                    named)
+                    ("of the record, and pages/record.csv has more, or another" in round_of.stderr,
+                     round_of.returncode), (named, int(named)))
         self.assertEqual([row[1] for row in rows_of("record.csv")[1:]], ["7", "9", "8", "9", "10"])
         # A pipe in the place of the head is not waited for.
         os.rename("head", "kept")
         os.mkfifo("head")
-        publish(TWIN, "--head", "head")
+        publish(TWIN, "--head", "head", status=1)
         self.assertNotIn("record", json.loads(read("manifest.json")))
         # Without a head it has none, and an office that does not answer leaves it as it was.
         publish(TWIN)
@@ -121,8 +120,8 @@ class Published(SiteCase):
     def test_files_that_stay_as_they_are(self):
         """A round after which nothing is new writes the manifest alone; another writes what is
         new."""
-        Path("setup.toml").write_text(with_stations(1), encoding="utf-8")
         two = beside(TWIN)
+        write_setup(two)
         vacated = two | {"/results": [*VACATED["/results"], *two["/results"][1:]]}
         publish(two, "--setup", "setup.toml", *a_head(7))
         names = ("con-c1.json", "con-c2.json", "index.json")
@@ -133,6 +132,15 @@ class Published(SiteCase):
         times = [json.loads(read(name))["time"] for name in names]
         self.assertLess(since[0], times[0])
         self.assertEqual(since[1:], times[1:])
+
+    def test_a_head_that_cannot_be_used(self):
+        """The pages are written, and the status says that the head failed."""
+        words = a_head(7)
+        for text in ("", "[]", "{}", '{"n": 9}'):
+            with self.subTest(text=text):
+                Path("head").write_text(text, encoding="utf-8")
+                self.assertIn(" pages 2 failed 1 ", publish(TWIN, *words, status=1))
+        self.assertIn(" pages 2 failed 0 ", publish(TWIN, *a_head(7)))
 
     @needs("nginx", "openssl")
     def test_a_reader_who_asks_again(self):

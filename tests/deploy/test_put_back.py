@@ -125,6 +125,7 @@ class Status(Safeguards):
                                 "/con/c1/import/semicolon"), imported(1, differs=1, same=1)]
         above = [a_command("\n" + head[1:] + rows), imported(1, lodged=2)]
         bad = [a_command(head + rows + "s3,?\n"), imported(1, lodged=2, bad=1)]
+        odd = [a_command(head + rows.replace('"s2"', "s\u20282")), imported(1, lodged=1, bad=1)]
         gone = [a_command('{"list":"B","place":2,"note":"x"}', "/con/c1/vacate"),
                 {"to": 1, "status": 200, "answer": '{"next":3,"ok":"vacated"}'}]
         table, who = "/con/c1/stations", {"list": "B", "place": 2, "note": "x"}
@@ -137,6 +138,9 @@ class Status(Safeguards):
                 ("semicolons", semicolons, {table: begin + none("s1") + two}, False, files),
                 ("semicolons, all", semicolons, {table: begin + one + two}, True, None),
                 ("a blank line above", above, {table: begin + one + two}, True, None),
+                ("a name of three lines", whole, {table: begin.replace(
+                    "Twin", f"Twin\u2028\u2028{two[:26]}") + one + none("s2")}, False, files),
+                ("a code of two lines", odd, {table: begin + one}, True, None),
                 ("a bad row", bad, {table: begin + one + two + none("s3")}, True, None),
                 ("before it", bad, {table: begin + one + none("s2") + none("s3")}, False, files),
                 ("no constituency", whole, {table: 404}, False, files),
@@ -275,6 +279,8 @@ class Put(SiteCase):
         asks = ["the copy has no constituency to which this record has commands, so nobody knows "
                 "of which office it is: say so with --number, as 1 where there is one office"]
         two = [lodge | {"office": 2}, answer(1)]
+        another = ["c2: the office has it, and this record has commands to it in office 1 and not "
+                   "in 3: the copy is of another office"]
         for why, lines, wanted, *number in (
                 ("nothing was done", [], []),
                 ("nothing was done there", refused, []),
@@ -287,6 +293,10 @@ class Put(SiteCase):
                 ("in the second office alone", two, asks),
                 ("in the second office, and the copy is of the first", two, [], 1),
                 ("in the second office, and the copy is of it", two, said, 2),
+                # Its own constituency had commands in another one.
+                ("there, and the copy is of the third", refused, another, 3),
+                ("in both, and the copy is of the second",
+                 [*refused, refused[0] | {"office": 2}, answer(3, 404)], [], 2),
                 ("in another office", [*refused, lodge | {"office": 2}, answer(3)], [])):
             with self.subTest(why=why):
                 ran = tools.run([DEPLOY / "entries", "setup.toml", "--office", "copy.db",

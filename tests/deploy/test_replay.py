@@ -5,14 +5,26 @@ import hashlib
 import json
 import re
 import time
+from pathlib import Path
 
 from tests.support import tools
 from tests.support.case import ROOT, needs
 from tests.support.desks import answer_of, answering_desk, desk_with, recording_desk
+from tests.support.office import with_stations
 from tests.support.proxy import office_and_proxy, proxy
-from tests.support.record import a_command, chained, replayed
+from tests.support.record import LODGED, a_command, chained, replayed
 from tests.support.running import PATIENCE
-from tests.support.site import DEPLOY, EXAMPLES, LATE, NAME, STATIONS, SiteCase, rows, serving
+from tests.support.site import (
+    DEPLOY,
+    EXAMPLES,
+    LATE,
+    NAME,
+    STATIONS,
+    SiteCase,
+    plain,
+    rows,
+    serving,
+)
 
 
 def elect(ask):
@@ -111,11 +123,10 @@ class Replay(SiteCase):
             end = f"lines 57, the hash of the last {hash_of_last(front)}\n"
             self.assertEqual(replay(desk, front), (0, f"sent 25, to look at 0; {end}"))
             # Once more: the two returns are the same, and so is the import but for the row that was
-            # corrected since; nothing else is done a second time. Of that row the office has
-            # something else than the file, so that the two certificates are not sent.
+            # corrected since; the rest is refused, since nothing is done a second time.
             status, said = replay(desk, front)
             self.assertEqual(status, 1, said)
-            self.assertTrue(said.endswith(f"\nsent 23, to look at 23; {end}"), said)
+            self.assertTrue(said.endswith(f"\nsent 25, to look at 23; {end}"), said)
             self.assertIn('"word":"stale"', said)
             # By their time the office has all of them: the last is to be looked at.
             line = (front.folder / "log/commands.log").read_bytes().splitlines()[-1]
@@ -335,3 +346,220 @@ class Replay(SiteCase):
         self.assertEqual((status, said.splitlines()[-1].split(";")[0]), (1, "sent 3, to look at 1"))
         self.assertTrue(said.startswith("line 1: "), said)
         self.assertIn("no answer", said)
+
+
+def on(station, act, **body):
+    return f"/station/{station}/{act}", json.dumps(body)
+
+
+def imported(*rows_of_it):
+    return "/con/c1/import", "\n".join(("station,slip,blank,spoiled,A,B", *rows_of_it))
+
+
+OTHER = LODGED | {"votes": [7, 7]}
+SECOND = on("s2", "lodge", **LODGED), on("s2", "close", rev=1)
+CERTIFY = ("/con/c1/certify", '{"edition":1}')
+QUERIED = on("s1", "lodge", **LODGED), on("s1", "query", rev=1, note="14?")
+CORRECTED = *QUERIED, on("s1", "correct", rev=2, **LODGED | {"votes": [10, 20]})
+
+
+class OfficeThatDiffers(SiteCase):
+    """The record over an office that does not answer as the record says: nothing is closed or
+    certified that was not closed or certified with these votes."""
+
+    def recorded(self, *commands):
+        """The lines of commands that an office accepts: command 3 and its answer are 5 and 6."""
+        lines = []
+        for file in Path().glob("old.db*"):
+            file.unlink()
+        with serving(with_stations(2), "old.db") as desk:
+            for target, body in commands:
+                found = plain(desk.port, "POST", target, body)
+                self.assertEqual(found.status, 200, found)
+                lines += [a_command(body, target),
+                          {"to": len(lines) + 1, "status": 200, "answer": found.body.decode()}]
+        return lines
+
+    def over(self, lines, before=(), unknown=(), after=0, electors=300):
+        """The lines that are not sent to an office which did some commands before, since it has
+        something else; then the status and the votes of s1, and whether the constituency is
+        certified. Nobody knows the answer in the lines `unknown`."""
+        lines = [line | {"status": 504} if place in unknown else line
+                 for place, line in enumerate(lines, 1)]
+        for file in Path().glob("new.db*"):
+            file.unlink()
+        with serving(with_stations(2, electors), "new.db") as desk:
+            for target, body in before:
+                self.assertEqual(plain(desk.port, "POST", target, body).status, 200)
+            said = replayed(desk.port, chained(*lines), "--after", str(after))[1]
+            s1, c1 = (json.loads(plain(desk.port, "GET", target).body)
+                      for target in ("/station/s1", "/con/c1"))
+        left = [int(line) for line in re.findall(
+            r"^line (\d+): .*: the office has something else than line \d+$", said, re.M)]
+        return left, s1.get("status"), s1.get("votes"), c1["certified"]
+
+    def test_a_return_that_lacks_a_change(self):
+        """It was closed, called in question, corrected and closed again. Without the query, or
+        without the correction too, it is closed as it was at first, and that is not certified.
+        Without the lodge there is no return."""
+        lines = self.recorded(
+            QUERIED[0], on("s1", "close", rev=1), *SECOND, on("s1", "query", rev=2, note="14?"),
+            on("s1", "correct", rev=3, **OTHER), on("s1", "close", rev=4), CERTIFY)
+        for unknown, wanted in (((), ([], "closed", [7, 7], True)),
+                                ((10,), ([11, 13, 15], "closed", [1, 2], False)),
+                                ((10, 12), ([13, 15], "closed", [1, 2], False)),
+                                ((2,), ([3, 9, 11, 13, 15], None, None, False))):
+            with self.subTest(unknown=unknown):
+                self.assertEqual(self.over(lines, unknown=unknown), wanted)
+
+    def test_a_correction_that_the_office_refuses(self):
+        """The office has lines 1 and 2, and was given a correction before the rest: where it is
+        that of the record, what comes after it is done too, and else nothing is closed over it. So
+        it is where there are more votes than electors now."""
+        done = *CORRECTED, on("s1", "close", rev=3), *SECOND, CERTIFY
+        lines = self.recorded(*done, ("/con/c1/reopen", '{"edition":2,"note":"sum"}'),
+                              ("/con/c1/certify", '{"edition":3}'))
+        for commands, after in ((3, 2), (4, 2), (7, 2), (3, 0), (4, 0), (7, 0), (7, 14)):
+            with self.subTest(commands=commands, after=after):
+                self.assertEqual(self.over(lines, done[:commands], after=after),
+                                 ([], "closed", [10, 20], True))
+        for other in ({"votes": [20, 10]}, {"slip": "p2"}, {"blank": 1}, {"spoiled": 1}):
+            body = LODGED | {"votes": [10, 20]} | other
+            with self.subTest(other=other):
+                self.assertEqual(
+                    self.over(lines, [*QUERIED, on("s1", "correct", rev=2, **body)], after=2),
+                    ([7, 13, 17], "corrected", body["votes"], False))
+        self.assertEqual(self.over(lines, electors=29), ([7, 13, 17], "queried", [1, 2], False))
+
+    def test_a_return_with_which_the_office_has_gone_on(self):
+        """It is not closed at the revision that the record names too, nor certified where no other
+        command is on its station: there, the office has the lines up to `after`."""
+        lodge, queried = QUERIED
+        closed = on("s1", "close", rev=1)
+        wrong = on("s1", "correct", rev=2, **OTHER)
+        again = on("s1", "query", rev=2, note="14?"), on("s1", "correct", rev=3, **OTHER)
+        for record, before, unknown, after, wanted in (
+                ((lodge, closed), (lodge, queried, wrong, on("s1", "close", rev=3)), (), 2,
+                 ([9], "closed", [7, 7], False)),
+                ((lodge, closed), (lodge, closed, *SECOND, *again, on("s1", "close", rev=4)), (), 8,
+                 ([9], "closed", [7, 7], False)),
+                ((*CORRECTED, on("s1", "close", rev=3)), (lodge, queried, wrong), (), 6,
+                 ([7, 13], "corrected", [7, 7], False)),
+                ((*CORRECTED, on("s1", "close", rev=3)), (lodge, queried, wrong), (4, 6), 2,
+                 ([7, 13], "corrected", [7, 7], False)),
+                ((imported("", "s1,p1,0,0,1,2"), closed), (on("s1", "lodge", **OTHER),), (2,), 0,
+                 ([3, 9], "received", [7, 7], False)),
+                ((imported("s1,p1,0,0,1,2", "s1,p1,0,0,7,7"), closed),
+                 (on("s1", "lodge", **OTHER),), (), 2, ([3, 9], "received", [7, 7], False))):
+            lines = self.recorded(*record, *SECOND, CERTIFY)
+            with self.subTest(record=record, before=before, unknown=unknown):
+                self.assertEqual(self.over(lines, before, unknown, after), wanted)
+
+    def test_a_copy_that_has_what_was_not_answered(self):
+        """It is certified, as it was: the record says by its next line which of these were done, or
+        the copy may have either."""
+        done = *CORRECTED, on("s1", "close", rev=3), *SECOND, CERTIFY
+        lines = self.recorded(*done)
+        for commands, unknown, after in ((4, (8,), 8), (4, (6,), 6), (3, (4, 6), 6), (1, (2,), 2),
+                                         (6, (2, 4, 6, 8, 10, 12), 12)):
+            with self.subTest(commands=commands, unknown=unknown):
+                self.assertEqual(self.over(lines, done[:commands], unknown, after),
+                                 ([], "closed", [10, 20], True))
+
+    def test_a_copy_without_what_was_not_answered(self):
+        """The query was not done, and the close after it is."""
+        lodge, query = QUERIED
+        lines = self.recorded(lodge, on("s1", "close", rev=1), *SECOND, CERTIFY)
+        later = [line | {"to": line["to"] + 2} if "to" in line else line for line in lines[2:]]
+        unanswered = [a_command(query[1], query[0]), {"to": 3, "status": 504, "answer": ""}]
+        self.assertEqual(self.over([*lines[:2], *unanswered, *later], [lodge], after=4),
+                         ([], "closed", [1, 2], True))
+
+    def test_a_return_that_the_record_lacks(self):
+        """As one of a file that was imported while nothing was served: its revision is known, by
+        the close, and its figures may be any."""
+        lodge, close = SECOND
+        more = [on("s2", "query", rev=2, note="3?"), on("s2", "correct", rev=3, **OTHER),
+                on("s2", "close", rev=4)]
+        closed = on("s1", "lodge", **LODGED), on("s1", "close", rev=1)
+        lines = self.recorded(*closed, lodge, close, CERTIFY)
+        lines[5] |= {"status": 404}
+        for before, after, wanted in (((*closed, lodge), 6, []),
+                                      ((*closed, lodge, close, *more), 8, [9])):
+            with self.subTest(after=after):
+                self.assertEqual(self.over(lines, before, after=after),
+                                 (wanted, "closed", [1, 2], not wanted))
+
+    def test_another_lot(self):
+        """A certificate is not sent over a lot that was not drawn by the record, and its own is, as
+        one that is there already, or that may have been drawn."""
+        alike = LODGED | {"votes": [10, 10]}
+        closed = [command for station in ("s1", "s2") for command in (
+            on(station, "lodge", **alike), on(station, "close", rev=1))]
+        drawn, other = (("/con/c1/draw", json.dumps({"edition": 1, "order": order}))
+                        for order in (["A", "B"], ["B", "A"]))
+        lines = self.recorded(*closed, drawn, ("/con/c1/certify", '{"edition":2}'))
+        for lot, unknown, wanted in ((drawn, (), []), (other, (), [11]), (drawn, (10,), []),
+                                     (other, (10,), [11])):
+            with self.subTest(lot=lot, unknown=unknown):
+                self.assertEqual(self.over(lines, [*closed, lot], unknown, 8),
+                                 (wanted, "closed", [10, 10], not wanted))
+        # A query takes the lot away, and no lot is needed after the correction.
+        lines = self.recorded(*closed, drawn, on("s1", "query", rev=2, note="10?"),
+                              on("s1", "correct", rev=3, **alike | {"votes": [10, 20]}),
+                              on("s1", "close", rev=4), ("/con/c1/certify", '{"edition":2}'))
+        self.assertEqual(self.over(lines), ([], "closed", [10, 20], True))
+
+    def test_a_file_of_which_other_rows_are_recorded(self):
+        """The row of s1 was not recorded, and is now, since what was before it is lost: nobody
+        knows which row it is, so no station of the file is closed."""
+        lines = self.recorded(QUERIED[0], imported("s1,p1,0,0,7,7", "s2,p1,0,0,1,2"),
+                              on("s1", "close", rev=1), SECOND[1], CERTIFY)
+        self.assertEqual(self.over(lines, unknown=(2,)), ([5, 7, 9], "received", [7, 7], False))
+
+    def test_a_file_with_a_station_that_has_another_return(self):
+        """It is known, and the other one is closed."""
+        lines = self.recorded(imported("s1,p1,0,0,1,2", "s2,p1,0,0,1,2"), on("s1", "close", rev=1),
+                              SECOND[1], CERTIFY)
+        self.assertEqual(self.over(lines, [on("s1", "lodge", **OTHER)]),
+                         ([3, 7], "received", [7, 7], False))
+
+    def test_an_office_that_does_not_say_its_returns(self):
+        """Nobody knows over which ones a certificate would be, and it is not sent."""
+        lines = (a_command(CERTIFY[1], CERTIFY[0]), {"to": 1, "status": 200, "answer": "{}"})
+        table = "STATIONS c1 Twin Town\nstations 1 missing 1 closed 0\ns1 300 -\n"
+        for con, stations, wanted in (({"edition": 1, "lot": []}, table, True),
+                                      (503, table, False),
+                                      ({"edition": 1, "lot": []}, 503, False)):
+            answers = {"/con/c1": con, "/con/c1/stations": stations, CERTIFY[0]: "{}"}
+            with self.subTest(con=con), answering_desk(answers) as (port, asked):
+                replayed(port, chained(*lines))
+                self.assertEqual(CERTIFY[0] in asked, wanted)
+
+    def test_the_stations_of_a_file(self):
+        """By a trial where fewer rows are recorded now. By the file where more are, or others, or
+        where the trial or the file is not accepted. A code may be in quotes, a line may end with
+        CR."""
+        body = 'station;slip;blank;spoiled;A;B\r"s1";p;0;0;1;2\r\ns2;p;0;0;1;2\rs3;p;0;0;1;2'
+        answer = {"bad": 0, "differs": 1, "first": [3, 7], "lodged": 2, "ok": "import",
+                  "refused": 0, "same": 0}
+        fewer = answer | {"lodged": 1, "differs": 2, "first": [2, 7]}
+        more = answer | {"lodged": 3, "differs": 0, "first": None}
+        trial = "lodged 0\nsame 1\ndiffers 2\nfirst 2 7\nrow 2 7 differs s2\nrow 3 7 differs s3\n"
+        closes = {n: f"/station/s{n}/close" for n in range(1, 5)}
+        shown = [f"/station/s{n}" for n in closes]
+        entries = [entry for place, (target, text, said) in enumerate((
+            ("/con/c1/import/semicolon", body, json.dumps(answer)),
+            *((close, "{}", "{}") for close in closes.values()))) for entry in (
+                a_command(text, target), {"to": 2 * place + 1, "status": 200, "answer": said})]
+        for now, tried, sent in ((answer, trial, [1, 2, 3, 4]), (fewer, trial, [1, 4]),
+                                 (fewer, 503, [4]), (more, trial, [4]), (503, trial, [4]),
+                                 (answer | {"first": [2, 7]}, trial, [4])):
+            answers = dict.fromkeys(closes.values(), "{}") | {
+                "/con/c1/import/semicolon": now, "/con/c1/trial/semicolon": tried}
+            with self.subTest(now=now, tried=tried), answering_desk(answers) as (port, asked):
+                replayed(port, chained(*entries))
+                # (here no station shows its return)
+                self.assertEqual([target for target in asked if target not in shown], [
+                    "/con/c1/import/semicolon", *["/con/c1/trial/semicolon"] * (now is fewer),
+                    *(closes[n] for n in sent)])

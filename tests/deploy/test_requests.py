@@ -1,13 +1,17 @@
 """Requests that get to the desk, and those that never do."""
 
+import shutil
+import socket
 from pathlib import Path
+from unittest import mock
 
 from tests.support.case import needs
 from tests.support.desks import answering_desk, recording_desk
-from tests.support.office import with_stations
+from tests.support.office import PROFILE, constituency, party_list, station, with_stations
 from tests.support.pages import TWIN
 from tests.support.proxy import proxy
 from tests.support.running import until
+from tests.support.scripts import module
 from tests.support.site import DEPLOY, NAME, SiteCase, ran
 
 
@@ -131,18 +135,28 @@ class Requests(SiteCase):
                              (200, ["/con/c1/tally"]))
 
     @needs("nginx", "openssl")
+    def test_what_this_computer_asks_of_its_own_proxy(self):
+        """The certificate is anybody's, as before the first one that others trust."""
+        machine, connect = module("site_machine"), socket.create_connection
+        with answering_desk(TWIN) as (port, _), proxy(port) as front:
+            with mock.patch.object(machine.socket, "create_connection",
+                                   lambda *_: connect(("127.0.0.1", front.port), 10)):
+                self.assertEqual([machine.status_of(NAME, target)
+                                  for target in ("/results", "/nothing")], [200, 404])
+
+    @needs("nginx", "openssl")
     def test_constituencies_that_the_setup_lacks(self):
-        """However many a stranger thinks of, the desk is not asked for them. Who has a name gets
-        the office's own answer."""
+        """However many a stranger thinks of, in other capitals too, the desk is not asked for any.
+        Who has a name gets the office's own answer."""
         Path("setup.toml").write_text(with_stations(2), encoding="utf-8")
-        with answering_desk({**TWIN, "/con/C1": "{}"}) as (port, asked), proxy(port) as front:
+        with answering_desk(TWIN) as (port, asked), proxy(port) as front:
             unknown = [f"/con/{code}{table}"
-                       for code in ("c2", "s1", "-", "default", "hostnames", "c", "c11")
+                       for code in ("c2", "s1", "-", "default", "hostnames", "c", "C1")
                        for table in ("", "/tally", "/stations", "/returns")]
             self.assertEqual([front.ask("GET", target).status for target in unknown],
                              [404] * len(unknown))
             self.assertEqual(asked, [])
-            known = ["/con/c1", "/con/C1", "/con/c1/tally", "/con/c1/stations", "/station/s1",
+            known = ["/con/c1", "/con/c1/tally", "/con/c1/stations", "/station/s1",
                      "/station/s3", "/progress", "/country"]
             for target in known:
                 front.ask("GET", target, name="clara")
@@ -151,6 +165,16 @@ class Requests(SiteCase):
                               front.ask("POST", "/con/c2/certify", {"edition": 1}, "berta").body),
                              (b"{}", b"{}"))
             self.assertEqual(asked[len(known):], ["/con/c2", "/con/c2/certify"])
+        # Two constituencies may have codes that differ in capitals alone.
+        shutil.rmtree("proxy")
+        Path("setup.toml").write_text(
+            PROFILE + constituency("c1", "One", 1, "d0") + party_list("A", "Alpha", "Ana")
+            + station("s1") + constituency("C1", "Two", 1, "d0") + party_list("A", "Alpha", "Ana")
+            + station("S1"), encoding="utf-8")
+        with answering_desk({"/con/c1/tally": "{}", "/con/C1/tally": "{}"}) as (
+            port, asked), proxy(port) as front:
+            found = [front.ask("GET", f"/con/{code}/tally").status for code in ("c1", "C1", "c2")]
+            self.assertEqual((found, asked), ([200, 200, 404], ["/con/c1/tally", "/con/C1/tally"]))
         # A code would be a line of the proxy's configuration.
         for code in ("c1 0;} map $uri $x {default", "c1;", "", "c:1", "x" * 17, "é"):
             with self.subTest(code=code):

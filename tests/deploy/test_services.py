@@ -299,6 +299,45 @@ class Services(SiteCase):
         self.assertEqual(set(first[1:]),
                          {unit for words in then for unit in words[1:]} | {"office-backup"})
 
+    def test_where_several_offices_send_their_copies(self):
+        """Each with a key that BY_HAND.md makes, to a folder of its own: none is refused where all
+        send at once, and of two copies of one name none is left out."""
+        page = (DEPLOY / "BY_HAND.md").read_text(encoding="utf-8").split("## More than one")[1]
+        [units] = re.findall("for unit in .*?; do\n.*?\n *done\n", page, re.S)
+        for folder in ("units", "log", "bin", "there"):
+            Path(folder).mkdir()
+        places = {"/etc/systemd/system": "units", "deploy/": f"{DEPLOY}/"}
+        ran("sh", "-ec", f"for n in 1 2 3; do {placed(units, places)}done")
+        # In place of sshd: each key has the folder of its name.
+        Path("bin/ssh").write_text(
+            '#!/bin/sh\nexport SSH_ORIGINAL_COMMAND="$8"\n'
+            f'exec {sys.executable} {DEPLOY}/keep-copies "there/${{2##*/}}"\n', encoding="utf-8")
+        Path("bin/ssh").chmod(0o755)
+        places = {"/var/lib/office": "lib", "/var/log/office": "log",
+                  "/usr/local/lib/office": DEPLOY}
+        sends = []
+        for n in (1, 2, 3):
+            Path(f"lib/backup-{n}").mkdir(parents=True)
+            Path(f"lib/backup-{n}/office-20261126T221400Z-00000001.db").write_bytes(b"of %d" % n)
+            Path(f"there/backup-key-{n}").mkdir()
+            unit = Path(f"units/office-backup-{n}.service").read_text(encoding="utf-8")
+            [how] = re.findall('^Environment="OFFICE_SSH=(.*)"$', unit, re.M)
+            [line] = re.findall("^ExecStopPost=(.*)$", unit, re.M)
+            self.assertIn(f" /var/lib/office/office-{n}.db /var/lib/office/backup-{n} ", unit)
+            self.assertIn("\nEnvironmentFile=-/etc/office/backup.env\n", unit)
+            sends.append((shlex.split(placed(line, places)), {
+                "PATH": f"{Path.cwd()}/bin:{os.environ['PATH']}", "OFFICE_SSH": how,
+                "ELSEWHERE": "keeper@host.example"}))
+        self.assertIn("-f /etc/office/backup-key-$n\n", page)
+        for record in (b"one\n", b"one\ntwo\n"):
+            Path("log/commands.log").write_bytes(record)
+            at_once = [subprocess.Popen(words, env=env) for words, env in sends]
+            self.assertEqual([one.wait(timeout=PATIENCE) for one in at_once], [0, 0, 0])
+            for n in (1, 2, 3):
+                self.assertEqual(
+                    [file.read_bytes() for file in sorted(Path(f"there/backup-key-{n}").iterdir())],
+                    [record, b"of %d" % n])
+
     def test_where_copies_are_sent(self):
         """To the machine that backup.env names, with a key and to a host that BY_HAND.md has made;
         without it nowhere. What is kept there stays: a longer record there is not replaced, and one

@@ -297,6 +297,23 @@ class Codes(Case):
                          ["PB", "PB-2", "PB", "PC"])
         self.assertIn("\nPB would have the code PB of PA, and gets PB-2; ", said)
 
+    def test_codes_and_names_of_a_table_without_parties(self):
+        """Lists are of one where their codes are: what may be meant otherwise is noted, once."""
+        alike = ("Party Ä has the code pa, and Party A the code PA, which differ in capitals "
+                 "alone: their votes are summed apart; ")
+        names = "Party D and Party A have one code, PA: their votes are summed together; "
+        for code, name, said in (("PA", "Party A", None), ("pa", "Party Ä", alike),
+                                 ("PA", "PARTY  A", None), ("PA", "Party D", names)):
+            with self.subTest(code=code, name=name):
+                lists = TABLES["lists.csv"].replace("order,party,", "order,code,")
+                lists = lists.replace("c2,1,PA,Party A", f"c2,1,{code},{name}")
+                candidates = TABLES["candidates.csv"].replace("c2,PA,", f"c2,{code},")
+                self.write(TABLES | {"lists.csv": lists, "candidates.csv": candidates})
+                text, noted = self.run_tool("--rule", "loreg", self.folder)
+                codes = [con["list"][0]["code"] for con in tomllib.loads(text)["constituency"]]
+                self.assertEqual(codes, ["PA", code])
+                self.assertEqual(noted.count(f"\n{said}" if said else "Look at"), bool(said), noted)
+
     def test_one_party_written_in_two_ways(self):
         lists = TABLES["lists.csv"].replace("c2,1,PA", "c2,1,Pa")
         self.write(TABLES | {"lists.csv": lists})
@@ -387,8 +404,13 @@ total             4          10            4         3      1200       2      5
                 "constituency,stations,electors,seats\nc1,2,701,3\nc2,1,,3\n",
                 [
                     "row 2: electors: 701 published, 700 in the tables",
+                    "row 3: electors is empty",
                     "row 3: seats: 3 published, 2 in the tables",
                 ],
+            ),
+            (
+                "constituency,electors,seats\nc1,700,3\nc2,500,2\ntotal,,5\n",
+                ["row 4: electors is empty"],
             ),
             ("constituency,stations\nc1,2\n", ["there is no row of the constituency c2"]),
             (
@@ -411,12 +433,27 @@ total             4          10            4         3      1200       2      5
                     self.assertIn(
                         f"published.csv{', ' if fault.startswith('row') else ': '}{fault}", said
                     )
-                self.assertEqual("published.csv agrees" in said, not faults)
+                agrees = "published.csv agrees in: stations, electors, seats\n"
+                self.assertEqual(said.endswith(agrees), not faults)
 
     def test_the_columns_of_what_was_published(self):
         self.write(columns=COLUMNS + '[compare]\nconstituency = "CPRO"\nseats = "ESCAÑOS"\n')
         (self.folder / "boe.csv").write_bytes("CPRO;ESCAÑOS;BOE\nc1;3;x\nc2;2;y\n".encode("cp1252"))
         self.assertEqual(self.made("--compare", self.folder / "boe.csv"), SETUP)
+
+    def test_columns_that_are_not_compared_are_named(self):
+        """They are no fault; and what agrees is named too."""
+        self.write()
+        file = self.folder / "boe.csv"
+        for heads, left in (("seats,Electores,area", "Electores, area"),
+                            ("seats,lists,stations", "")):
+            with self.subTest(heads=heads):
+                file.write_text(f"constituency,{heads}\nc1,3,2,2\nc2,2,2,1\n", encoding="utf-8")
+                said = self.run_tool("--rule", "loreg", "--compare", file, self.folder)[1]
+                self.assertEqual(f"boe.csv: not compared: {left}\n" in said, bool(left), said)
+                self.assertEqual("not compared" in said, bool(left), said)
+                sums = "seats" if left else "lists, stations, seats"
+                self.assertTrue(said.endswith(f"boe.csv agrees in: {sums}\n"), said)
 
     def test_what_was_published_has_an_encoding_and_a_separator_of_its_own(self):
         """They are guessed, and said; only what is not UTF-8 is read as the tables are."""
@@ -433,7 +470,7 @@ total             4          10            4         3      1200       2      5
                 file.write_bytes(text.encode(encoding))
                 said = self.run_tool("--rule", "loreg", "--compare", file, self.folder)[1]
                 self.assertIn(f"boe.csv: {name}, semicolons, line ends CRLF, rows: 2\n", said)
-                self.assertTrue(said.endswith("boe.csv agrees\n"), said)
+                self.assertTrue(said.endswith("boe.csv agrees in: seats\n"), said)
 
 
 class Large(Case):

@@ -74,8 +74,9 @@ class SiteOpenapi(SiteCase):
                              "openapi.json", "index.schema.json", "setup.schema.json",
                              "manifest.schema.json", "find.schema.json"})
         self.assertEqual(ROUTES["info"]["version"], json.loads(read("index.json"))["version"])
-        # Each place of the proxy is described, but for the files that nobody gets.
-        places = re.findall(r'location (=|~)? ?"?([^ "]+)"? {',
+        # Each place of the proxy is described, but for the files that nobody gets, and for places
+        # to which another one leads.
+        places = re.findall(r'location (=|~)? ?"?([^@ "][^ "]*)"? {',
                             "".join(file.read_text(encoding="utf-8") for file
                                     in (DEPLOY / "nginx.conf", *DEPLOY.glob("nginx/*.conf"))))
         self.assertGreater(len(places), 10, places)
@@ -83,7 +84,7 @@ class SiteOpenapi(SiteCase):
                 if not any(target == place if how == "="
                            else re.search(place.replace("(?<", "(?P<"), target)
                            for _, target in found)]
-        self.assertEqual(set(lost), {r"/\.", "/health", "/health/office", "@no_health"})
+        self.assertEqual(set(lost), {r"/\.", "/health", "/health/office"})
         # Each part is used, and each reference leads to one, or to a schema that is published.
         references = re.findall(r'"\$ref": "([^"]*)"', json.dumps(ROUTES))
         self.assertEqual({f"#/components/{kind}/{name}"

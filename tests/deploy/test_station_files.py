@@ -63,16 +63,16 @@ def a_slip(a, b, slip="p1"):
 
 class StationFiles(SiteCase):
     def test_when_stations_are_asked_for(self):
-        """Without a certificate the table where a count or a sum has changed, or a minute is over,
-        and the returns where it is another one and some are closed; with one the returns, once.
-        Nothing is asked for one station after the other."""
+        """At the start the table, once. Then without a certificate the table where a count or a sum
+        has changed, or a minute is over, and the returns where it is another one and some are
+        closed; with one the returns, once. Nothing is asked for one station after the other."""
         office = model.Office(tomllib.loads(with_stations(3)))
         with rounds_of(lambda target: office.ask("GET", target), with_stations(3)) as a_round:
             def file(edition="open"):
                 return read(f"stations-c1-{edition}.csv")
 
-            self.assertEqual((a_round(), os.path.exists("pages/stations-c1-open.csv")),
-                             (([], []), False))
+            self.assertEqual((a_round(), os.path.exists("pages/stations-c1-open.csv"), a_round()),
+                             (([], [TABLE]), False, ([], [])))
             done(office, "/station/s1/lodge", a_slip(10, 20))
             self.assertEqual((a_round(), file(), a_round()), (([], [TABLE]), COLUMNS, ([], [])))
             done(office, "/station/s1/close", {"rev": 1})
@@ -128,7 +128,8 @@ class StationFiles(SiteCase):
                 certified = dict(TWIN) | {RETURNS: other}
                 with rounds_of(lambda target: certified.get(target, 404),
                                with_stations(1)) as a_round:
-                    self.assertEqual((a_round(), a_round()), (([], [RETURNS]),) * 2)
+                    self.assertEqual((a_round(), a_round()),
+                                     (([], [TABLE, RETURNS]), ([], [RETURNS])))
                     self.assertEqual([name for name, _ in written if name.startswith("stations-")],
                                      [])
                     # Right returns, but of another edition by the end of it.
@@ -171,8 +172,10 @@ class StationFiles(SiteCase):
                     with self.subTest(setup=setup):
                         with rounds_of(lambda target: desk.get(target, 404), setup) as a_round:
                             [failure], _ = a_round()
-                            self.assertTrue(failure.endswith(
-                                ": other stations or lists than those of the setup"), failure)
+                            self.assertRegex(failure, (
+                                "^/results: not as the setup has it, the constituency c1 "
+                                "[(](lists|lists, candidates|stations)[)];|"
+                                f"^{TABLE}: other stations or electors than those of the setup;"))
                 for target in (RETURNS, *([] if certified else [TABLE])):
                     with self.subTest(target=target):
                         for text in texts:
@@ -194,6 +197,42 @@ class StationFiles(SiteCase):
                                         certified and not failures or len(failures)), (True, True))
                                 shutil.rmtree("pages")
 
+    def test_electors_that_are_others_stay_a_failure(self):
+        """In a round that has no time to ask again, with a certificate and without one, until the
+        office has those of the setup."""
+        said = f"{TABLE}: other stations or electors than those of the setup; left as they are: "
+        for certified in (False, True):
+            office = model.Office(tomllib.loads(with_stations(2)))
+            others = {" 300 ": " 300 ", "is_down": False}
+
+            def answers(target, office=office, others=others):
+                status, text = office.ask("GET", target)
+                return others["is_down"] and 503 or (
+                    status, text.replace(" 300 ", others[" 300 "]))
+
+            for code in ("s1", "s2"):
+                done(office, f"/station/{code}/lodge", a_slip(10, 20))
+                if certified:
+                    done(office, f"/station/{code}/close", {"rev": 1})
+            if certified:
+                done(office, "/con/c1/certify", {"edition": 1})
+            with self.subTest(certified=certified), rounds_of(
+                    answers, with_stations(2, 250)) as a_round:
+                for seconds, asked in ((60, [TABLE]), (0, []), (60, [TABLE]), (0, [])):
+                    [failure], found = a_round(seconds)
+                    self.assertEqual((failure[:len(said)], found), (said, asked))
+                    self.assertFalse(os.path.exists("pages/index.html"))
+                others[" 300 "] = " 250 "
+                self.assertEqual((a_round()[0], a_round(0)[0]), ([], []))
+                self.assertTrue(os.path.exists("pages/index.html"))
+                # An office that was away may be another one: it is compared again.
+                others[" 300 "] = " 300 "
+                for is_down, words in ((True, "/results: status 503"), (False, said)):
+                    others["is_down"] = is_down
+                    [failure], _ = a_round()
+                    self.assertEqual(failure[:len(words)], words)
+            shutil.rmtree("pages")
+
     def test_whose_stations_wait(self):
         """A round in which there is time for the stations of one constituency asks for those that
         are certified, or else for those that waited longest, and publishes everything else."""
@@ -213,7 +252,8 @@ class StationFiles(SiteCase):
                              (([], []), False))
             self.assertNotIn("Each station: its return", read("con-c4.html"))
             self.assertEqual((a_round(1e-9), read("stations-c4-2.csv")),
-                             (([], ["/con/c4/returns"]), f"{COLUMNS}s4,p1,1,2,4,0\n"))
+                             (([], ["/con/c4/stations", "/con/c4/returns"]),
+                              f"{COLUMNS}s4,p1,1,2,4,0\n"))
             self.assertIn("Each station: its return", read("con-c4.html"))
             for n in (1, 2, 3, 1, 2):
                 with self.subTest(n=n):

@@ -113,7 +113,8 @@ class Status(unittest.TestCase):
     def setUp(self):
         self.folder = Path(self.enterContext(tempfile.TemporaryDirectory()))
         self.desk = self.enterContext(answering(OnPort, ("127.0.0.1", 0), 200))
-        self.reader = self.enterContext(answering(OnSocket, str(self.folder / "reader.sock"), 200))
+        self.reader, _ = (self.enterContext(answering(OnSocket, str(self.folder / name), 200))
+                          for name in ("reader.sock", "reader-names.sock"))
         self.recorder = self.enterContext(answering(OnSocket, str(self.folder / "1.sock"), 403))
         self.record, self.head = self.folder / "commands.log", self.folder / "head"
         self.seen = self.folder / "state/seen.json"
@@ -289,7 +290,7 @@ seconds = 1800
                 ended.callback(program.wait)
                 ended.callback(program.kill)
                 end = time.monotonic() + 60
-                while not is_listened_to(folder / "1.sock"):
+                while not is_listened_to(folder / "1-names.sock"):
                     self.assertLess(time.monotonic(), end)
                     time.sleep(0.05)
                 text = (self.folder / "status.toml").read_text(encoding="utf-8")
@@ -300,6 +301,8 @@ seconds = 1800
                 else:
                     self.parts(0)
                 self.configure()
+        (self.folder / "reader-names.sock").unlink()
+        self.assert_wrong("reader", "it does not answer")
 
     def test_a_recorder_that_does_not_answer(self):
         (self.folder / "1.sock").unlink()
@@ -632,13 +635,11 @@ class Health(unittest.TestCase):
                   "user www-data;": "user root;" if os.geteuid() == 0 else "",
                   "pid /run/nginx.pid;": f"pid {self.folder}/pid; daemon off;",
                   "listen 443 ssl": f"listen 127.0.0.1:{self.port} ssl",
-                  "listen 80": "listen 127.0.0.1:0"}
+                  "listen 80": "listen 127.0.0.1:0", "unix:/run/office-reader/1-names.sock": desk}
         for file in (DEPLOY / "nginx.conf", *DEPLOY.glob("nginx/*.conf")):
             text = file.read_text(encoding="utf-8")
             for old, new in places.items():
                 text = text.replace(old, new)
-            text = re.sub(r"upstream office1 \{[^}]*\}",
-                          f"upstream office1 {{ server {desk}; }}", text)
             folder = self.folder if file.name == "nginx.conf" else self.folder / "office"
             (folder / file.name).write_text(text, encoding="utf-8")
         # The port 0 is none for nginx: nobody asks without TLS here.

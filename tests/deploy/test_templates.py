@@ -99,7 +99,15 @@ class Faults(OfPages):
                 ("site.toml", f"x = {'9' * 4_301}", "site.toml: Exceeds the limit"),
                 ("site.toml", 'contact = 3', "site.toml: contact is 3: write a text in quotes"),
                 ("site.toml", 'accessibility = "javascript:alert(1)"',
-                 "site.toml: accessibility is not an address such as ")):
+                 "site.toml: accessibility is not an address such as "),
+                ("site.toml", "provisonal = false", "site.toml: no key is called 'provisonal'"),
+                ("site.toml", "Provisional = false", "site.toml: no key is called 'Provisional'"),
+                ("site.toml", "[press]\nprovisional = false",
+                 "site.toml: no key is called 'press'"),
+                ("site.toml", '[es]\ntitel = "x"', "site.toml: no key of [es] is called 'titel'"),
+                ("site.toml", "[nl]\nprovisional = false",
+                 "site.toml: provisional is of all languages, not of [nl] alone"),
+                ("site.toml", "nl = 3", "site.toml: nl is 3, and no table of texts")):
             with self.subTest(file=name, text=text[:30]):
                 lines = self.publish(TWIN, {name: text}, status=1).splitlines()
                 self.assertEqual((len(lines), lines[0][:8], said in lines[0]),

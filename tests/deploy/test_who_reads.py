@@ -15,6 +15,7 @@ from tests.support.case import needs
 from tests.support.desks import answer_of, desk_with, recording_desk
 from tests.support.office import LISTS, PROFILE, constituency, station, with_stations
 from tests.support.pages import press, site_folder
+from tests.support.proxy import proxy
 from tests.support.running import PATIENCE, free_port, is_listened_to, until
 from tests.support.safeguards import (
     SLIP,
@@ -331,6 +332,29 @@ class Floods(SiteCase):
             desk.shutdown()
 
 
+    @needs("nginx", "openssl")
+    def test_what_a_name_asks_for_has_a_socket_of_its_own(self):
+        with recording_desk(b"{}\n\n") as (port, _), site(port) as front:
+            (front.folder / "reader/1.sock").unlink()
+            self.assertEqual(front.ask("GET", "/con/c1").status, 502)
+            for target in ("/station/s1", "/con/c1/stations", "/con/c1/returns", "/now/progress",
+                           "/now/results", "/now/station/s1", "/now/con/c1", "/now/con/c1/result",
+                           "/now/con/c1/returns"):
+                self.assertEqual(front.ask("GET", target, name="clara").status, 200, target)
+
+    @needs("nginx", "openssl")
+    def test_one_name_asks_for_the_tables_of_all_constituencies(self):
+        """Four of them wait, so that others have a place; an answer that says so is not kept."""
+        with recording_desk(b"{}\n\n", wait=0.1) as (port, _), proxy(port) as front:
+            targets = [f"/con/c{n}/returns" for n in range(7)]
+            with concurrent.futures.ThreadPoolExecutor(7) as at_once:
+                found = list(at_once.map(
+                    lambda target: front.ask("GET", target, name="clara").status, targets[:6]))
+            self.assertEqual(sorted(found), [200] * 4 + [429] * 2)
+            self.assertEqual({front.ask("GET", target, name="bruno").status for target in targets},
+                             {200})
+
+
 class Reader(Safeguards):
     def test_get_alone(self):
         """Whatever else is sent, nothing reaches the desk; and of a GET the target alone does."""
@@ -364,12 +388,18 @@ class Reader(Safeguards):
             self.assertEqual([head.split(b" ")[0] for head, _ in messages], [b"GET"])
 
     def test_how_many_the_desk_has_at_once(self):
-        """Two reports, and one table of all stations: a command waits for no more."""
+        """Two reports, and one table of all stations or of all constituencies: a command waits for
+        no more."""
         reader = loaded("reader.py")
         under_way, most, lock = [0], [0], threading.Lock()
 
         class Desk:
+            def __init__(self, may_answer=None):
+                self.may_answer = may_answer
+
             def ask(self, *_, **__):
+                if self.may_answer:
+                    self.may_answer.acquire()
                 with lock:
                     under_way[0] += 1
                     most[0] = max(most[0], under_way[0])
@@ -380,13 +410,15 @@ class Reader(Safeguards):
 
         one = reader.Reader(Desk(), threading.Semaphore(reader.AT_ONCE), reader.Often())
 
-        def at_once(path, times):
+        def at_once(path, times, names=True):
             found, most[0] = [], 0
             threads = [
                 threading.Thread(
-                    target=lambda: found.append(one.answered("GET", path, {}, b"").status)
+                    target=lambda fields: found.append(
+                        one.answered("GET", path, fields, b"").status),
+                    args=({"Office-Name": f"clerk-{n}", "Office-Role": "clerk"} if names else {},)
                 )
-                for _ in range(times)
+                for n in range(times)
             ]
             for thread in threads:
                 thread.start()
@@ -395,12 +427,27 @@ class Reader(Safeguards):
             return most[0], sorted(found)
 
         self.assertEqual(at_once("/con/c1", 40), (2, [200] * 40))
+        # Strangers have one of the two.
+        self.assertEqual(at_once("/con/c1", 20, names=False), (1, [200] * 20))
+        for whole in ("/results", "/country"):
+            began = time.monotonic()
+            self.assertEqual(at_once(whole, 5), (1, [200] * 5))
+            self.assertGreater(time.monotonic() - began, 0.02 * 5 + 0.06 * 4 - 0.05)
         began = time.monotonic()
         self.assertEqual(at_once("/con/c1/returns", 10), (1, [200] * 10))
         # Each takes 0.02 s, and the next waits three times as long.
         self.assertGreater(time.monotonic() - began, 0.02 * 10 + 0.06 * 9 - 0.05)
-        most_wait, statuses = at_once("/con/c1/returns", 40)
-        self.assertEqual((most_wait, statuses[-1], 200 in statuses), (1, 429, True))
+        # Sixteen wait, however long the first one takes.
+        may_answer = threading.Semaphore(0)
+        one = reader.Reader(Desk(may_answer), threading.Semaphore(reader.AT_ONCE), reader.Often())
+        with concurrent.futures.ThreadPoolExecutor(20) as threads:
+            given = [threads.submit(one.answered, "GET", "/con/c1/returns",
+                                    {"Office-Name": f"clerk-{n}", "Office-Role": "clerk"}, b"")
+                     for n in range(20)]
+            until(lambda: sum(it.done() for it in given) >= 4)
+            may_answer.release(16)
+            found = sorted(it.result().status for it in given)
+        self.assertEqual(found, [200] * 16 + [429] * 4)
 
     def test_how_many_reports_of_a_name(self):
         """Four past the cache, of whichever office, and twenty-four of stations and of seconds;
@@ -431,24 +478,46 @@ class Reader(Safeguards):
                 before, fields = many(), {"Office-Name": name, "Office-Role": role}
                 done = at_once.submit(offices[office].answered, "GET", path, fields, b"")
                 until(lambda: many() > before or done.done())
-                # (what the desk answers at once is waited for)
-                return done.result().status if done.done() or path != "/progress" else None
+                if not done.done() and path == "/progress":
+                    return None
+                # (what the desk answers at once is waited for, less long than it holds the others)
+                return done.result(PATIENCE / 10).status
 
             self.assertEqual([asked("s1", "station") for _ in range(5)], [None] * 4 + [429])
             self.assertEqual(asked("s1", "station", office=1), 429)
             self.assertEqual([asked("sara", "second") for _ in range(5)], [None] * 4 + [429])
             self.assertEqual(asked("clara", "clerk", "/con/c1/result"), 200)
-            self.assertEqual([asked(f"t{n // 4}", "station") for n in range(21)],
-                             [None] * 20 + [429])
+            # Where half of all places are taken, a name has two.
+            self.assertEqual([asked(f"t{n // 5}", "station") for n in range(10)],
+                             ([None] * 4 + [429]) * 2)
+            self.assertEqual([asked(f"u{n // 3}", "station") for n in range(18)],
+                             ([None] * 2 + [429]) * 6)
+            self.assertEqual(asked("u9", "station"), 429)
             # Stations have no place, and seconds have.
             self.assertEqual([asked("simon", "second") for _ in range(5)], [None] * 4 + [429])
             for name, role in (("clara", "clerk"), ("berta", "board")):
                 self.assertEqual(asked(name, role, "/con/c1/result"), 200)
             self.assertEqual(heard.count("/progress"), 1)
-            self.assertEqual([asked("clara", "clerk") for _ in range(5)], [None] * 4 + [429])
+            # Another office: of clara's four one is asked for at a time, and others beside it.
+            self.assertEqual([asked("clara", "clerk", office=1) for _ in range(5)],
+                             [None] * 4 + [429])
+            self.assertEqual(asked("berta", "board", "/con/c1/result", office=1), 200)
             go_on.set()
         self.assertEqual(heard.count("/progress"), 36)
         self.assertEqual([dict(one.names) for one in places], [{}, {}, {}])
+
+    def test_names_do_not_wait_for_strangers(self):
+        """These hold what reads for them, and what it would ask."""
+        with recording_desk(b"a table") as (desk, _), started(
+            "reader.py", "reader", "--desk", f"127.0.0.1:{desk}"
+        ), contextlib.ExitStack() as held:
+            until(lambda: is_listened_to("reader/1-names.sock"))
+            for _ in range(20):
+                it = held.enter_context(socket.socket(socket.AF_UNIX))
+                it.connect("reader/1.sock")
+                it.sendall(b"GET /progress")
+            fields = {"Office-Name": "clara", "Office-Role": "clerk"}
+            self.assertEqual(asked("reader/1-names.sock", "GET", "/progress", fields)[0], 200)
 
     def test_a_desk_that_is_away(self):
         """It is waited for, unless the proxy says that others are not to wait."""

@@ -55,7 +55,9 @@ class Embargo(Safeguards):
         printed, said = run("embargo", hour.isoformat())
         self.assertEqual(said, f"nothing is public until {hour.isoformat()}, in 0 d 3 h 12 min\n")
         self.assertIn('" office;', printed)
-        self.assertEqual(run("embargo", hour.isoformat(), "embargo.conf")[0], "")
+        reload = ", once the proxy is reloaded: nginx -t && systemctl reload nginx\n"
+        self.assertEqual(run("embargo", hour.isoformat(), "embargo.conf"),
+                         ("", said.rstrip("\n") + reload))
         self.assertEqual(
             (Path("embargo.conf").read_text(), os.stat("embargo.conf").st_mode & 0o777),
             (printed, 0o644),
@@ -69,6 +71,9 @@ class Embargo(Safeguards):
             ((DEPLOY / "nginx/embargo.conf").read_text(), "everything is public at once\n"),
         )
         self.assertEqual(run("embargo", past, "--past")[1], "everything is public at once\n")
+        self.assertEqual(run("embargo", "now", "embargo.conf")[1],
+                         "everything is public at once, once the proxy is reloaded: "
+                         "nginx -t && systemctl reload nginx\n")
 
 
 def setup_of(*names, codes=("A", "B", "C")):

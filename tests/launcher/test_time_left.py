@@ -48,7 +48,7 @@ class TimeLeft(LauncherCase):
         copy = self.copy
         lines = copy.run("show")[2].splitlines()
         assert all(
-            need in lines[1] for need in ("8 GB of disk", "of memory", "some 40 minutes")
+            need in lines[1] for need in ("8 GB of disk", "(6 for the last)", "some 40 minutes")
         ), lines
         self.assertEqual(
             lines[2:],

@@ -170,6 +170,7 @@ class OfReturns(Case):
             ("c1 A B", (2, 1, 0), ""),
             ("c1 B A", (1, 2, 0), ""),
             ("\n  \nc1 B A\n\n", (1, 2, 0), ""),
+            ("\ufeffc1 B A\r\n", (1, 2, 0), ""),
             ("", (2, 1, 0), "; a lot is missing"),
             ("c1", (2, 1, 0), "; a lot is missing"),
             ("c1 C", (2, 1, 0), "; a lot of other lists"),

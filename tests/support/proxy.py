@@ -179,7 +179,7 @@ class Proxy:
             self.reader = subprocess.Popen(
                 [sys.executable, DEPLOY / "reader.py", self.folder / "reader", *desks],
                 stdout=subprocess.DEVNULL, stderr=said)
-        last = self.folder / f"reader/{len(self.desks)}.sock"
+        last = self.folder / f"reader/{len(self.desks)}-names.sock"
         until(lambda: last.exists() or self.reader.poll() is not None)
 
     def end_reader(self):
@@ -269,10 +269,10 @@ class Proxy:
 
 
 @contextlib.contextmanager
-def proxy(*desks, more=None, room=0):
+def proxy(*desks, more=None, room=0, staff=STAFF):
     it = Proxy(*desks)
     it.more, it.room = more or {}, room
-    it.configure()
+    it.configure(staff)
     try:
         it.start()
         yield it

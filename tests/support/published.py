@@ -14,6 +14,7 @@ from datetime import datetime, timedelta
 from pathlib import Path
 
 from tests.support.desks import answering_desk, recording_desk
+from tests.support.office import LISTS, constituency, station, with_stations
 from tests.support.pages import (
     REOPENED, RESULT, TWIN, WITHDRAWN, press, read, results_of, with_lists,
 )
@@ -163,6 +164,15 @@ def beside(answers, code="c2"):
              else said | {"con": code}
              for target, said in answers.items() if target.startswith("/con/")}
     return answers | other | {"/results": [*answers["/results"], other[f"/con/{code}/result"]]}
+
+
+def write_setup(answers):
+    """Writes the setup of these answers: Twin Town, and what is beside it."""
+    first, *others = answers["/results"]
+    text = with_stations(1).replace('"dhondt"', f'"{first["method"]}"') + "".join(
+        constituency(other["con"], other["name"], 3, "d0") + LISTS + station("s1")
+        for other in others)
+    Path("setup.toml").write_text(text, encoding="utf-8")
 
 
 def publish(answers, *words, status=0):
