@@ -21,6 +21,8 @@ BAD_ROW, BAD_COUNTS, TOO_MANY_VOTES, DIFFERS = 0, 4, 6, 7
 
 CODE = re.compile(r"[A-Za-z0-9_-]{1,16}")
 NUMBER = re.compile(r"[0-9]{1,9}")
+# (a row with a long field is bad, and the others are read)
+csv.field_size_limit(sys.maxsize)
 
 
 class BadText(Exception):

@@ -3,22 +3,24 @@
 
     bench/mutations.py --count 200 --seed 7
     bench/mutations.py --count 20 --file deploy/embargo --program PATH
-    bench/mutations.py --count 200 --seed 7 --part 1/2 --kept kept.json      (and 2/2 beside it)
+    bench/mutations.py --count 500 --seed 8 --kept kept.json
 
 The code is the launcher, the scripts of deploy/, the recount, and the script of the clerks' page.
-A mutation turns a comparison, a sign, an `and` or a number. For each, the tests that name the file,
-or that have it through a module of tests/support, run until one fails, first those whose names are
-like the file's, of others the quick ones; a module that fails without any mutation is left out. The same seed and the same tree give the same
-mutations. All of this happens in a copy of the tree, a repository of its own. What it knows of the
-modules of tests, whether they pass and how long they take, is kept in a file with --kept. The last
-line is the score, and the exit status is 1 if a mutation survived.
+A mutation turns a comparison, a sign, an `and` or a number. First the suites run once as they are,
+while it is kept which lines each test executes (bench/executed_lines.py). Then for each mutation
+those tests run that execute its statement, a few quick ones of each suite first, until one fails.
+A line of Python that no test was seen to execute, the launcher, and the script of the page have
+the suites that name their file. A test that fails without a mutation as well does not count. All
+of this happens in copies of the tree, each a repository of its own. With --kept a later run of the
+same tree need not begin with all suites. The last line is the score, and the exit status is 1 if a
+mutation survived.
 
 A line names the tests that failed. Where it is one that measures time, on a busy machine, it says
 little: look at those.
 """
 
 import argparse
-import fcntl
+import ast
 import io
 import json
 import os
@@ -28,17 +30,21 @@ import shutil
 import subprocess
 import sys
 import tempfile
-import time
+import threading
 import tokenize
-from dataclasses import dataclass
+from collections import Counter
+from concurrent.futures import ThreadPoolExecutor
+from contextlib import suppress
+from dataclasses import dataclass, field
 from functools import cache
+from itertools import accumulate
 from pathlib import Path
 
 ROOT = Path(__file__).resolve().parent.parent
 # The script of the clerks' page, and what builds the pages that have it.
 SCRIPT, BUILD = "deploy/clerk/script.js", "deploy/build-clerk"
-# The seconds after which a test counts as one that notices.
-PATIENCE = 900
+# The seconds of tests that are run for one mutation at most.
+LONGEST = 300
 TURNED = {
     "<": "<=", "<=": "<", ">": ">=", ">=": ">", "==": "!=", "!=": "==", "===": "!==", "!==": "===",
     "+": "-", "-": "+", "and": "or", "or": "and", "&&": "||", "||": "&&", "not": "", "!": "",
@@ -149,8 +155,11 @@ def tests_of(file):
 
 
 def likeness(module, file):
-    """How far the name of a test module is from a file's: 0 where it has it, 1 the first word."""
-    stem = "clerk" if file == SCRIPT else Path(file).stem.replace("-", "_")
+    """How far the name of a test module is from a file's: 0 where it has it, 1 the first word. The
+    functions of the clerks' page are tried by suites of the page."""
+    if file == SCRIPT:
+        return 0 if module.endswith("_of_the_page") else 1 if "clerk" in module else 2
+    stem = Path(file).stem.replace("-", "_")
     first, words = stem.split("_")[0], re.split("[._]", module)
     return 0 if stem in module else 1 if first in words or first + "s" in words else 2
 
@@ -206,107 +215,175 @@ def copied(folder):
     git(folder, "commit", "--quiet", "--message", "The tree")
 
 
-def failing(module, folder):
-    """The tests of a module that fail, or a word if it ends otherwise; and its seconds."""
-    words, began = [sys.executable, "-B", "-m", "unittest", "--failfast", module], time.monotonic()
+@dataclass
+class Known:
+    """The seconds of each test, and the tests that execute each line.
+
+    The name of a suite among the tests stands for the whole suite.
+    """
+
+    tree: str
+    seconds: dict = field(default_factory=dict)
+    # Of each file, for the number of each line.
+    executed: dict = field(default_factory=dict)
+
+    def take(self, folder):
+        """Takes the files that processes left in a folder."""
+        for path in folder.iterdir():
+            for line in path.read_text(encoding="utf-8", errors="replace").splitlines():
+                match line.split("\t"):
+                    case "test", test, seconds:
+                        suite = test.rsplit(".", 2)[0]
+                        self.seconds[test] = float(seconds)
+                        self.seconds[suite] = self.seconds.get(suite, 0) + float(seconds)
+                    case "line", test, file, number:
+                        tests = self.executed.setdefault(file, {}).setdefault(number, [])
+                        if test not in tests:
+                            tests.append(test)
+
+    def of_statement(self, mutation):
+        """The tests that execute some line of the statement that a mutation is in. One that is in no
+        function is executed before the tests, and may matter to each of the file and of those that
+        import it."""
+        tests, (first, last, is_within) = set(), statement(mutation.file, mutation.line + 1)
+        for name in [mutation.file] if is_within else map(str, names_of(mutation.file)):
+            lines = self.executed.get(name, {})
+            for number in range(first, last + 1) if is_within else lines:
+                tests |= set(lines.get(str(number), ()))
+        return tests & self.seconds.keys()
+
+    def in_turn(self, mutation):
+        """The tests that run for a mutation, a few of each suite first. Those that take longest are
+        left out, as soon as the others take LONGEST."""
+        tests = sorted(self.of_statement(mutation), key=self.seconds.get)
+        if not tests:
+            suites = tests_of(mutation.file)
+            return sorted(suites, key=lambda suite: (suites[suite], self.seconds.get(suite, 60)))
+        times = accumulate(map(self.seconds.get, tests))
+        quick = [test for test, time in zip(tests, times) if time <= LONGEST] or tests[:1]
+        of_suite, first, rest = Counter(), [], []
+        for test in quick:
+            suite = ".".join(test.split(".")[:3])
+            of_suite[suite] += 1
+            (first if of_suite[suite] <= 3 else rest).append(test)
+        return first + rest
+
+
+def statement(file, line):
+    """The first and the last line of the innermost statement at a line of Python, of one that has
+    others in it those of its head; and whether it is in a function."""
+    found, is_within = (line, line), False
+    if files()[file] == "python":
+        # (what is met later is further within)
+        for node in ast.walk(syntax(file)):
+            if isinstance(node, (ast.stmt, ast.ExceptHandler, ast.match_case)):
+                body = getattr(node, "body", None)
+                first = getattr(node, "lineno", None) or node.pattern.lineno
+                last = max(first, body[0].lineno - 1) if body else node.end_lineno
+                if first <= line <= last:
+                    found = first, last
+                if isinstance(node, ast.FunctionDef) and last < line <= node.end_lineno:
+                    is_within = True
+    return *found, is_within
+
+
+@cache
+def syntax(file):
+    return ast.parse(text_of(ROOT / file))
+
+
+def known_of_tests(names, kept):
+    """Runs the suites of these files once, and gives what they executed; or what is kept of the
+    same tree and files."""
+    with tempfile.TemporaryDirectory() as folder, tempfile.TemporaryDirectory() as result:
+        copied(Path(folder))
+        tree = subprocess.run(["git", "-C", folder, "rev-parse", "HEAD^{tree}"], check=True,
+                              capture_output=True, text=True).stdout + " ".join(names)
+        if kept and kept.exists():
+            known = Known(**json.loads(kept.read_text(encoding="utf-8")))
+            if known.tree == tree:
+                return known
+        suites = sorted({suite for name in names for suite in tests_of(name)})
+        with tempfile.TemporaryDirectory() as begins:
+            shutil.copy2(ROOT / "bench/executed_lines.py", f"{begins}/sitecustomize.py")
+            # Tests and tools of other users write there too, and read the module.
+            for open_to_all in (begins, result):
+                os.chmod(open_to_all, 0o777)
+            subprocess.run(
+                [sys.executable, "tests/run.py", *suites], cwd=folder, stdout=subprocess.DEVNULL,
+                env={**os.environ, "PYTHONPATH": begins, "EXECUTED_IN": result,
+                     "EXECUTED_OF": os.path.realpath(folder)})
+        known = Known(tree)
+        known.take(Path(result))
+    if kept:
+        kept.write_text(json.dumps(vars(known)), encoding="utf-8")
+    return known
+
+
+def failing(tests, folder, seconds):
+    """Those of these tests that fail first, or a word if they end otherwise."""
+    words = [sys.executable, "-B", "-m", "unittest", "--failfast", *tests]
     with tempfile.TemporaryFile() as said:
         process = subprocess.Popen(words, cwd=folder, stdin=subprocess.DEVNULL, stderr=said,
                                    stdout=subprocess.DEVNULL, start_new_session=True)
         try:
-            status = process.wait(timeout=PATIENCE)
+            status = process.wait(timeout=60 + 4 * seconds)
         except subprocess.TimeoutExpired:
             status = "too long"
         finally:
             # What a test that failed has left running.
-            try:
+            with suppress(ProcessLookupError):
                 os.killpg(process.pid, 9)
-            except ProcessLookupError:
-                pass
             process.wait()
         said.seek(0)
-        names = re.findall(r"^(?:FAIL|ERROR): (\w+)", said.read().decode(errors="replace"), re.M)
-    return [] if status == 0 else names or [str(status)], time.monotonic() - began
+        text = said.read().decode(errors="replace")
+    # (a class that cannot begin stands for its tests)
+    names = re.findall(r"^(?:FAIL|ERROR): \w+ \(([\w.]+)", text, re.M)
+    return [] if status == 0 else names or [str(status)]
 
 
-class Kept:
-    """The modules of tests that ran: whether each passes without a mutation, and its seconds.
-
-    Several processes may share the file.
-    """
-
-    def __init__(self, file):
-        self.file, self.modules = file, {}
-        self.read()
-
-    def read(self):
-        if self.file and self.file.exists():
-            self.modules |= json.loads(self.file.read_text(encoding="utf-8") or "{}")
-
-    def add(self, module, good, seconds):
-        self.modules[module] = good, round(seconds, 1)
-        if self.file:
-            with open(f"{self.file}.lock", "w", encoding="utf-8") as lock:
-                fcntl.flock(lock, fcntl.LOCK_EX)
-                self.read()
-                self.modules[module] = good, round(seconds, 1)
-                beside = self.file.with_name(f".{self.file.name}.new")
-                beside.write_text(json.dumps(self.modules, indent=1), encoding="utf-8")
-                os.replace(beside, self.file)
-
-    def in_turn(self, file):
-        """The tests of a file, those first that are most likely to fail soon."""
-        self.read()
-        places = tests_of(file)
-        known = [module for module in places if self.modules.get(module, [True])[0]]
-        return sorted(known, key=lambda module: (places[module],
-                                                 self.modules.get(module, (True, 60))[1]))
-
-    def is_good(self, module):
-        """Whether a module passes without a mutation, in a copy of its own."""
-        if module not in self.modules:
-            with tempfile.TemporaryDirectory() as clean:
-                copied(Path(clean))
-                names, seconds = failing(module, clean)
-            self.add(module, not names, seconds)
-            if names:
-                print(f"left out: {module} fails without a mutation: {' '.join(names)}", flush=True)
-        return self.modules[module][0]
-
-
-def noticed_by(mutation, folder, kept):
-    """The first tests that fail with a mutation and not without it, or None."""
-    mutation.apply(folder)
-    # (the package is made of what is committed)
-    git(folder, "commit", "--quiet", "--all", "--message", "A mutation")
-    try:
-        for module in kept.in_turn(mutation.file):
-            names, seconds = failing(module, folder)
-            if names and kept.is_good(module):
-                return f"{module} ({' '.join(names)})"
-            if not names and module not in kept.modules:
-                kept.add(module, True, seconds)
-        return None
-    finally:
+def noticed_by(mutation, folder, known):
+    """The first tests that fail with a mutation and not without it, or none."""
+    tests = known.in_turn(mutation)
+    while tests:
+        seconds = sum(known.seconds.get(test, 60) for test in tests)
+        mutation.apply(folder)
+        # (the package is made of what is committed)
+        git(folder, "commit", "--quiet", "--all", "--message", "A mutation")
+        names = failing(tests, folder, seconds)
         git(folder, "reset", "--quiet", "--hard", "HEAD~1")
+        again = [test for test in tests if any(name.startswith(test) or test.startswith(name)
+                                               for name in names)] or tests
+        if not names or not failing(again, folder, seconds):
+            return names
+        # They fail without a mutation too: the others.
+        tests = [test for test in tests if test not in again]
+    return []
 
 
-def score(chosen, folder, kept):
-    """Tries these mutations, and prints each: how many survive."""
-    survivors = []
-    for mutation in chosen:
-        by = noticed_by(mutation, folder, kept)
-        survivors += [] if by else [mutation]
-        print(f"noticed by {by}: {mutation}" if by else f"SURVIVED: {mutation}", flush=True)
+def score(chosen, known, workers):
+    """Tries these mutations, and prints each: those that survive."""
+    left, lock, survivors = list(reversed(chosen)), threading.Lock(), []
+
+    def work():
+        with tempfile.TemporaryDirectory() as folder:
+            copied(Path(folder))
+            while True:
+                with lock:
+                    if not left:
+                        return
+                    mutation = left.pop()
+                by = noticed_by(mutation, Path(folder), known)
+                with lock:
+                    survivors.extend([] if by else [mutation])
+                    print(f"noticed by {' '.join(by)}: {mutation}" if by else
+                          f"SURVIVED: {mutation}", flush=True)
+
+    with ThreadPoolExecutor(workers) as pool:
+        for done in [pool.submit(work) for _ in range(workers)]:
+            done.result()
     print("\nNo test noticed:" if survivors else "", *survivors, sep="\n")
     return len(survivors)
-
-
-def part(word):
-    """K/N, as 1/2: every Nth mutation from the Kth on."""
-    found = re.fullmatch("([0-9]{1,3})/([0-9]{1,3})", word)
-    if not found or not 1 <= int(found[1]) <= int(found[2]):
-        raise argparse.ArgumentTypeError("a part is K/N, from 1/N to N/N")
-    return int(found[1]), int(found[2])
 
 
 def main():
@@ -316,26 +393,22 @@ def main():
     command.add_argument("--seed", type=int, default=1)
     command.add_argument("--file", action="append", choices=sorted(files()), help="only this file")
     command.add_argument("--program", type=Path, help="the office; otherwise the one that is built")
-    command.add_argument("--part", type=part, default=(1, 1), metavar="K/N",
-                         help="of the mutations only every Nth, from the Kth on")
     command.add_argument("--kept", type=Path, metavar="FILE",
-                         help="where to keep what is known of the tests; parts may share it")
+                         help="what is known of the tests, for the same tree; made if need be")
+    command.add_argument("--workers", type=int, default=os.cpu_count(), help="at a time")
     command.add_argument("--list", action="store_true", help="print the mutations, and run nothing")
     given = command.parse_args()
     if given.program:
         os.environ["OFFICE_PROGRAM"] = str(given.program.resolve())
     elif not os.environ.get("OFFICE_PROGRAM"):
         os.environ["OFFICE_PROGRAM"] = str(ROOT / "crates/tally_office/out/tally_office")
-    every = sorted(mutation for file in given.file or files()
-                   for mutation in mutations_of(file, files()[file]))
-    first, parts = given.part
-    chosen = random.Random(given.seed).sample(every, min(given.count, len(every)))[first - 1::parts]
+    names = sorted(set(given.file or files()))
+    every = sorted(mutation for name in names for mutation in mutations_of(name, files()[name]))
+    chosen = random.Random(given.seed).sample(every, min(given.count, len(every)))
     if given.list:
         print(*chosen, sep="\n")
         return 0
-    with tempfile.TemporaryDirectory() as folder:
-        copied(Path(folder))
-        survived = score(chosen, Path(folder), Kept(given.kept))
+    survived = score(chosen, known_of_tests(names, given.kept), given.workers)
     print(f"{len(chosen)} of {len(every)} mutations: {len(chosen) - survived} noticed, "
           f"{survived} survived")
     return 1 if survived else 0

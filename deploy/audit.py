@@ -353,6 +353,8 @@ def print_sums(given, returns):
     """The subject of the audit, so that it can be made again."""
     for name, file in (("setup", given.setup), ("returns", returns)):
         print(f"{name:8} {hashlib.sha256(file.read_bytes()).hexdigest()}  {file.name}")
+    if returns.name.endswith("-open.csv"):
+        print(f"{returns.name} has the returns of no certificate: what is certified may differ.")
 
 
 def print_lots(audit):
@@ -452,10 +454,10 @@ def assess(given):
         need(re.fullmatch("[0-9]{1,6}", drawn), f"{given.papers}: {drawn!r} is not a number (drawn of station {station})")
     draws = draws_of(audit, given.seed, sum(int(drawn) for drawn, _ in papers.values()))
     times = Counter(draws)
-    for station in [*papers, *times]:
-        said = int(papers[station][0]) if station in papers else 0
-        need(said == times[station], f"{given.papers}: station {station} is drawn {counted(times[station], 'time')} in {counted(len(draws), 'draw')}, "
-                                     f"and the file says {said}")
+    # (as many as the file says: where each of its numbers is right no other station is drawn)
+    for station, (drawn, _) in papers.items():
+        need(int(drawn) == times[station], f"{given.papers}: station {station} is drawn {counted(times[station], 'time')} in "
+                                           f"{counted(len(draws), 'draw')}, and the file says {int(drawn)}")
     print_outcome(audit)
     print_sums(given, given.returns)
     return follow(audit, given, draws, found)

@@ -90,6 +90,24 @@ def begins_with(record, file):
         return False
 
 
+def has_commands(record):
+    """Whether a record has more than its first line, if that says of which setup it is."""
+    # (its user may have put a link there, which root would follow, or a pipe)
+    try:
+        descriptor = os.open(record, os.O_RDONLY | os.O_NONBLOCK | os.O_NOFOLLOW)
+    except FileNotFoundError:
+        return False
+    with open(descriptor, "rb") as lines:
+        if not stat.S_ISREG(os.fstat(descriptor).st_mode):
+            raise OSError(f"{record} is no file")
+        first = lines.readline(LONGEST_FIRST)
+        try:
+            begins = setup_of(json.loads(first)) is not None
+        except (ValueError, RecursionError):
+            begins = not first
+        return not begins or bool(lines.read(1))
+
+
 class Chain:
     """The facts known of the lines so far, and of those that were shown."""
 

@@ -35,6 +35,9 @@ def ran(*words):
 
 def ready_database(program, setup, files):
     """Makes the database, or looks whether it is the one of this setup and can be opened."""
+    if files.db.is_symlink():
+        # (beside the link there would be another record than beside the file)
+        raise Fault(f"{files.db} is a link: name the file to which it leads, {files.db.resolve()}")
     if other := files.shared_with():
         raise Fault(f"{other} has the same record and the same pages as {files.db} would have: "
                     "give that one another name")

@@ -139,7 +139,6 @@ class Handler(http.server.BaseHTTPRequestHandler):
 
     def send(self, status, body=b"", kind=None, **heads):
         """An answer, once the body of the request was read, or was too long for that."""
-        self.close_connection = True
         self.read_rest()
         self.send_response_only(status)
         if kind:
@@ -295,7 +294,6 @@ class Handler(http.server.BaseHTTPRequestHandler):
         body = self.rfile.read(length)
         self.left = 0
         if len(body) < length:
-            self.close_connection = True
             return None
         # A page that was opened with another setup has its lists in another order.
         if self.headers.get("Office-Setup") not in (None, self.setup_hash()):
@@ -323,12 +321,11 @@ class Door(http.server.ThreadingHTTPServer):
     """Where one name comes in: a port of 127.0.0.1. Port 0 is any that is free."""
 
     daemon_threads = True
-    allow_reuse_address = True
     house = None
 
     def __init__(self, person, port):
         super().__init__(("127.0.0.1", port), Handler)
-        self.person, self.own = person, self.server_address[:2]
+        self.person, self.own = person, self.server_address
         self.host, self.cookie = f"127.0.0.1:{self.own[1]}", f"office-{self.own[1]}"
 
     @property

@@ -231,12 +231,15 @@ def check_setup(setup):
         if wrong := [one["code"] for one in parts if not CODE.fullmatch(one["code"])]:
             raise ValueError(f"{wrong[0]!r} is no code")
         numbers = [entry["seats"], *(station["electors"] for station in entry["stations"])]
-        if wrong := [n for n in numbers if type(n) is not int or n < 0]:
+        if wrong := [n for n in numbers if type(n) is not int or n < 1]:
             raise ValueError(f"{wrong[0]!r} is no number")
 
 
 def published_sums(rows):
-    """The sums of a constituency in results.csv."""
+    """The sums of a constituency in results.csv, each row of which has those of the whole."""
+    whole = [[row[key] for key in (*PLAIN, "edition", "certified")] for row in rows]
+    if whole.count(whole[0]) != len(whole):
+        raise ValueError("the rows of a constituency differ")
     found = {(key, ""): number(rows[0][key]) for key in PLAIN}
     for row in rows:
         found["votes", row["list"]] = number(row["votes"])

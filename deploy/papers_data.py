@@ -274,9 +274,9 @@ class Record(entries.Reading):
         """Counts a line that the reader of entries would print: what a paper says of it is looked for there."""
         self.left += 1
 
-    def done(self, command):
-        left, before = self.left, self.figures_of(command.code)
-        super().done(command)
+    def done(self, command, entry):
+        left, before = self.left, self.figures_before(command)
+        super().done(command, entry)
         if self.left == left and command.what in ("query", "correct", "reopen", "draw"):
             self.events.append(command)
         if command.what == "correct":
@@ -286,11 +286,13 @@ class Record(entries.Reading):
         if command.what == "close":
             self.closers[command.code] = command.name, command.time
 
-    def figures_of(self, station):
-        """The slip and the numbers of a station's return as it is by now; None where they are not
-        known."""
-        known = self.returns[station].revisions if station in self.returns else []
-        return known[-1][1] if known else None
+    def figures_before(self, command):
+        """The slip and the numbers of a return before this correction; None where the record lacks
+        an act before it, by the revision that it names."""
+        known = self.returns.get(command.code, entries.Return()).revisions
+        if command.what == "correct" and entries.revision_of(command.body) == len(known):
+            return self.figures_of(command.code)
+        return None
 
     # ---- of a constituency
 
@@ -314,14 +316,16 @@ class Record(entries.Reading):
             one = of_copy.get(station["code"])
             if len(known) > (one.revision if one else 0):
                 raise Refused("copy_is_older", con=con.code, what=station["code"])
-            if one and len(known) == one.revision and known[-1] != (one.status, one.figures):
+            if one and len(known) == one.revision and (
+                    known[-1] != (one.status, one.figures)
+                    or self.returns[one.station].notes[-1] not in (None, one.note)):
                 raise Refused("other_record", con=con.code, what=station["code"])
         known = self.editions[con.code]
         if len(known) - 1 > con.edition or self.places_of(con, self.gone) - con.gone.keys():
             raise Refused("copy_is_older", con=con.code, what=con.code)
         if len(known) - 1 == con.edition and (
                 known[-1] != con.certified or any(self.others_past(con.code, con.edition, con.past))
-                or self.other_notes(con)):
+                or self.reason_of(con) not in (None, con.note) or self.other_notes(con)):
             raise Refused("other_record", con=con.code, what=con.code)
         drawn = self.lots[con.code][-1][1]
         lot = tuple(con.lists[place - 1]["code"] for place in con.lot)
@@ -329,6 +333,10 @@ class Record(entries.Reading):
         is_later = bool(self.lost_of(con)) and not lot
         if len(known) - 1 == con.edition and lot != drawn and not is_later:
             raise Refused("other_record", con=con.code, what=con.code)
+
+    def reason_of(self, con):
+        """The note of its last reopening, which is empty before the first; None where nobody knows."""
+        return ["", *self.reasons[con.code].values()][-1]
 
     def other_notes(self, con):
         """Those who are gone for another reason than this record has."""
@@ -346,7 +354,7 @@ class Record(entries.Reading):
         return sorted(con.gone.keys() - self.places_of(con, self.gone))
 
     def lacks_edition_of(self, con):
-        """Whether it lacks the act by which the constituency came to its edition."""
+        """Whether it lacks an act by which the constituency came to its edition: nobody knows which."""
         return len(self.editions[con.code]) - 1 < con.edition
 
     def is_whole_of(self, one):
@@ -356,10 +364,10 @@ class Record(entries.Reading):
 
     def typed(self, one):
         """Who entered a return first, and who entered it again or closed it: name and time each,
-        or None where the record does not say."""
+        or None where the record does not say; and whether it was entered again."""
+        found = self.returns.get(one.station, entries.Return())
         if not self.is_whole_of(one):
-            return None, None, False
-        found = self.returns[one.station]
+            return None, None, bool(found.second)
         return found.first, found.second or self.closers.get(one.station), bool(found.second)
 
     def events_of(self, con, what):

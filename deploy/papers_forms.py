@@ -50,7 +50,7 @@ def places_of(text):
 def fault_of(found, wanted, key=""):
     """The fault of the texts of a language beside those in English, or None."""
     if type(found) is not type(wanted):
-        return f"{key}: not of the kind that it has in English"
+        return f"{key.removesuffix('.')}: not of the kind that it has in English"
     if isinstance(wanted, dict):
         if other := sorted(found.keys() ^ wanted.keys()):
             lacks = other[0] in wanted
@@ -385,6 +385,7 @@ def by_and_when(forms, who):
 def double(forms, con, one, station, record):
     """The values of the return of a station, and who entered it."""
     first, second, twice = record.typed(one) if record else (None, None, False)
+    twice = twice or con.setup.get("entry") == "double"
     unknown = forms.say("unknown_entry" if record else "without_record")
     figures = [(one_list["code"], one_list["name"], forms.number(votes))
                for one_list, votes in zip(con.lists, one.votes)]

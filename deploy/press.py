@@ -28,6 +28,7 @@ cannot be used. Python 3.11 or later.
 """
 
 import argparse
+import contextlib
 import csv
 import hashlib
 import json
@@ -46,8 +47,8 @@ from press_data import (ACTS, OF_HASH, OPEN, STATION, adds_up, con_csv, con_json
                         returns_csv, returns_in, said_before, schemas, shown_heads)
 from press_country import together
 from press_embed import con_embedded, country_embedded, withdrawn_embedded
-from press_files import (allow_provisional, changed, is_folder, is_known, make_folder, moment_in, put, put_bytes, remove,
-                         remove_folder, repair, restore, text_of, text_of_another)
+from press_files import (allow_provisional, changed, forget, is_folder, is_known, keep_room, make_folder, moment_in, put, put_bytes,
+                         remove, remove_folder, repair, restore, text_of, text_of_another, use_room, withdraw_of_all, withdraw_of_con)
 from press_image import shared_image
 from press_lists import elected_csv, elected_pages, list_pages
 from press_offices import Office, OtherSetup, compare_stations, results_of
@@ -150,7 +151,7 @@ def remove_languages(folder, site):
 
 def is_ours(page):
     """Whether this program made a page: the folder may have others of the board's, in any encoding."""
-    return AGE[0] in text_of(page)
+    return is_known(page) or AGE[0] in text_of(page)
 
 
 def mark_old(site, file):
@@ -233,7 +234,7 @@ def write_returns(office, folder, code, con, entry, seen, may_ask):
         name, text = f"stations-{code}-{edition}.csv", certified_returns(office, code, view, entry)
         if text is not None:
             if name in files.values() and text_of(folder / name) != text:
-                print(f"failed: {folder / name}: somebody else changed it, and pages were made of it", file=sys.stderr, flush=True)
+                print(f"failed: {folder / name}: somebody else changed it, and pages were made of it", file=sys.stderr)
                 seen.written.pop(code, None)
             put(folder, name, text)
             files[edition], seen.compared[code] = name, edition
@@ -265,9 +266,12 @@ def write_open(office, folder, site, code, con, entry, seen, may_ask):
         return {}
     before, since, text = seen.stations[code] if code in seen.stations and (folder / name).is_file() else (None, 0, None)
     if may_ask and (before != key or now - since > AGAIN):
-        text, stations, closed = stations_of(office, code, text, entry)
+        # (pages of the table have these numbers too: it is read where they alone are others)
+        text, stations, closed = stations_of(office, code, text if before == key else None, entry)
         if stations:
             put(folder, name, closed)
+            seen.written.pop(code, None)
+            seen.lists.pop(code, None)
         if stations and (folder / name).is_file():
             states = {station: found[0] if found else "missing" for station, found in stations.items()}
             write_stations(folder, site, code, con, entry, seen, name, states)
@@ -313,7 +317,7 @@ def left_as_they_are(folder, name, pages, before):
 
 def write_parts(folder, name, pages):
     """Writes pages that follow one another, each a text, a function of its moment, or None where it stays as it is, and removes those
-    of before that are not of them."""
+    that this program made before and that are not of them."""
     moment = datetime.now().astimezone()
     for place, one in enumerate(pages, 1):
         if one is None:
@@ -324,7 +328,7 @@ def write_parts(folder, name, pages):
             put(folder, f"{name}-{place}.html", one)
     for page in folder.glob(f"{name}-*.html"):
         place = re.fullmatch(rf"{re.escape(name)}-(\d+)\.html", page.name)
-        if place and int(place[1]) > len(pages):
+        if place and int(place[1]) > len(pages) and is_ours(page):
             remove(folder, page.name)
 
 
@@ -365,11 +369,9 @@ def electors_counted(folder, con, entry, returns):
     tally = con["tally"]
     if not entry or tally["closed"] == tally["stations"] or not tally["closed"]:
         return sum(station["electors"] for station in entry["stations"]) if entry and tally["closed"] else None
-    if OPEN not in returns:
-        return None
-    _, rows = returns_in(text_of(folder / returns[OPEN]))
-    closed = {row[0] for row in rows}
-    return sum(station["electors"] for station in entry["stations"] if station["code"] in closed) if len(closed) == tally["closed"] else None
+    text = text_of(folder / returns[OPEN]) if OPEN in returns else ""
+    closed = {row[0] for row in returns_in(text)[1]} if adds_up(text, con["view"]) else None
+    return closed and sum(station["electors"] for station in entry["stations"] if station["code"] in closed)
 
 
 def write_con(folder, site, code, con, entry, returns, seen):
@@ -421,12 +423,12 @@ def head_of(body):
     return {key: body[key] for key in ("headline", "counted_line", "outlook")}
 
 
-def write_lists(folder, site, cons, setup, electors, seen):
+def write_lists(folder, site, cons, electors, seen):
     """Writes the page of each list, those of the elected and the part of the country for other sites, where a constituency has
     changed: shares are of the country."""
     if len(cons) == len(seen.lists) and all(con is seen.lists.get(code) for code, con in cons.items()):
         return
-    country, moment = together(cons, setup, electors), datetime.now().astimezone()
+    country, moment = together(cons, electors), datetime.now().astimezone()
     if site.about.get("address"):
         put_bytes(folder / "share.png", shared_image(site, country))
     codes = {party.code for party in country.parties}
@@ -438,25 +440,25 @@ def write_lists(folder, site, cons, setup, electors, seen):
             write_parts(into, f"lists-{party.code}", more)
         for page in into.glob("list*-*.html"):
             found = re.fullmatch(r"list-(.+)|lists-(.+)-\d+", page.stem)
-            if found and not {found[1], found[2]} & codes:
+            if found and not {found[1], found[2]} & codes and is_ours(page):
                 remove(into, page.name)
         write_parts(into, "elected", elected_pages(one, country, cons))
     put(folder, "elected.csv", elected_csv(cons))
     seen.lists = dict(cons)
 
 
-def write_about(folder, site, cons, codes, setup, seen, head):
+def write_about(folder, site, cons, codes, setup, seen, head, is_whole):
     """Writes the feed, after these constituencies, and what describes the other files. The codes are those of all constituencies,
-    where they are known."""
+    where they are known. The round is whole where each of these was written."""
     moment, (known, has_others) = datetime.now().astimezone(), said_before(text_of(folder / "feed.atom"))
     if has_others:
-        print(f"failed: {folder / 'feed.atom'}: what is none of the entries of these pages is left out", file=sys.stderr, flush=True)
+        print(f"failed: {folder / 'feed.atom'}: what is none of the entries of these pages is left out", file=sys.stderr)
     put_dated(folder, "feed.atom", lambda since: feed(known, cons, codes, setup, site, since), moment)
     for name, text in {"openapi.json": text_of(ROUTES), **schemas()}.items():
         put(folder, name, text)
     put(folder, "datapackage.json", datapackage(published(folder), seen.cons, site))
     pages = [file for _, into in site.editions(folder) for file in published(into, "manifest.json")]
-    put(folder, "manifest.json", manifest(pages, head, moment, folder))
+    put(folder, "manifest.json", manifest(pages, head, moment, folder, is_whole))
 
 
 class Round:
@@ -494,8 +496,12 @@ class Round:
         return [(site, page) for site, into in self.site.editions(self.folder) for page in into.glob("*.html") if is_ours(page)]
 
     def mark_old(self, site, page):
-        """Says on a page how old it is; that of a constituency is written again once there is an answer."""
+        """Says on a page how old it is; that of a constituency is written again once there is an answer. One that this program has
+        not written is still none of its own: somebody may have changed it before."""
+        is_own = is_known(page)
         mark_old(site, page)
+        if not is_own:
+            forget(page)
         self.seen.written.pop(con_of(page.name), None)
         self.seen.stations.pop(con_of(page.name), None)
         self.seen.places.pop(con_of(page.name), None)
@@ -535,7 +541,7 @@ class Round:
             if con["view"]["certified"]:
                 files["acts"] = acts_of(self.folder, code, con["view"]["edition"], files)
             self.seconds -= office.took - before
-        except (ValueError, KeyError, TypeError, csv.Error) as error:
+        except (ValueError, KeyError, TypeError, IndexError, csv.Error) as error:
             raise NoAnswer(f"/con/{code}/returns: a text that is not of its report: {error!r}") from error
         self.files[code] = files
 
@@ -545,6 +551,7 @@ class Round:
     def write_rest(self, head):
         """Writes the files that are of all constituencies."""
         shown = head and self.cons and put_head(self.folder, head, self.failures)
+        self.withdraw()
         if self.whole:
             if self.setup and not self.seen.has_setup:
                 put(self.folder, "setup.json", json_text(list(self.setup.values())))
@@ -552,10 +559,29 @@ class Round:
             # (of one whose returns could not be read nobody knows whose electors are counted)
             electors = {code: many for code, many in self.seen.electors.items() if code not in self.failed}
             write_index(self.folder, self.site, self.cons, self.setup, electors, self.seen, shown)
-            write_lists(self.folder, self.site, self.cons, self.setup, electors, self.seen)
+            write_lists(self.folder, self.site, self.cons, electors, self.seen)
         if self.cons:
             cons = {code: self.seen.cons[code] for code in self.cons if code not in self.failed}
-            write_about(self.folder, self.site, cons, list(self.cons) if self.whole else None, self.setup, self.seen, shown)
+            codes = list(self.cons) if self.whole else None
+            write_about(self.folder, self.site, cons, codes, self.setup, self.seen, shown, self.whole and not self.failed)
+
+    def withdraw(self):
+        """Removes the files for programs that say of a constituency that it is certified as it is no more: of all constituencies,
+        and of one that is not written now. Of one that did not answer nobody knows better, unless it is none of the setup."""
+        now = {code: con["view"]["edition"] if con["view"]["certified"] else None for code, con in self.cons.items()}
+        withdraw_of_all(self.folder, now, self.setup or None)
+        for code, con in self.cons.items():
+            if self.seen.cons.get(code) is not con:
+                withdraw_of_con(self.folder, code, now[code])
+
+    def leave_on_full_disk(self):
+        """Says on each page how old it is, by the room that was kept for it. Nothing vouches for them until a round is whole."""
+        use_room(self.folder)
+        with contextlib.suppress(OSError):
+            remove(self.folder, "manifest.json")
+            self.withdraw()
+            for site, page in self.pages():
+                mark_old(site, page)
 
 
 def seconds_of_round(seen):
@@ -568,14 +594,15 @@ def look_for_changes(folder, site, seen):
     nobody, and is gone; the feed and the heads that were shown stay, which have moments of before."""
     found = changed(folder)
     for file in found[:MOST_NAMED]:
-        print(f"failed: {file}: somebody else changed or removed it", file=sys.stderr, flush=True)
+        print(f"failed: {file}: somebody else changed or removed it", file=sys.stderr)
     if len(found) > MOST_NAMED:
-        print(f"failed: {folder}: somebody else changed or removed {len(found) - MOST_NAMED} more files", file=sys.stderr, flush=True)
+        print(f"failed: {folder}: somebody else changed or removed {len(found) - MOST_NAMED} more files", file=sys.stderr)
     for file in found:
         if file.name not in ("feed.atom", "record.csv") and not is_folder(file):
             remove(file.parent, file.name)
     if found:
         seen.forget()
+    if found or not seen.has_setup:
         write_given(folder, site)
 
 
@@ -592,14 +619,20 @@ def write_all(offices, folder, site, setup, seen, head=None, seconds=math.inf):
     """One round; how many pages of constituencies and of the country were written, and what failed."""
     look_for_changes(folder, site, seen)
     it = Round(offices, folder, site, setup, seen, seconds)
-    if it.failures:
-        it.leave_as_it_is()
-    it.each(it.write_returns, it.waits)
-    seen.left = it.seconds
-    it.each(it.write_con)
-    if it.whole and it.cons:
-        withdraw(folder, site, {*it.cons, *setup})
-    it.write_rest(head)
+    try:
+        if it.failures:
+            it.leave_as_it_is()
+        it.each(it.write_returns, it.waits)
+        seen.left = it.seconds
+        it.each(it.write_con)
+        if it.whole and it.cons:
+            withdraw(folder, site, {*it.cons, *setup})
+        it.write_rest(head)
+        if it.whole:
+            keep_room(folder)
+    except OSError:
+        it.leave_on_full_disk()
+        raise
     return len(it.cons) - len(it.failed) + it.whole, it.failures
 
 
@@ -652,7 +685,7 @@ def main():
             written, failures = 0, [f"{error.filename or given.folder}: {error.strerror}: the round ended there"]
         asked = sum(office.asked for office in offices)
         for failure in failures:
-            print(f"failed: {failure}", file=sys.stderr, flush=True)
+            print(f"failed: {failure}", file=sys.stderr)
         print(f"{datetime.now().strftime('%H:%M:%S')} pages {written} failed {len(failures)} GETs {asked - before} "
               f"in {time.monotonic() - began:.1f} s", flush=True)
         if given.every is None:

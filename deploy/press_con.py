@@ -382,7 +382,7 @@ def files_section(site, code, edition, returns):
 # ---- pages
 
 
-def con_bodies(site, code, con, row, entry, returns, electors=None, has_places=False):
+def con_bodies(site, code, con, row, entry, returns, electors, has_places):
     """The parts of the page of a constituency, and, where that is too long for one, the pages on
     which it goes on; `entry` is what the setup says of the constituency, or None, and `electors`
     are those of the stations that are counted, or None. Its places have pages, or not."""

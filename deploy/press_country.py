@@ -3,7 +3,7 @@
 from dataclasses import dataclass, field
 
 from press_names import in_order
-from press_parts import list_share, rounded
+from press_parts import by_votes, list_share, rounded
 from press_results import lot_of, provisional_seats
 
 # How many of the closest seats are shown.
@@ -53,11 +53,6 @@ class Country:
     blank: int = 0
     spoiled: int = 0
     bases: set = field(default_factory=set)
-    # Of the constituencies whose returns are all closed: how many there are, their papers and
-    # their electors.
-    whole_cons: int = 0
-    papers: int = 0
-    electors: int | None = 0
     # Electors of all stations that are counted; None where they are not known.
     counted_electors: int | None = 0
     closest: list = field(default_factory=list)  # votes short, list, constituency, who would lose
@@ -107,14 +102,14 @@ def by_name(cons):
     return sorted(cons.items(), key=lambda one: in_order(one[1]["tally"]["name"]))
 
 
-def together(cons, setup, counted):
-    """The country, of its constituencies, whose setups may be missing. `counted` are the electors of
-    the stations that are counted, by constituency."""
+def together(cons, counted):
+    """The country, of its constituencies. `counted` are the electors of the stations that are
+    counted, by constituency, of which some may be missing."""
     found, parties = Country(cons=len(cons)), {}
     found.only = next(iter(cons.values())) if len(cons) == 1 else None
     for code, con in cons.items():
         found.chamber += con["rule"]["seats"]
-        add_votes(found, parties, con, setup.get(code))
+        add_votes(found, parties, con)
         add_seats(found, parties, code, con)
         add_electors(found, con, counted.get(code))
     found.parties = sorted(parties.values(),
@@ -124,7 +119,7 @@ def together(cons, setup, counted):
     return found
 
 
-def add_votes(found, parties, con, entry):
+def add_votes(found, parties, con):
     tally = con["tally"]
     found.stations += tally["stations"]
     found.closed += tally["closed"]
@@ -136,10 +131,6 @@ def add_votes(found, parties, con, entry):
         party = parties.setdefault(row["code"], Party(row["code"], row["name"]))
         party.votes += row["votes"]
         party.closed += tally["closed"]
-    if tally["closed"] == tally["stations"]:
-        found.whole_cons += 1
-        found.papers += tally["valid"] + tally["spoiled"]
-        found.electors = None if found.electors is None or entry is None else found.electors + electors(entry)
 
 
 def add_electors(found, con, counted):
@@ -187,13 +178,9 @@ def add_provisional(found, parties, con):
     found.uncounted += 0 if con["tally"]["closed"] else con["rule"]["seats"]
 
 
-def electors(entry):
-    return sum(station["electors"] for station in entry["stations"])
-
-
 def first_list(con):
     """The list with the most votes; none where there is no vote, or where two have as many."""
-    best = sorted(con["tally"]["lists"], key=lambda row: -row["votes"])[:2]
+    best = by_votes(con)
     if not best or not best[0]["votes"] or (len(best) > 1 and best[0]["votes"] == best[1]["votes"]):
         return None
     return best[0]["code"]

@@ -10,7 +10,7 @@ import unicodedata
 import uuid
 import xml.etree.ElementTree as ET
 
-from press_files import hash_as_left, moment_in
+from press_files import moment_in, vouched
 from press_names import isolated
 from press_results import counted_share, provisional_seats
 
@@ -365,13 +365,13 @@ def returns_in(text):
 
 
 def adds_up(text, view):
-    """Whether returns have the stations and the sums of a certificate."""
+    """Whether returns are as many as are closed in a constituency, with their sums."""
     try:
         _, returns = returns_in(text)
         sums = [sum(map(int, column)) for column in zip(*(row[2:] for row in returns))]
     except ValueError:
         return False
-    return len(returns) == view["stations"] and sums == [view["blank"], view["spoiled"], *view["votes"]]
+    return len(returns) == view["closed"] and sums == [view["blank"], view["spoiled"], *view["votes"]]
 
 
 # ---- the JSON files
@@ -396,11 +396,11 @@ def index_json(progress, moment):
     return dated(moment, constituencies=progress)
 
 
-def manifest(files, head, moment, folder):
+def manifest(files, head, moment, folder, is_whole=True):
     """The hash of each file by its name within the folder, with the head of the record of commands. Of a file that somebody else
-    changed it is that of what was written."""
+    changed it is that of what was written. Where the round was not whole, a file of which nobody knows who wrote it is left out."""
     record = {"record": {"time": head["time"], "lines": head["n"], "sha256": head["hash"]}} if head else {}
-    return dated(moment, **record, files={str(file.relative_to(folder)): found for file in files if (found := hash_as_left(file))})
+    return dated(moment, **record, files=vouched(folder, files, is_whole))
 
 
 # ---- the feed (Atom, RFC 4287)

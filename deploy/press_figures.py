@@ -36,18 +36,16 @@ def bars(site, rows, threshold=0, limit=""):
 
 def rows_of_dots(count):
     """Radii of the rows of a half circle of dots, how many each has, and the radius of a dot, as
-    large as it may be."""
-    best = None
+    large as it may be; of as large ones those in the fewest rows."""
+    found = []
     for rows in range(1, 16):
         gap = 62 / rows
         radii = [100 - gap * row for row in range(rows)]
         dots = [round(count * radius / sum(radii)) for radius in radii]
         dots[0] += count - sum(dots)
         apart = [math.pi * radius / (many - 1) for radius, many in zip(radii, dots) if many > 1]
-        size = min([gap, 26, *apart]) * 0.44
-        if min(dots) >= 0 and (best is None or size > best[2]):
-            best = radii, dots, size
-    return best
+        found.append((radii, dots, min([gap, 26, *apart]) * 0.44))
+    return max(found, key=lambda rows: rows[2])
 
 
 def places_of_dots(count):
@@ -67,7 +65,7 @@ def half_circle(site, seats, total, left=(), majority=None, provisional=None):
     seats are hollow dots after those of the list; where others are certified, their number is after
     a plus. The word is in the caption."""
     provisional = provisional or {}
-    is_mixed = any(seats.values()) and any(provisional.values())
+    has_certified = any(seats.values())
     sums = {code: (seats.get(code, 0), provisional.get(code, 0))
             for code in dict.fromkeys([*seats, *provisional])}
     groups = sorted(((code, *of) for code, of in sums.items() if any(of)),
@@ -85,14 +83,14 @@ def half_circle(site, seats, total, left=(), majority=None, provisional=None):
         drawn += [group_of_dots(code, own[many:], size, hollow=True)] if more else []
         before = code
         middle, edge = anchor_of(own, size)
-        said = f"{many}+{more}" if more and is_mixed else f"{many + more}"
+        said = f"{many}+{more}" if more and has_certified else f"{many + more}"
         if code is None or len(labels) < NAMED_LISTS:
             labels.append((clear_of(at, middle), edge, f"{code or site.say(words)} {said}"))
     sides, lines, width, top, bottom = placed_labels(labels, 100 + size)
     return {
         "said": ", ".join(dots_said(site, *group) for group in named),
-        "hollow": (None if not any(provisional.values()) else "hollow_dots" if is_mixed
-                   else "hollow_alone"),
+        "hollow": (None if not any(provisional.values()) else
+                   "hollow_dots" if has_certified else "hollow_alone"),
         "grey": any(many for _, many in left), "rimmed": any(group["rim"] for group in drawn),
         "named": NAMED_LISTS if len(groups) > NAMED_LISTS else None, "many": len(groups),
         "box": f"{-width:.0f} {top:.0f} {2 * width:.0f} {bottom - top:.0f}",

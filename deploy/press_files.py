@@ -19,6 +19,13 @@ BEGINS = gzip.compress(b"", 6, mtime=0)[:8]
 # The file by which the proxy knows that seats may be shown before they are certified.
 PROVISIONAL = ".provisional"
 
+# A file that keeps some room of the disk, and its bytes: when all else is full, pages can still say
+# how old they are.
+RESERVE, RESERVED = ".reserve", 4 * 1024 * 1024
+
+# The files for programs and the picture that are of all constituencies.
+OF_ALL = ("results.csv", "elected.csv", "index.csv", "index.json", "share.png")
+
 # Each file as this program left it, by its whole path: its SHA-256, and what the disk said of it
 # then.
 LEFT = {}
@@ -74,7 +81,7 @@ def is_named_folder(file):
     """Whether a folder is in the place of a file: nobody knows what is in it, so it is named, and
     stays."""
     if is_folder(file):
-        print(f"failed: {file}: a folder is in its place", file=sys.stderr, flush=True)
+        print(f"failed: {file}: a folder is in its place", file=sys.stderr)
     return is_folder(file)
 
 
@@ -110,6 +117,12 @@ def allow_provisional(folder, is_allowed):
 
 def is_known(file):
     return file.absolute() in LEFT
+
+
+def forget(file):
+    """Knows no more how a file was left, nor its compressed one."""
+    for one in (file, file.with_name(f"{file.name}.gz")):
+        LEFT.pop(one.absolute(), None)
 
 
 def leave(file, data):
@@ -159,6 +172,68 @@ def hash_as_left(file):
     return LEFT[file.absolute()][0] if is_known(file) else hash_of(file)
 
 
+def vouched(folder, files, is_whole):
+    """The SHA-256 of each of these files by its name in the folder, for the manifest.
+
+    Of a file that this program wrote it is that of what was written, and another's has its own. As
+    long as no round was whole, another's may be one of ours that somebody changed while this program
+    was away: until then only those are there that are as the manifest had them."""
+    before, found = manifest_of(folder), {}
+    for file in files:
+        name, digest = str(file.relative_to(folder)), hash_as_left(file)
+        if digest and (is_whole or is_known(file) or before.get(name) == digest):
+            found[name] = digest
+    return found
+
+
+def withdraw_of_all(folder, editions, setup):
+    """Removes the files for programs of all constituencies, where they say of one of these that it
+    is certified as it is no more, or of one that is none of the setup, or where nobody knows what
+    they say: pages say how old they are, and these files do not. By constituency the edition that
+    is certified, or None; the setup may be None."""
+    try:
+        cons = json.loads(text_of(folder / "index.json"))["constituencies"]
+        before = {con["con"]: con["edition"] for con in cons if con["certified"]}
+    except (ValueError, KeyError, TypeError, RecursionError):
+        before = None
+    if before is None or any(
+            editions.get(code, edition) != edition or setup is not None and code not in setup
+            for code, edition in before.items()):
+        for name in OF_ALL:
+            remove(folder, name)
+
+
+def withdraw_of_con(folder, code, edition):
+    """Removes the files for programs of a constituency that say the same of it."""
+    try:
+        view = json.loads(text_of(folder / f"con-{code}.json"))["view"]
+        before = view["edition"] if view["certified"] else None
+    except (ValueError, KeyError, TypeError, RecursionError):
+        before = None
+    if before not in (None, edition):
+        for suffix in ("csv", "json"):
+            remove(folder, f"con-{code}.{suffix}")
+
+
+def keep_room(folder):
+    """Keeps some room of the disk, as long as there is some."""
+    file = folder / RESERVE
+    with contextlib.suppress(OSError):
+        if file.exists() and file.stat().st_size == RESERVED:
+            return
+        try:
+            with open(file, "wb") as it:
+                os.posix_fallocate(it.fileno(), 0, RESERVED)
+        except OSError:
+            file.unlink()
+            raise
+
+
+def use_room(folder):
+    with contextlib.suppress(OSError):
+        (folder / RESERVE).unlink()
+
+
 def text_of(file):
     """The text of a file of ours, whatever somebody else made of it; an empty one where it cannot be
     read."""
@@ -199,7 +274,7 @@ def restore(folder):
         file, compressed = folder / name, folder / f"{name}.gz"
         if not RETURNS.fullmatch(name) or on_disk(file) and hash_of(file) == digest:
             continue
-        print(f"failed: {file}: somebody else changed or removed it", file=sys.stderr, flush=True)
+        print(f"failed: {file}: somebody else changed or removed it", file=sys.stderr)
         data = None
         with contextlib.suppress(OSError):
             data = content_of(compressed.read_bytes()) if on_disk(compressed) else None

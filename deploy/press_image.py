@@ -29,20 +29,17 @@ class Canvas:
         self.rows = [bytearray(bytes(PAPER) * WIDTH) for _ in range(HEIGHT)]
 
     def line(self, y, begin, end, colour):
-        """A line of one point of height; its ends may be within a point, and are mixed."""
-        if not 0 <= y < HEIGHT:
-            return
-        first, last = math.ceil(max(begin, 0)), math.floor(min(end, WIDTH - 1))
-        if first < last:
-            self.rows[y][first * 3:last * 3] = bytes(colour) * (last - first)
-        for x, part in ((first - 1, first - begin), (last, end - last)):
-            if 0 <= x < WIDTH and 0 < part < 1:
-                at = self.rows[y][x * 3:x * 3 + 3]
-                self.rows[y][x * 3:x * 3 + 3] = bytes(
-                    round(old + (new - old) * part) for old, new in zip(at, colour))
+        """A line of one point of height, within the picture; its ends may be within a point, and
+        are mixed."""
+        row, first, last = self.rows[y], math.ceil(begin), math.floor(end)
+        row[first * 3:last * 3] = bytes(colour) * (last - first)
+        ends = [(first - 1, first - begin), (last, end - last)]
+        for x, part in ends if first <= last else [(last, end - begin)]:
+            at = slice(x * 3, x * 3 + 3)
+            row[at] = bytes(round(old + (new - old) * part) for old, new in zip(row[at], colour))
 
     def dot(self, x, y, radius, colour):
-        for row in range(math.floor(y - radius), math.ceil(y + radius) + 1):
+        for row in range(math.ceil(y - radius), math.floor(y + radius) + 1):
             half = math.sqrt(max(radius ** 2 - (row - y) ** 2, 0))
             self.line(row, x - half, x + half, colour)
 
@@ -72,7 +69,7 @@ def counted_points(closed, stations, width):
 def shared_image(site, country):
     """The picture, as PNG."""
     canvas = Canvas()
-    if 0 < country.chamber <= MOST_DOTS:
+    if country.chamber <= MOST_DOTS:
         dots, size = places_of_dots(country.chamber)
         seats = [colour_of(site.colours_of(party.code)[0]) for party in country.parties
                  for _ in range(party.seats)]

@@ -232,7 +232,7 @@ def index_pages(site, cons, setup, moment, changed, electors):
     """The page of the country: what the constituencies are together, and each of them; and the
     pages of the constituencies where there is no room for them. `electors` are those of the
     stations that are counted, by constituency."""
-    country = together(cons, setup, electors)
+    country = together(cons, electors)
     values, former = country_values(site, country, cons), former_of(site, country, cons)
     head = country_head(site, country, cons)
     values |= head | {"programs": programs(site, setup), "moment": moment, "last_change": changed,
@@ -371,7 +371,7 @@ def count_sections(site, cons):
 def count_pages(site, cons, moment, changed, head=None):
     """The page of the count: how many returns of each constituency are in which state; and those
     on which it goes on. `head` is that of the record of commands."""
-    country = together(cons, {}, {})
+    country = together(cons, {})
     under_title = {"counted_line": counted_line(site, country.closed, country.stations),
                    "outlook": country_outlook(site, country, cons)}
 

@@ -9,7 +9,7 @@ import re
 from typing import NamedTuple
 
 from press_results import counted_share
-from press_templates import Markup
+from press_templates import AGE, Markup
 
 # Bytes of a page, which is then below 60 kB with a line that says how old it is too; and of rows
 # in a table, where there is more than one page.
@@ -232,9 +232,6 @@ def searched(site, name, rows, labels, empty):
 
 
 # ---- a page that gets old
-
-
-AGE = "<!--age-->", "<!--/age-->"
 
 
 def unaged(text):

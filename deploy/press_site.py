@@ -5,6 +5,7 @@ import base64
 import csv
 import io
 import re
+import sys
 import tomllib
 import xml.etree.ElementTree as ET
 from collections import defaultdict
@@ -17,6 +18,8 @@ from zoneinfo import ZoneInfo, ZoneInfoNotFoundError
 import press_data
 from press_templates import Markup, TemplateError, Templates
 
+# Of a name that is too long its own limit is said.
+csv.field_size_limit(sys.maxsize)
 # The tracks of press.css, light and dark: what is on them has more contrast with any other ground.
 TRACKS = ("#eceae4", "#2a2e36")
 # The least contrast of a colour with the ground, and with that of a neighbour in a half circle.
@@ -125,12 +128,9 @@ def rows_of(file, *columns):
     if not file.exists():
         return []
     reader = csv.DictReader(io.StringIO(text_of(file), newline=""), restval="")
-    try:
-        if lost := [column for column in columns if column not in (reader.fieldnames or ())]:
-            raise Wrong(f"{file}: no column {', '.join(lost)}")
-        return list(reader)
-    except csv.Error as error:
-        raise Wrong(f"{file}: {error}") from error
+    if lost := [column for column in columns if column not in (reader.fieldnames or ())]:
+        raise Wrong(f"{file}: no column {', '.join(lost)}")
+    return list(reader)
 
 
 def read_about(file):

@@ -24,6 +24,8 @@ except ModuleNotFoundError as missing:
 from page_script import hash_of, script_of
 from press_names import closed, isolated
 
+# Between these a page says how old it is, where it stays as it was.
+AGE = "<!--age-->", "<!--/age-->"
 HERE = Path(__file__).resolve().parent
 OWN = FileSystemLoader(HERE / "templates")
 # Of a style: its comments, and the spaces in front of its lines. Of ours also those that nothing
@@ -75,7 +77,9 @@ class Templates:
     def page(self, name, /, **values):
         """The text of a page."""
         empty = {"counted_line": None, "headline": None, "here": None, "outlook": None}
-        return self.environment.get_template(name).render(empty | values)
+        text = self.environment.get_template(name).render(empty | values)
+        # (a board's own template may have no place for the age, by which a page is known as ours)
+        return text if AGE[0] in text else text + "".join(AGE)
 
     def macros(self, name):
         """The macros of a file, as functions."""

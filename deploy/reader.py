@@ -12,13 +12,13 @@ pages. Whatever is not a GET is answered 405, and the office does not hear of it
 head or a body.
 
 The office answers one request after the other. Two reports are asked for at once, so that a command
-waits for two at most. Past the cache a name of the proxy may have four under way, all stations twenty-four, and all
-seconds as many; where half of these are, a name may have two. More are answered 429. Of a name one
-is asked for at a time, and of all strangers. Of stations and seconds together too, and three times
-as long as it took is left to others, so that clerks do not wait for all of theirs. One station at a
-time waits for that, so that seconds do not wait for all of the stations'. So one at a time is asked
-for of what has all constituencies (/results and /country), whoever asks; and of the tables of all
-stations of a constituency, for which one of each name waits.
+waits for two at most. Past the cache a name of the proxy may have four under way at a desk, all
+stations twenty-four, and all seconds as many; where half of these are, a name may have two. More
+are answered 429. Of a name one is asked for at a time, and of all strangers. Of stations and
+seconds together too, and three times as long as it took is left to others, so that clerks do not
+wait for all of theirs. One station at a time waits for that, so that seconds do not wait for all of
+the stations'. So one at a time is asked for of what has all constituencies (/results and /country),
+whoever asks; and of the tables of all stations of a constituency, for which one of each name waits.
 
 The proxy says with each request what its name may see. `Office-Allowed` other than 1 is answered
 403, and `Office-There` other than 1 is answered 404. /stations/CODE and /returns/CODE are the
@@ -72,13 +72,11 @@ OF_NAME, OF_ROLE, HELD = 4, 24, ("station", "second")
 
 
 class Often:
-    """How much each name asks for past the cache, and how often for a table of all stations. The
+    """How often each name asks for a table of all stations past the cache, at whichever desk. The
     proxy has seen its password."""
 
     def __init__(self):
         self.spent, self.lock = {}, threading.Lock()
-        self.places = Places(OF_NAME, THREADS)
-        self.places_of = {role: Places(OF_NAME, OF_ROLE) for role in HELD}
 
     def is_over(self, name):
         now = time.monotonic()
@@ -107,6 +105,10 @@ class Reader:
 
     def __init__(self, desk, turns, often=None):
         self.desk, self.turns, self.often = desk, turns, often
+        # How many reports of each name may wait or be under way: at this desk, so that one that is
+        # away takes no place of another.
+        self.places_of_names = Places(OF_NAME, THREADS)
+        self.places_of = {role: Places(OF_NAME, OF_ROLE) for role in HELD}
         # The tables of all stations: one at a time, not before a moment, for this many who wait.
         self.large, self.moment = threading.Lock(), 0.0
         self.places = threading.BoundedSemaphore(WAITING)
@@ -132,7 +134,7 @@ class Reader:
         turn = self.turn_of(name, role, path in WHOLES)
         if not name:
             return self.asked(path, fields, turn)
-        with self.often.places_of.get(role, self.often.places).taken(name) as has_place:
+        with self.places_of.get(role, self.places_of_names).taken(name) as has_place:
             return self.asked(path, fields, turn) if has_place else TOO_MANY
 
     @contextlib.contextmanager

@@ -6,6 +6,7 @@ import collections
 import csv
 import io
 import json
+import sys
 import threading
 from array import array
 from datetime import datetime
@@ -16,6 +17,8 @@ LINES = 200
 TYPING, HOUR = ("lodge", "confirm", "correct"), 60
 # The statuses that leave it open: the command may have been done.
 UNKNOWN = (None, 502, 503, 504)
+# An office passes over a row with a long field, and records the others.
+csv.field_size_limit(sys.maxsize)
 
 
 class Typed:
@@ -92,8 +95,9 @@ class Index:
         with self.lock:
             command, stations, (path, name, role) = self.waiting.pop(entry["to"])
             self.typed.take(path, name, role, entry)
-            # A file of which nothing was lodged is about no station.
-            if path.startswith("/station/") or entry["status"] in UNKNOWN or json.loads(entry["answer"])["lodged"]:
+            # A file of which nothing was lodged is about no station. What was sent twice was
+            # lodged perhaps the first time.
+            if path.startswith("/station/") or entry["status"] in UNKNOWN or "again" in entry or json.loads(entry["answer"])["lodged"]:
                 self.add(stations, is_done(entry), command, place)
 
     def add(self, stations, done, *places):
@@ -121,8 +125,8 @@ def entry_of(line):
 
 
 def is_done(entry):
-    """Whether an answer says that something was done, or leaves it open."""
-    return entry["status"] in UNKNOWN or entry["status"] == 200 and '"ok":"same"' not in entry.get("answer", "")
+    """Whether an answer says that something was done, or leaves it open. What was sent twice was done perhaps the first time."""
+    return entry["status"] in UNKNOWN or entry["status"] == 200 and ("again" in entry or '"ok":"same"' not in entry.get("answer", ""))
 
 
 def stations_of(entry):

@@ -50,7 +50,6 @@ It goes on until it is ended. The status is 1 where it cannot begin, as where an
 import argparse
 import collections
 import contextlib
-import csv
 import fcntl
 import grp
 import hashlib
@@ -274,7 +273,7 @@ class Record:
     def typed(self, con):
         """Who typed how many returns of a constituency since a moment an hour ago."""
         now = datetime.now().astimezone()
-        since = now.replace(second=0, microsecond=0) - timedelta(minutes=HOUR - 1)
+        since = now.replace(second=0) - timedelta(minutes=HOUR - 1)
         return {"con": con, "since": since.isoformat(timespec="seconds"), "names": self.index.typed_of(con, now)}
 
     def head(self):
@@ -646,7 +645,6 @@ def main():
     desks = given.desk or ["127.0.0.1:8080"]
     # Who asks while the record is read waits.
     listeners = [listen(given.folder / f"{office}.sock", given.group) for office in range(1, len(desks) + 1)]
-    csv.field_size_limit(sys.maxsize)
     record, limit = Record(given.record, given.room, setup, shown, given.staff), Limit()
     if record.fault:
         print(f"no command is done: {record.fault}", file=sys.stderr, flush=True)

@@ -14,6 +14,8 @@ RULES_OF_ONE_SEAT = {
 }
 CANDIDATE_WORDS = ["", "T", "TITULAR", "C", "CANDIDATO", "CANDIDATA", "CANDIDATE"]
 SUBSTITUTE_WORDS = ["S", "SUPLENTE", "SUBSTITUTE"]
+# What the row of a sum is called.
+TOTALS = ("total", "totals", "totales")
 
 
 @dataclass
@@ -98,8 +100,9 @@ class Maker:
     def number(self, row, name, least, most, absent=None):
         """A whole number of a field, or None and a fault."""
         text = row.table.value(row, name)
-        is_number = text.isascii() and text.isdigit() and len(text) <= 18
-        if is_number and least <= int(text) <= most:
+        is_number = text.isascii() and text.isdigit()
+        # (one of thousands of digits would not be read)
+        if is_number and len(text) <= 18 and least <= int(text) <= most:
             return int(text)
         if text or absent is None:
             key = "out_of_range" if is_number else "not_number" if text else "missing"
@@ -333,7 +336,10 @@ class Maker:
             if not limits.is_code(code):
                 self.faults.add("columns.toml", None, "not_code", value=code)
             letters, keys = identity(text), {party_key(text)} & parties
-            for party in keys or {one for one in parties if letters and identity(one) == letters}:
+            keys = keys or {one for one in parties if letters and identity(one) == letters}
+            if not keys:
+                self.note_once("code_unused", value=text, code=code)
+            for party in keys:
                 found[party] = (code, None)
         return found
 
@@ -423,12 +429,20 @@ class Maker:
         ):
             found = [one for one in con.lists if key(one)]
             if len(found) == 1:
+                self.note_other_list(con, text, found[0])
                 return found[0]
             if found:
                 row.fault("which_list", value=text, con=con.made["code"])
                 return None
         row.fault("no_such_list", value=text, con=con.made["code"])
         return None
+
+    def note_other_list(self, con, text, one):
+        """Notes a code of a list that is the party of another: the rows may mean that one."""
+        for other in con.lists:
+            if other is not one and other.text == text:
+                self.note_once("code_is_party", con=con.made["code"], value=text,
+                               name=one.made["name"], other=other.made["name"])
 
     def is_substitute(self, row):
         text = row.table.value(row, "kind").upper()
@@ -460,7 +474,7 @@ class Maker:
         last = 0
         for is_substitute in (False, True):
             own = [found for found in one.candidates if found.is_substitute == is_substitute]
-            first = last + 1 if is_substitute and own and own[0].place == last + 1 else 1
+            first = last + 1 if own and own[0].place == last + 1 else 1
             for place, candidate in enumerate(own, first):
                 if candidate.place != place:
                     candidate.row.fault(
@@ -561,6 +575,17 @@ class Maker:
                             last=con.stations[-1].made["code"],
                         )
                     )
+        for con in self.cons:
+            self.note_total(con)
+
+    def note_total(self, con):
+        """Notes a last station that may be the sum of the others, as a spreadsheet adds it."""
+        *others, last = con.stations or [None]
+        if not others:
+            return
+        code, electors = last.made["code"], sum(one.made["electors"] for one in others)
+        if folded(code) in TOTALS or len(others) > 1 and last.made["electors"] == electors:
+            self.note_once("total_row", file=last.row.table.file, row=last.row.number, code=code)
 
     # ---- the whole
 

@@ -10,7 +10,7 @@ import socket
 import ssl
 import subprocess
 import time
-from contextlib import closing, contextmanager
+from contextlib import closing, contextmanager, suppress
 from pathlib import Path
 
 
@@ -62,17 +62,20 @@ class Machine:
 
     def put_aside(self, place, names, into, mode, user):
         """Moves the files of these names of a folder, which is perhaps another user's, into a new
-        folder there. A link that this user puts in its place is not followed: the new folder would
-        be another one, which root would give away."""
+        folder there, or into one that was begun. A link that this user puts in its place is not
+        followed: the new folder would be another one, which root would give away."""
         folder = self.at(place)
         found = [file.name for name in names for file in sorted(folder.glob(name))]
         if not found:
             return
         with opened(folder, os.O_DIRECTORY) as outer:
-            os.mkdir(into, 0o700, dir_fd=outer)
+            with suppress(FileExistsError):
+                os.mkdir(into, 0o700, dir_fd=outer)
             with opened(into, os.O_DIRECTORY | os.O_NOFOLLOW, outer) as inner:
                 if os.fstat(inner).st_uid != os.geteuid():
                     raise Fault(f"{folder / into} is another user's")
+                if there := {*found} & {*os.listdir(inner)}:
+                    raise Fault(f"{folder / into / min(there)} is there already")
                 for name in found:
                     os.rename(name, name, src_dir_fd=outer, dst_dir_fd=inner)
                 if self.is_real:

@@ -45,7 +45,7 @@ def template_of(unit, text):
             line = re.sub(r"\b(office[\w-]*)\.service", r"\1@%i.service", line)
         else:
             line = at_site(line, "%i", "${DESK}", "${READ}")
-            line = line.replace("office-status says", "office-status@%i says")
+            line = re.sub(r"( -u office-\w+)\b", r"\1@%i", line)
             line = re.sub("/office/status$", r"\g<0> --config /etc/office/%i/status.toml", line)
         if key.startswith("ExecStart") and "${" in line:
             lines.append("EnvironmentFile=/etc/office/%i/ports")
@@ -54,3 +54,25 @@ def template_of(unit, text):
             # Nothing else reaches the desk, or it does not start.
             lines += ["Requires=office-ports.service", "After=office-ports.service"]
     return f"{name}@.{kind}", "\n".join(lines) + "\n"
+
+
+def ports_of(machine, site):
+    """The ports of the desk and of the reader of a site; None where there is no site."""
+    file = machine.at(f"/etc/office/{site}/ports")
+    if not file.is_file():
+        return None
+    found = dict(re.findall(r"^(DESK|READ)=(\d+)$", file.read_text(), re.M))
+    return int(found["DESK"]), int(found["READ"])
+
+
+def sites_of(machine):
+    """The sites of this computer, in the order of their ports."""
+    files = machine.at("/etc/office").glob("*/ports")
+    return sorted((file.parent.name for file in files), key=lambda name: ports_of(machine, name))
+
+
+def folders_of(site):
+    """The folders of a site's own."""
+    return [f"/{place}/{site}" for place in (
+        "etc/office", "etc/nginx/office", "var/lib/office", "var/log/office", "var/www/office",
+        "var/lib/office-site", "var/lib/office-status")]

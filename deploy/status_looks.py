@@ -34,8 +34,12 @@ LARGEST = 64 * MEGABYTE
 LAST = 20
 # Of an import this many of its stations, so that what is kept of a look stays small.
 MOST_STATIONS = 2_000
+# An office passes over a row with a long field, and records the others.
+csv.field_size_limit(sys.maxsize)
 # The first line of a record has this as the hash of the line before it.
 FIRST = "0" * 64
+# The name of a copy with how many lines the record had when it was made.
+WITH_LINES = re.compile(r"office-[0-9]{8}T[0-9]{6}Z-([0-9]{1,15})\.db")
 
 
 @dataclass(frozen=True)
@@ -209,8 +213,14 @@ def look_at_backup(folder, most, of, seen):
     verb = "agrees" if agrees else "does not agree"
     is_ahead = ahead(age)
     says = f"{copies[-1].name} was up to date {is_ahead or spoken(age) + ' ago'}, and {verb}"
+    # (of an older package no name has lines)
+    lacks_lines = not WITH_LINES.fullmatch(copies[-1].name) and any(
+        WITH_LINES.fullmatch(copy.name) for copy in copies)
+    if lacks_lines:
+        says += "; it was made without the record, which `backup` cannot read"
     numbers = {"age_seconds": age, "agrees": int(agrees)}
-    return Found("backup", agrees and age <= most and not is_ahead, says, of, numbers)
+    is_well = agrees and age <= most and not is_ahead and not lacks_lines
+    return Found("backup", is_well, says, of, numbers)
 
 
 def does_agree(copy, seen):
@@ -243,9 +253,9 @@ def look_at_certificate(file, least):
     """How long the certificate of the site is valid yet."""
     words = ("openssl", "x509", "-enddate", "-noout", "-in", file)
     try:
-        done = subprocess.run(words, capture_output=True, text=True, check=True)
+        done = subprocess.run(words, capture_output=True, text=True)
         end = ssl.cert_time_to_seconds(done.stdout.strip().removeprefix("notAfter="))
-    except (OSError, ValueError, subprocess.CalledProcessError):
+    except (OSError, ValueError):
         return Found("certificate", False, f"{file} cannot be read as a certificate")
     days = (end - time.time()) / DAY
     day = datetime.fromtimestamp(end, UTC).date()
@@ -276,9 +286,12 @@ class Acts:
             return
         target, reached, *more = led_to(command, json.loads(entry["answer"]), number)
         if isinstance(reached, int):
-            acts = self.new.setdefault(str(command["office"]), {})
-            acts.pop(target, None)
-            acts[target] = [reached, number, *more]
+            office = str(command["office"])
+            acts = self.new.setdefault(office, {})
+            known = acts.pop(target, None) or self.before.get(office, {}).get(target)
+            # Less than was reached before: the office was put back, and lacks what is known.
+            lacks = known and reached < known[0]
+            acts[target] = known if lacks else [reached, number, *more]
             if len(acts) > LAST:
                 del acts[next(iter(acts))]
 
@@ -375,8 +388,8 @@ def words_of(target, reached):
 def look_at_acts(address, number, acts, lacking, of):
     """Whether an office has what it did by the record, which was read before. Revisions and
     editions only grow, no return goes, and who is gone stays so: whatever is done meanwhile, an
-    office that shows less was put back to an earlier moment. One that does not answer is wrong
-    itself."""
+    office that shows less was put back to an earlier moment. Of one that says no more in between
+    the others are compared at the next look."""
     compared = 0
     for target, (reached, line, *more) in acts.of(number).items():
         if (found := shown_by(address, target, *more)) is None:
@@ -389,6 +402,9 @@ def look_at_acts(address, number, acts, lacking, of):
         target, (reached, line, *_) = min(lacks.items(), key=line_of)
         return Found("acts", False, f"it was put back to an earlier moment: it lacks what line {line} "
                      f"of the record answered, by which {words_of(target, reached)}", of)
+    if not compared:
+        return Found("acts", False, "it says of none of the last acts of the record now whether it "
+                     "has it", of)
     return Found("acts", True, f"of the last acts of the record it has all {compared} that were "
                  "compared", of)
 
@@ -400,7 +416,7 @@ def most_lines(folders):
     """How many lines the record had by the name of a copy in these folders, and that name: the most
     of all."""
     names = [file.name for folder in folders for file in Path(folder).glob("office-*.db")]
-    found = (re.fullmatch(r"office-[0-9]{8}T[0-9]{6}Z-([0-9]{1,15})\.db", name) for name in names)
+    found = map(WITH_LINES.fullmatch, names)
     return max(((int(one[1]), one[0]) for one in found if one), default=(0, ""))
 
 

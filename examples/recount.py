@@ -125,7 +125,8 @@ def recount(select, con):
     differs = [words for words, applies in (
         ("totals", counted != dict(select("SELECT item, n FROM totals WHERE con = ?", code))),
         ("seats", seats != dict(select("SELECT list, n FROM seats WHERE con = ?", code))),
-        (f"{left} of {len(con['most'])} stations not closed", (certified or lot) and left)
+        (f"{left} of {len(con['most'])} stations not closed", (certified or lot) and left),
+        (f"certified {certified}", certified not in (0, 1))
     ) if applies] + wrong
     if select("SELECT name FROM sqlite_master WHERE name = 'past'").fetchone():  # not in version 1
         for past, *found, least in select(

@@ -88,7 +88,7 @@ const WRONG = { differs: "slip", bad_body: "slip", too_many_votes: "total", bad_
 
 // What is known, and what is shown: a command is made of what is shown, and of nothing else.
 const MINUTE = 60_000;
-let setup = [], setupHash = "", known = { stations: {}, former: {} }, person = { name: "", role: "" }, shown = { con: null, view: null, station: null, found: null }, lot = null, busy = false, active = null;
+let setup = [], setupHash = "", known = { stations: {}, former: {} }, person = { name: "", role: "" }, shown = { con: null, view: null, station: null, found: null }, busy = false, active = null;
 // The moment from which on the page asks for names and the former result.
 let siteAgain = 0;
 // The revision of returns that this page has not seen, as far as an answer named it; the stations
@@ -255,10 +255,8 @@ async function command(target, body, done, receipt, isLook = () => false) {
   say(T.sent);
   try {
     const answer = await ask("POST", target, body), value = answer.value || {};
-    // A request of the board that waits for a second name is not done. That of a lot says among
-    // whom.
-    const waits = answer.status === 202, group = value.group || (waits && lotOf(value));
-    if (group) lot = { con: shown.con, edition: shown.view.edition, group };
+    // A request of the board that waits for a second name is not done.
+    const waits = answer.status === 202;
     if (shown.station && (value.now || value.rev)) revisions[shown.station] = value.now || value.rev;
     if (answer.ok) shown.again = false;
     if (answer.ok && receipt.leaves) listed.filter((one) => one.code === receipt.station).forEach((one) => { one.status = receipt.leaves; });
@@ -271,11 +269,6 @@ async function command(target, body, done, receipt, isLook = () => false) {
   } finally {
     setBusy(false);
   }
-}
-
-function lotOf({ others }) {
-  const order = others.filter(({ act }) => act === "draw").map(({ body }) => read(body).order).at(-1);
-  return Array.isArray(order) && order.every(isCode) ? [...order].sort() : null;
 }
 
 // Until when a request waits for a second name, who asked for the same before a return or the
@@ -295,7 +288,7 @@ function setBusy(now) {
   busy = now;
   if (now) active = document.activeElement;
   for (const part of document.querySelectorAll("fieldset, button, #con, #station")) part.disabled = now;
-  if (!now && active) active.focus();
+  if (!now) active.focus();
 }
 
 // Goes to where somebody types on: the slip of a return that is to be entered, or else the next
@@ -324,12 +317,12 @@ async function look() {
   const [result, seen] = await Promise.all([
     resultOf(con), station && !blind() ? ask("GET", `/now/station/${encodeURIComponent(station)}`) : null, learnSite()]);
   const view = shown.view = result.ok ? viewOf(result.value) : null;
-  // Who does not see a return learns its revision from the list, where some were corrected.
-  const isOld = view && (isListed || (station && blind() && view.queried + view.corrected)), open = isOld ? await listStations() : null;
+  const open = view && isListed ? await listStations() : null;
+  // Who does not see a return learns its revision from the answer to a confirmation of a former
+  // one: the table of all stations would cost a large constituency too much at each choice.
   const found = station && blind() ? unseen(station) : seen;
-  if (view && !view.certified && view.closed === view.stations && person.role === "board") lot = lotNeeded(view);
   const there = found && (found.ok ? found.value :
-    found.value && found.value.word === "no_return" ? { station, rev: 0, status: "none" } : null);
+    found.value && found.value.word === "no_return" ? { station, status: "none" } : null);
   // Its votes are in the order of the lists that are shown only where it is a station of this
   // constituency.
   if (constituency().stations.some((one) => one.code === station)) shown.found = there;
@@ -338,7 +331,7 @@ async function look() {
   if (open) showOpen();
   learn();
   showReturn();
-  showView(view && !blind() ? view.holders : []);
+  showView();
   // Before the hour from which results are public a station sees its own return alone.
   const isClosed = result.status === 403 && person.role === "station";
   return (result.ok || isClosed ? "" : ` ${sentence(result)}`) + (!found || shown.found ? "" : there ? ` ${UNKNOWN}` : ` ${sentence(found)}`);
@@ -351,7 +344,7 @@ async function resultOf(con) {
   if (result.status !== 404 || result.value || !["second", "station"].includes(person.role)) return result;
   const [view, progress] = await Promise.all([ask("GET", `/now/con/${con}`), ask("GET", "/now/progress")]);
   const row = progress.text.split("\n").map((line) => line.trim().split(/ +/)).find(([code]) => code === con);
-  if (!view.ok || !row) return view.ok ? { ...progress, ok: false } : view;
+  if (!view.ok || !row) return view.ok ? { ...progress, ok: false, status: progress.ok ? 502 : progress.status } : view;
   const [stations, , received, queried, corrected, closed] = row.slice(1).map(Number), { votes, seats, gone } = view.value;
   return { ...view, value: { ...view.value, stations, received, queried, corrected, closed,
     lists: votes.map((many, place) => ({ votes: many, seats: seats[place] })), holders: [],
@@ -380,9 +373,10 @@ function viewOf(result) {
     holders: result.holders.filter(([, place]) => place).map(([list, place, name]) => ({ list, place, name: isolated(name) })) };
 }
 
-// The lot that the closed votes need and that is not recorded: among whom, and for how many seats.
-function lotNeeded({ status, con, edition, question, group }) {
-  return status === "lot" ? { con, edition, seats: question, group } : null;
+// The lot that the votes need once all returns are closed, which the board draws: among whom, and
+// for how many seats.
+function lotNeeded({ status, closed, stations, question, group }) {
+  return status === "lot" && closed === stations && person.role === "board" ? { group, seats: question } : null;
 }
 
 // ---- showing
@@ -457,17 +451,17 @@ function showPlace() {
   element("place").replaceChildren(...lines);
 }
 
-function showView(holders) {
-  const view = shown.view;
+function showView() {
+  const view = shown.view, holders = view ? view.holders : [], lot = view && lotNeeded(view);
   element("view").replaceChildren(...(view ? viewParts(view) : []));
   element("find").hidden = !view || view.closed === view.stations;
   shows("list-waiting", view && !view.certified);
   shows("certify", view && !view.certified);
-  shows("draw", view && lotOpen(view));
-  shows("vacate", view && view.certified && holders.length);
+  shows("draw", lot);
+  shows("vacate", holders.length);
   shows("reopen", view && view.certified);
   shows("import", view);
-  if (!element("draw").hidden) showDraw();
+  if (lot) showDraw(lot);
   element("vacate").elements.holder.replaceChildren(...holders.map((one) => {
     const option = made("option", T.holder_choice({ list: one.list, place: one.place, name: one.name }));
     option.value = JSON.stringify({ list: one.list, place: one.place });
@@ -475,14 +469,11 @@ function showView(holders) {
   }));
 }
 
-// Whether a lot is known to be needed.
-const lotOpen = (view) => Boolean(!view.certified && lot && lot.con === shown.con && lot.edition === view.edition && !view.lot.length);
-
 function viewParts(view) {
   const state = view.certified ? T.state_certified : T.state_open, missing = view.stations - view.closed;
   const words = [T.con_state({ con: constituency().name, state })];
   if (!view.certified) words.push(missing ? T.still_to_close({ number: missing, stations: view.stations }) : T.all_closed);
-  const needs = lotOpen(view) && lot.seats ? [Object.assign(made("p", T.lot_missing({ lists: lot.group.join(", "), seats: T.seats({ number: lot.seats }) })), { className: "look" })] : [];
+  const lot = lotNeeded(view), needs = lot ? [Object.assign(made("p", T.lot_missing({ lists: lot.group.join(", "), seats: T.seats({ number: lot.seats }) })), { className: "look" })] : [];
   if (view.lot.length) words.push(T.lot_line({ lists: view.lot.join(", ") }));
   if (view.note) words.push(T.reopening_note({ note: isolated(view.note) }));
   const gone = view.gone.map((one) => made("p", T.gone_line({ list: one.list, place: one.place, note: isolated(one.note) })));
@@ -494,7 +485,7 @@ function listRows(view) {
     view.certified ? T.votes_and_seats({ votes: T.votes({ number: view.votes[place] }), seats: T.seats_given({ number: view.seats[place] }) }) : T.votes({ number: view.votes[place] })]);
 }
 
-function showDraw() {
+function showDraw(lot) {
   const help = T.lot_lists({ lists: lot.group.join(", ") });
   // What was chosen stays.
   if (element("draw-help").textContent === help) return;
@@ -559,7 +550,7 @@ const FAR = 3.3, EXCHANGED = 10;
 const FEW = 3, ENOUGH = 300;
 // The lists' votes of closed returns of a constituency, as published; how many were closed when
 // that was asked for.
-let learned = { con: null, closed: 0, spreads: [] };
+let learned = { con: null };
 
 // The shares that are expected of a return, a list each, with the variance of the logarithm; null
 // where nothing is known.
@@ -713,10 +704,10 @@ let pile = { con: null };
 const returned = new Set();
 
 function putOnPile(station, slip) {
-  if (pile.con !== shown.con) pile = { con: shown.con, stations: [], head: null, digits: "", isNumbered: false, step: 1, jumps: 0 };
+  if (pile.con !== shown.con) pile = { con: shown.con, stations: [], head: null, digits: "", jumps: 0 };
   const [, head, digits] = /^(.*?)([0-9]{1,9})$/.exec(slip) || [null, null, ""], step = Number(digits) - Number(pile.digits);
-  const follows = head !== null && head === pile.head && Math.abs(step) === 1;
-  Object.assign(pile, { stations: [station, ...pile.stations].slice(0, 2), head, digits, isNumbered: follows || (pile.isNumbered && head === pile.head),
+  const follows = head === pile.head && Math.abs(step) === 1;
+  Object.assign(pile, { stations: [station, pile.stations[0]], head, digits, isNumbered: follows || (pile.isNumbered && head === pile.head),
     step: follows ? step : pile.step, jumps: follows ? 0 : pile.jumps + 1, isPadded: /^0./.test(digits) || (pile.isPadded && head === pile.head) });
 }
 
@@ -760,7 +751,7 @@ function proposeSlip() {
 
 // Whether something was typed, or an order of a lot was chosen, that was not sent.
 function unsent() {
-  return [...document.forms].some((form) => [...form.elements].some((field) => field.required && field.value && field.name !== "holder"));
+  return [...document.forms].some((form) => [...form.elements].some((field) => field.required && field.value));
 }
 
 // Whether it may go.
@@ -829,10 +820,10 @@ const toCon = (name, body, done, title, rows) => command(`/con/${shown.con}/${na
 
 onSubmit("lodge", async (form) => {
   if (!checked(form)) return null;
-  const { station } = shown, typed = figures(form), isFirst = !shown.again;
+  const { station } = shown, typed = figures(form);
   const answer = await toStation("lodge", typed, (value) => value.ok === "same" ? T.same_recorded : T.lodged,
     T.receipt_lodge, () => [[T.slip, typed.slip]]);
-  if (answer.ok && isFirst) putOnPile(station, typed.slip);
+  if (answer.ok) putOnPile(station, typed.slip);
   return answer;
 });
 onSubmit("confirm", (form) => {
@@ -902,21 +893,28 @@ const refusedRows = () => made("ul", null, ...refusedLines.map(({ line, reason, 
   return item;
 }));
 
-// Where each row of a file begins, by its line, and its text. A field in quotes may go over several
-// lines.
-function rowsOfFile(text) {
+// Where each row of a file begins, by its line, and its text, as the office divides it: an empty
+// line is no row, and a field that begins with a quote may go over several lines.
+function rowsOfFile(text, separator) {
   const rows = [];
-  let quotes = 0;
-  text.split("\n").forEach((line, place) => {
-    if (quotes % 2) rows.at(-1).text += ` ${line}`;
-    else if (line.trim()) rows.push({ line: place + 1, text: line });
-    quotes += line.split('"').length - 1;
+  let isOpen = false;
+  text.split(/\r\n|\r|\n/).forEach((line, place) => {
+    if (isOpen) rows.at(-1).text += ` ${line}`;
+    else if (line) rows.push({ line: place + 1, text: line });
+    let begins = !isOpen;
+    for (let at = 0; at < line.length; at += 1) {
+      if (!isOpen) isOpen = begins && line[at] === '"';
+      else if (line[at] === '"' && line[at + 1] === '"') at += 1;
+      else isOpen = line[at] !== '"';
+      begins = !isOpen && line[at] === separator;
+    }
   });
   return rows;
 }
 
 async function readRefused(form, answer) {
-  fileRows = rowsOfFile(await form.elements.file.files[0].text().catch(() => ""));
+  const { file, separator } = form.elements;
+  fileRows = rowsOfFile(await file.files[0].text().catch(() => ""), separator.value ? ";" : ",");
   refusedLines = answer.split("\n").filter(Boolean).slice(6).map((one) => one.split(" ")).map(([, row, , word, of]) => {
     const { text } = fileRows[Number(row)] || { text: "" };
     return { line: lineOf(Number(row)), reason: CAUSES[word](of), text: isolated(text.trim().slice(0, 60)) };
@@ -1034,8 +1032,8 @@ async function showHistory() {
 // columns are the code, the electors, the status and the revision. Others may follow, and none has
 // a blank in it.
 function readStations(text) {
-  const rows = text.split("\n").slice(2).map((line) => line.split(" ").filter(Boolean)).filter((row) => row.length > 2);
-  return rows.map(([code, , status, rev]) => status === "-" ? { code, status: "none", rev: 0 } : { code, status, rev: Number(rev) });
+  const rows = text.split("\n").slice(2).map((line) => line.split(" ").filter(Boolean)).filter((row) => row.length);
+  return rows.map(([code, , status, rev]) => status === "-" ? { code, status: "none" } : { code, status, rev: Number(rev) });
 }
 
 // Asks which stations have what; what was answered.
@@ -1088,7 +1086,7 @@ let closings = [];
 const hourOf = (time) => new Intl.DateTimeFormat(LANGUAGE, { hour: "2-digit", minute: "2-digit", hourCycle: "h23" }).format(new Date(time));
 
 function pace() {
-  const [first, last] = [closings[0], closings.at(-1)], minutes = first ? (last.time - first.time) / MINUTE : 0;
+  const [first, last] = [closings[0], closings.at(-1)], minutes = (last.time - first.time) / MINUTE;
   if (minutes < 1) return [];
   const number = last.closed - first.closed;
   return [made("p", T.pace({ minutes: Math.round(minutes), number, rate: Math.round(number / minutes * 60) }))];
@@ -1200,8 +1198,10 @@ async function begin() {
   const linked = location.hash.slice(1), station = person.role === "station" ? person.name : homeOf(linked) ? linked : null;
   const home = station ? homeOf(station) : setup[0];
   element("station").readOnly = person.role === "station";
-  if (station && !home) element("station").value = station;
-  if (!home) return say(UNKNOWN, "refused");
+  if (!home) {
+    element("station").value = station;
+    return say(UNKNOWN, "refused");
+  }
   await choose(home.code, station);
   if (!station && ["clerk", "second"].includes(person.role)) element("station").focus();
 }
@@ -1301,7 +1301,7 @@ addEventListener("invalid", ({ target }) => {
 for (const event of ["click", "input"]) {
   addEventListener(event, ({ target }) => {
     for (const field of target.form ? target.form.elements : []) field.setCustomValidity("");
-  }, true);
+  });
 }
 addEventListener("beforeunload", (event) => { if (unsent()) event.preventDefault(); });
 begin();

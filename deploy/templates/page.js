@@ -13,8 +13,10 @@ function searchTable() {
   search.hidden = false;
   field.addEventListener("input", async () => {
     for (const link of field.value ? more.splice(0) : []) {
-      const page = parsed(await (await fetch(link.href)).text());
-      all.push(...page.querySelectorAll(".searched tbody tr"));
+      const answer = await fetch(link.href).catch(Response.error);
+      // A page that does not come is asked for again with the next letter.
+      if (!answer.ok) more.push(link);
+      else all.push(...parsed(await answer.text()).querySelectorAll(".searched tbody tr"));
     }
     const wanted = plain(field.value);
     const found = wanted ? all.filter((row) => plain(row.textContent).includes(wanted)) : own;
@@ -54,7 +56,8 @@ function findNames(search) {
   field.addEventListener("input", async () => {
     const typed = field.value, wanted = plain(typed.trim());
     known ??= read();
-    const found = wanted ? (await known).filter((one) => one.plain.includes(wanted)) : [];
+    const all = await known.catch(() => known = null) ?? [];
+    const found = wanted ? all.filter((one) => one.plain.includes(wanted)) : [];
     if (field.value !== typed) return;
     list.replaceChildren(...found.slice(0, 30).map(row));
     said.textContent = wanted && (found.length || search.dataset.none);

@@ -116,7 +116,7 @@ class Entries(SiteCase):
             [
                 ("clara", "/station/s1/lodge", SLIP, "192.0.2.1"),
                 ("sara", "/station/s1/confirm", {}, "192.0.2.1"),
-                ("clara", "/station/s2/lodge", SLIP, "192.0.2.1"),
+                ("clara", "/station/s2/lodge", SLIP | {"slip": "p2"}, "192.0.2.1"),
                 ("sara", "/station/s2/confirm", {}, "192.0.2.2"),
             ]
         )

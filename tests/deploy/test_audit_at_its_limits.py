@@ -1,5 +1,6 @@
 """The audit of seats: papers from a spreadsheet, lots, and an audit at its limit exactly."""
 
+import argparse
 import io
 from contextlib import redirect_stdout
 from fractions import Fraction
@@ -30,7 +31,44 @@ def assessed(papers, returns=RETURNS):
     return audit(*ASSESS.split())
 
 
+class Words(Case):
+    def test_the_words_of_a_command(self):
+        """Limits of more than 0 and less than 100 per cent; 1 to 999999 draws; seeds of 20
+        digits."""
+        for read, taken, refused in (
+                (tool.limit, {"0.0001": Fraction(1, 10**6), "0.5": Fraction(1, 200),
+                              "1": Fraction(1, 100), "99.9999": Fraction(999999, 10**6)},
+                 ("0", "0.0000", "100", "100.0", "0.00001", "1000", "5.", ".5", "5%", "")),
+                (tool.draws_number, {"1": 1, "000010": 10, "999999": 999999},
+                 ("0", "000000", "1000000", "-1", "1.0", "")),
+                (tool.seed_digits, {SEED: SEED, "0" * 20: "0" * 20},
+                 ("1" * 19, "1" * 21, f"{SEED[:-1]}x", f"{SEED}\n", "\uff11" * 20))):
+            for text, value in taken.items():
+                with self.subTest(read=read.__name__, text=text):
+                    self.assertEqual(read(text), value)
+            for text in refused:
+                with self.subTest(read=read.__name__, text=text):
+                    self.assertRaises(argparse.ArgumentTypeError, read, text)
+
+
+    def test_words_that_are_missing(self):
+        for act, named in (("plan", "--setup, --returns, --risk"), ("draw", "--setup, --returns"),
+                           ("assess", "--setup, --returns, --risk, --papers")):
+            with self.subTest(act=act):
+                ran = audit(act, *["--all"] * (act == "draw"))
+                self.assertEqual((ran.status, ran.out, ran.err.splitlines()[-1]), (
+                    2, "", f"audit.py {act}: error: the following arguments are required: {named}"))
+
+
 class PapersOfASpreadsheet(Case):
+    def test_papers_that_are_filled_in_in_part(self):
+        """A station whose blank votes alone are written is not one that is not counted yet."""
+        for filled, said in (("3,,,", "''"), ("x,0,1,2", "'x'"), ("3,x,1,2", "'x'")):
+            with self.subTest(filled=filled):
+                ran = assessed(f"station,drawn,blank,spoiled,A,B\ns1,1,{filled}\n")
+                self.assertEqual((ran.status, ran.out, ran.err), (
+                    2, "", f"audit.py: papers.csv, line 2: {said} of station s1 is not a number\n"))
+
     def test_a_mark_semicolons_and_carriage_returns(self):
         """As spreadsheets save a CSV file."""
         quoted = '"' + PAPERS.rstrip("\n").replace(",", '","').replace("\n", '"\n"') + '"\n'
@@ -107,6 +145,41 @@ class Rules(Case):
                 ran = audit(*"plan --setup setup.toml --returns returns.csv --risk 5".split())
                 self.assertEqual((ran.status, ran.err.count("\n")), (status, status // 2), ran)
 
+    def test_what_is_wrong_in_a_setup_is_named(self):
+        """Also where it is one station's, and the others are right."""
+        write("returns.csv", RETURNS)
+        other = station("s4", 100)
+        for old, new, said in (
+                ('base = "valid"', 'base = "votes"', "the rule of c1 is not known"),
+                ('method = "dhondt"', 'method = "saint-lague"', "the rule of c1 is not known"),
+                (other, station("s4", -1), "the electors of a station of c1 are no number"),
+                (other, f"{other}agents = true\n",
+                 "the electors of a station of c1 are no number")):
+            with self.subTest(new=new):
+                self.assertIn(old, SETUP + other)
+                write("setup.toml", (SETUP + other).replace(old, new))
+                ran = audit(*"plan --setup setup.toml --returns returns.csv --risk 5".split())
+                self.assertEqual((ran.status, ran.out, ran.err),
+                                 (2, "", f"audit.py: setup.toml: {said}\n"))
+
+    def test_who_takes_part(self):
+        """A has 90 votes, B 10, and 100 are blank: of the votes for lists B has a tenth, of the
+        valid ones a twentieth. A threshold that it reaches exactly lets it take part."""
+        for base, threshold, wanted in (("lists", 1000, [0, 1]), ("lists", 1001, [0]),
+                                        ("valid", 500, [0, 1]), ("valid", 501, [0])):
+            with self.subTest(base=base, threshold=threshold):
+                con = con_of("dhondt", 3, 2, [200], threshold, base)
+                self.assertEqual(tool.taking_part(con, [90, 10], 100), wanted)
+        # Of 20,000 votes 50.01 per cent are 10,002.
+        for votes, wanted in (([9999, 10001], []), ([9998, 10002], [1])):
+            con = con_of("hare", 3, 2, [20000], 5001, "lists")
+            self.assertEqual(tool.taking_part(con, votes, 7), wanted)
+        # Without a threshold one without a vote takes part too, and with one a vote is needed.
+        for threshold, votes, wanted in ((0, [1, 0], [0, 1]), (5000, [1, 1], [0, 1]),
+                                         (5000, [0, 0], [])):
+            con = con_of("dhondt", 3, 2, [200], threshold, "lists")
+            self.assertEqual(tool.taking_part(con, votes, 0), wanted)
+
     def test_a_setup_with_more_seats_than_the_office_takes(self):
         write("returns.csv", RETURNS)
         for seats, status in ((0, 2), (500, 0), (501, 2), (10**9, 2), ('"3"', 2), ("true", 2),
@@ -121,6 +194,62 @@ class Rules(Case):
         con = con_of("dhondt", 3, 1, [100], 10000, "lists")
         found = audit_of(con, [[60, 5, 1]])
         self.assertEqual([it.words for it in found.assertions], ["A has a vote"])
+
+
+    def words_of(self, *given):
+        """The assertions of a constituency with one station of 400 electors, in words."""
+        con, votes = con_of(*given[:3], [400], given[3]), given[4]
+        return [it.words for it in audit_of(con, [[*votes, 0, 0]]).assertions]
+
+    def test_a_list_below_the_threshold_is_shown_by_what_is_easier_to_show(self):
+        """By D'Hondt of five seats A has four, with 200 votes, and B one, with 41; C has 10.
+
+        The most that can be wrong: of A's fourth seat before C's first (200 - 4 x 10 + 4 x 400) /
+        161 = 10.9, of B's first before it (41 - 10 + 400) / 31 = 13.9. A threshold of t
+        ten-thousandths of 251 votes is not reached with (251 t - 100000 + (10000 - t) x 400) /
+        (251 t - 100000): 13.3 where t is 1500, and 14.7 where it is 1400.
+        """
+        below, seats = "C is below the threshold", {
+            "A's seat 4 comes before C's seat 1", "B's seat 1 comes before C's seat 1"}
+        for threshold, wanted in ((1500, {below}), (1400, seats)):
+            with self.subTest(threshold=threshold):
+                found = self.words_of("dhondt", 5, 3, threshold, [200, 41, 10])
+                self.assertEqual({words for words in found if "C" in words}, wanted)
+
+    def test_a_list_below_the_threshold_whose_quotient_is_as_great(self):
+        """Of four seats A has all: its fourth quotient is 25, as is B's first, or a little less.
+
+        With 100 votes A's fourth seat comes before B's first, by one vote, which is closer than
+        0.01 per cent of 125 votes; with 99 B is out for its threshold alone.
+        """
+        for threshold, votes, wanted in ((2001, [100, 25], "A's seat 4 comes before B's seat 1"),
+                                         (2100, [99, 25], "B is below the threshold")):
+            with self.subTest(votes=votes):
+                found = self.words_of("dhondt", 4, 2, threshold, votes)
+                self.assertEqual([words for words in found if "B" in words], [wanted])
+
+
+class Errors(Case):
+    def test_a_bound_where_two_assertions_are_as_close(self):
+        """By D'Hondt of two seats A has one with 90 votes and D the other with 50, before B and C
+        with 40 each.
+
+        The ten electors of s1 voted for A. On paper they may have voted for B, or for C: 20 of the
+        50 votes of either's distance from A. Of the 10 from D's seat 10 are missing then.
+        """
+        con = con_of("dhondt", 2, 4, [10, 240])
+        it = audit_of(con, [[10, 0, 0, 0, 0, 0], [80, 40, 40, 50, 0, 0]])
+        self.assertEqual((it.seats, it.bounds["s1"]), ([1, 0, 0, 1], 1000000))
+
+    def test_an_error_by_quotas(self):
+        """Of four seats A has two with 120 votes, and B two with 80: the claims are 2.4 and 1.6.
+
+        Ten votes for A are spoiled on paper. A's second before B's third is 4 x 120 - 4 x 80 + 200
+        = 360, and has 4 x 10 + 10 less.
+        """
+        it = audit_of(con_of("hare", 4, 2, [100] * 3),
+                      [[60, 20, 0, 0], [50, 30, 0, 0], [10, 30, 0, 0]])
+        self.assertEqual(it.error("s1", [50, 20, 0, 10]), 138889)
 
 
 class AtTheLimit(Case):
@@ -140,6 +269,18 @@ class AtTheLimit(Case):
         self.assertEqual(self.followed(risk, 3), 0)
         self.assertEqual(self.followed(risk - Fraction(1, 10**12), 3), 1)
         self.assertEqual(self.followed(risk, 2), 1)
+
+    def test_no_draw_is_looked_at_after_one_that_is_not_counted(self):
+        """Whatever is counted of the stations that come later."""
+        it = audit_of(con_of("dhondt", 3, 2, [100] * 3),
+                      [[60, 20, 0, 0], [50, 30, 0, 0], [10, 30, 0, 0]])
+        with redirect_stdout(io.StringIO()) as said:
+            counted = {one: it.recorded[one] for one in ("s1", "s2")}
+            status = tool.follow(it, SimpleNamespace(seed=SEED, risk=Fraction(1, 20)),
+                                 ["s1", "s3", "s2"], counted)
+        rows = [line.split()[:2] for line in said.getvalue().splitlines()[2:]]
+        self.assertEqual((status, rows[:3]), (1, [["1", "s1"], ["The", "papers"],
+                                                  ["Not", "confirmed."]]))
 
     def test_a_station_that_is_drawn_a_thousand_times(self):
         """Of 4,000 draws each of three stations has more than a fifth."""
@@ -171,3 +312,23 @@ class Expected(Case):
                 found = tool.Audit.reached(it, draws)
                 self.assertAlmostEqual(found[0], stations, places=6)
                 self.assertAlmostEqual(found[1], papers, places=6)
+
+    def test_draws_where_hardly_any_error_is_possible(self):
+        """Of one list U is 1: where it has no vote its station shows it, and one draw leaves no
+        risk. With a threshold of a tenth U is 1.11, so that a draw leaves a tenth of the risk, and
+        two leave a hundredth."""
+        for threshold, draws, total in ((0, 1, 1000000), (1000, 2, 1111110)):
+            with self.subTest(threshold=threshold):
+                it = audit_of(con_of("dhondt", 3, 1, [100], threshold), [[100, 0, 0]])
+                self.assertEqual((it.sums[-1], it.expected(20)), (total, draws))
+
+    def test_draws_where_votes_are_recorded_wrongly(self):
+        """U is 8.5, and 20 wrong votes make the closest assertion false. Of 300 votes, of which 100
+        are blank, 3 are wrong: errors of 0.15 together, so that a draw leaves 15/17 / (1 - 0.15 /
+        8.5) = 0.898 of the risk on the average, and 28 draws leave less than a twentieth."""
+        it = SimpleNamespace(sums=[3500000, 8500000], votes=[120, 80], blank=100,
+                             assertions=[SimpleNamespace(votes=lambda: Fraction(20))])
+        self.assertEqual(tool.Audit.expected(it, 20, 0.01), 28)
+        # Where 20 of 300 are wrong no number of draws is enough.
+        self.assertIsNone(tool.Audit.expected(it, 20, 0.067))
+        self.assertGreater(tool.Audit.expected(it, 20, 0.066), 1000)

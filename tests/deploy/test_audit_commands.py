@@ -103,6 +103,18 @@ def spent(act):
 
 
 class AuditCommands(Case):
+    def test_returns_without_a_certificate(self):
+        """All of them are closed: the plan is one, and says that nobody has certified them."""
+        given()
+        Path("returns.csv").rename("stations-c1-open.csv")
+        ran = run("plan --setup setup.toml --returns stations-c1-open.csv --risk 5")
+        self.assertEqual((ran.status, ran.out.splitlines()[-1]), (
+            0, "stations-c1-open.csv has the returns of no certificate: what is certified may "
+               "differ."))
+        Path("stations-c1-open.csv").rename("stations-c1-2.csv")
+        ran = run("plan --setup setup.toml --returns stations-c1-2.csv --risk 5")
+        self.assertRegex(ran.out.splitlines()[-1], "^returns  [0-9a-f]{64}  stations-c1-2.csv$")
+
     def test_a_plan(self):
         given()
         ran = run(f"plan {GIVEN} --risk 5")

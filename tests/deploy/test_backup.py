@@ -347,23 +347,31 @@ class Backup(SiteCase):
         page = (DEPLOY / "README.md").read_text(encoding="utf-8")
         [lines] = re.findall(r"\n    \(\n((?:    .*\n)*?.*recount.py office.db\n(?:    .*\n)*?)"
                              r"    \)\n", page)
-        for old, new in (("systemctl start office-backup@$site",
-                          f"{DEPLOY}/backup data.db lib/$site/backup"),
-                         ("runuser -u office -- ", ""), ("/var/lib/office", "lib"),
-                         ("/usr/lib/office", str(ROOT / "examples")), ("/var/www/office", "pages")):
+        for old, here in (("systemctl start office-backup@$site",
+                           f"{DEPLOY}/backup data.db lib/$site/backup"),
+                          ("runuser -u office -- ", ""), ("/var/lib/office", "lib"),
+                          ("/usr/lib/office", str(ROOT / "examples")),
+                          ("/usr/bin/office", PROGRAM), ("/var/www/office", "pages")):
             self.assertIn(old, lines)
-            lines = lines.replace(old, new)
+            lines = lines.replace(old, str(here))
         Path("pages/site").mkdir(parents=True)
         Path("lib/site/backup").mkdir(parents=True)
         Path("lib/site/backup/office-20261126T221400Z-00001234.db").write_bytes(b"an older copy")
 
         def publish():
-            return tools.run(["sh", "-c", f"(\n{lines})"], env={**os.environ, "site": "site"},
-                             capture_output=True, timeout=PATIENCE).returncode
+            ran = tools.run(["sh", "-c", f"(\n{lines})"], env={**os.environ, "site": "site"},
+                            capture_output=True, timeout=PATIENCE)
+            self.said = ran.stdout.decode().splitlines()
+            return ran.returncode
 
         published = Path("pages/site/office.db")
         self.assertTrue(publish())
         self.assertFalse(published.exists(), "without a database nothing is published")
+        new(with_stations(1), "data.db")
+        self.assertTrue(publish())
+        self.assertRegex(self.said[-1], "^c1 .* open$")
+        self.assertFalse(published.exists(), "one is not certified")
+        time.sleep(1.1)
         shutil.copy(ROOT / "examples/montehondo.db", "data.db")
         self.assertEqual(publish(), 0)
         wanted = max(Path("lib/site/backup").iterdir()).read_bytes()
@@ -434,7 +442,7 @@ class Backup(SiteCase):
             entry["time"] = f"2026-11-26T{moments[(n - len(lines) + 6) // 2]}:00.000+00:00"
         self.assertEqual(own, len(lines) - 4)
         for words, sent in ((["--after", str(own)], "sent 2, to look at 0;"),
-                            (["--since", "2026-11-26T21:08:00+00:00"], "sent 1, to look at 1;")):
+                            (["--since", "2026-11-26T21:08:00+00:00"], "sent 1, to look at 2;")):
             again = Office(shutil.copy(copy, "again.db"), free_port())
             again.start()
             try:

@@ -80,6 +80,7 @@ class Building(Case):
                 ("con la mesa {station}.", "con la mesa {mesa}.", "other places than ['station']"),
                 ("está mal, {act}.", "está mal.", "differs has other places than ['act']"),
                 ('note = "Motivo"', "note = 3", "note is no text"),
+                ('{ one = "1 voto", other', '{ one = 1, other', "votes is no text"),
                 ('note = "Motivo"', 'note = "Motivo {"', "note has a brace that is no place"),
                 ('note = "Motivo"', 'note = { other = "a", one = "b" }',
                  "note has forms in one language and none in the other"),
@@ -121,6 +122,36 @@ class Building(Case):
                 SPANISH.replace('language = "es"', 'language = "eu"'), encoding="utf-8")
             self.assertEqual(build(folder, "--language", "eu", folder / "own.html"), ("", 0))
             self.assertIn('<html lang="eu">', (folder / "own.html").read_text(encoding="utf-8"))
+            # A text may have all forms that there are.
+            forms = ("zero", "one", "two", "few", "many")
+            own = ", ".join(f'{form} = "{form} {{number}}"' for form in forms)
+            (folder / "clerk/texts_eu.toml").write_text(
+                SPANISH.replace('language = "es"', 'language = "eu"').replace(
+                    'votes = { one = "1 voto"', f"votes = {{ {own}"), encoding="utf-8")
+            self.assertEqual(build(folder, "--language", "eu", folder / "own.html"), ("", 0))
+            self.assertIn("few: `few ${shownAs(", (folder / "own.html").read_text("utf-8"))
+
+    def test_a_text_used_without_blanks(self):
+        """A blank more or less makes no other page."""
+        with copy_of_deploy() as folder:
+            file = folder / "clerk/script.js"
+            text, wide = file.read_text(encoding="utf-8"), "T.nothing_done({ station })"
+            self.assertIn(wide, text)
+            file.write_text(text.replace(wide, "T.nothing_done({station})"), encoding="utf-8")
+            self.assertEqual(build(folder, "--check"), ("", 0))
+
+    def test_how_it_is_called(self):
+        with copy_of_deploy() as folder:
+            for words in (("--language", "es"), ("own.html",), ("--check", "own.html"),
+                          ("--check", "--language", "es", "own.html")):
+                with self.subTest(words=words):
+                    said, status = build(folder, *words)
+                    self.assertEqual((status, said.splitlines()[-1]), (
+                        2, "build-clerk: error: a language and a file belong together"))
+            # A page that is missing is not what it would write either.
+            (folder / "www/clerk.html").unlink()
+            self.assertEqual(build(folder, "--check"), (
+                "failed: www/clerk.html: not what deploy/build-clerk writes\n", 1))
 
     def test_markup_in_a_text(self):
         """It is text, in the page and in the script."""

@@ -199,6 +199,55 @@ class Copies(Case):
         self.assertEqual(self.sends(), (0, "", ["list", f"append {RECORD} 6 8"]))
         self.assertEqual(contents("kept"), {RECORD: b"one\ntwo\nthree\n"})
 
+    def test_as_many_bytes_as_were_said(self):
+        """More is not kept, whatever is read at a time."""
+        Path("kept", RECORD).write_bytes(b"one\n")
+        for part in (2, 3, 1 << 20):
+            with self.subTest(part=part), mock.patch.object(self.keep, "PART", part):
+                self.assertEqual(self.asks(f"add {COPY} 6", b"a copy and more"), (0, "", ""))
+                self.assertEqual(self.asks(f"append {RECORD} 4 4", b"two\nthree\n"), (0, "", ""))
+                self.assertEqual(contents("kept"), {COPY: b"a copy", RECORD: b"one\ntwo\n"})
+                hashed = hashlib.sha256(b"one\ntwo\n").hexdigest()
+                self.assertEqual(self.asks("list")[1], f"{RECORD} 8 {hashed}\n{COPY} 6\n")
+            Path("kept", COPY).unlink()
+            Path("kept", RECORD).write_bytes(b"one\n")
+
+    def test_what_is_asked_of_the_other_computer(self):
+        """Words in one, and after them the bytes of the file that were said, and no more."""
+        send, host = loaded("send-copies"), "keeper@host.example"
+        Path("commands.log").write_bytes(b"one\ntwo\nthree\n")
+        for part in (3, 1 << 20):
+            with self.subTest(part=part), mock.patch.object(send, "PART", part), \
+                    mock.patch.dict(os.environ, OFFICE_SSH="sh -c 'echo \"$0: $1\"; cat'"):
+                there = send.There(host)
+                self.assertEqual(there.ask("list"), f"{host}: list\n")
+                self.assertEqual(there.ask("add", RECORD, 7, file="commands.log", size=7),
+                                 f"{host}: add {RECORD} 7\none\ntwo")
+                self.assertEqual(
+                    there.ask("append", RECORD, 4, 6, file="commands.log", at=4, size=6),
+                    f"{host}: append {RECORD} 4 6\ntwo\nth")
+        with mock.patch.dict(os.environ, OFFICE_SSH="sh -c cat"):
+            with self.assertRaisesRegex(send.Failed, "^commands.log is shorter than it was$"):
+                send.There(host).ask("add", RECORD, 15, file="commands.log", size=15)
+        with mock.patch.dict(os.environ, OFFICE_SSH="sh -c 'exit 3'"):
+            with self.assertRaisesRegex(send.Failed, "^list: status 3$"):
+                send.There(host).ask("list")
+
+    def test_the_status_of_a_send(self):
+        """It is 0 also where there is no record yet, and 1 where something was refused."""
+        Path("copies", COPY).write_bytes(b"a copy")
+        self.assertEqual(self.sends(), (0, "", ["list", f"add {COPY} 6"]))
+        Path("copies", LATER).write_bytes(b"a later copy")
+        with mock.patch.object(self.keep, "ROOM", 1 << 60):
+            self.assertEqual(self.sends(), (
+                1, "send-copies: keep-copies: kept has not room for 12 bytes more\n\n",
+                ["list", f"add {LATER} 12"]))
+        self.assertEqual(self.sends(), (0, "", ["list", f"add {LATER} 12"]))
+        for words in ((), ("commands.log", "copies"), ("a", "b", "c", "d")):
+            with self.subTest(words=words), contextlib.redirect_stderr(io.StringIO()) as said:
+                self.assertEqual(loaded("send-copies").main(words), 2)
+                self.assertTrue(said.getvalue().startswith("usage: send-copies RECORD FOLDER"))
+
     def test_words_that_it_does_not_know(self):
         for words in ((), ("kept", "kept"), ("--again", "kept"), ("--kept",), ("",) * 4):
             with self.subTest(words=words), contextlib.redirect_stderr(io.StringIO()) as said:
@@ -212,6 +261,18 @@ class Copies(Case):
                     lambda: keep.append(Path("kept"), RECORD, 0, 1, None)):
             self.assertRaises(keep.Refused, act)
         self.assertEqual(contents("kept"), {})
+
+    def test_what_is_kept_again_needs_room_where_it_is_new(self):
+        Path("again").mkdir()
+        Path("kept", COPY).write_bytes(b"a copy")
+        Path("kept", RECORD).write_bytes(b"one\n")
+        self.assertEqual(self.again(), (0, ""))
+        with mock.patch.object(self.keep, "ROOM", 1 << 60):
+            self.assertEqual(self.again(), (0, ""))
+            Path("kept", RECORD).write_bytes(b"one\ntwo\n")
+            self.assertEqual(self.again(), (
+                1, f"keep-copies: {RECORD}: again has not room for 4 bytes more\n"))
+        self.assertEqual(contents("again"), {COPY: b"a copy", RECORD: b"one\n"})
 
     def test_what_another_user_keeps(self):
         """It stays there, whatever the user does to whom it was sent; what was changed is named."""

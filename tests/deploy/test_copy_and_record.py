@@ -286,13 +286,13 @@ class CopyAndRecord(OfPapers):
         recorded()
         for language, said in (
                 ("en", ["Stations whose acts are not all in the record of commands: 04-002-A.",
-                        "The act of the board that led to edition 4 of the result is not in the "
+                        "Not all acts of the board that led to edition 4 of the result are in the "
                         "record of commands.",
                         "Vacancies that are not in the record of commands, by list and place: "
                         "HAYA 1."]),
                 ("es", ["Mesas cuyas operaciones no constan todas en el registro: 04-002-A.",
-                        "El acto de la junta del que resulta la versión 4 del resultado no consta "
-                        "en el registro.",
+                        "No constan en el registro todos los actos de la junta de los que resulta "
+                        "la versión 4 del resultado.",
                         "Vacantes que no constan en el registro, por candidatura y puesto: HAYA "
                         "1."])):
             papers("acts", COPY, "out", "--record", "commands.log", "--language", language)

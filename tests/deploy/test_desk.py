@@ -536,6 +536,8 @@ class TheLifeOfADesk(unittest.TestCase):
         (self.folder / "broken.toml").write_text("[[profile]\n", encoding="utf-8")
         (self.folder / "text.db").write_text("no database", encoding="utf-8")
         shutil.copy(self.folder / "other.db", self.folder / "other")
+        # (beside a link there would be a second record, and other pages)
+        (self.folder / "link.db").symlink_to("other.db")
         before = {file: file.read_bytes() for file in self.folder.iterdir()}
         table = (
             ({"db": "other.db"}, (), "was made from another setup than"),
@@ -544,6 +546,8 @@ class TheLifeOfADesk(unittest.TestCase):
                                     "or cannot be read and written"),
             ({"db": "no/such/folder.db"}, (), "no database was made from"),
             ({"db": "other"}, (), "other.db has the same record and the same pages as"),
+            ({"db": "link.db"}, (), f"link.db is a link: name the file to which it leads, "
+                                    f"{self.folder.resolve()}/other.db"),
             ({"db": "a.db"}, ("--name", "station:s3"), "s3 is no station of"),
             ({"db": "b.db"}, ("--name", "board:S2"), "S2 is the code of a station"),
             ({"db": "c.db"}, ("--office", "/no/such/program"), "/no/such/program is no program"),

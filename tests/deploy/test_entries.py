@@ -230,4 +230,5 @@ class Entries(SiteCase):
             record = (front.folder / "log/commands.log").read_bytes()
         self.assertEqual(self.entries(record), (
             1, [f"s2: both entries are by clara ({times[0]}, {times[1]})",
+                "remark: c1: the slip p1 is that of s1, s2",
                 "closed 2, of these by a second entry 2, to look at 1"]))

@@ -117,7 +117,7 @@ class ValuesOfAnotherKind(Case):
         self.assertEqual(tool("setup-json", "setup.toml", "share", "codes.conf"), (0, "", ""))
         before = {name: Path(name).read_bytes() for name in places}
         Path("setup.toml").write_text(EXAMPLE.replace("Alpha", "Gamma"), encoding="utf-8")
-        there = sorted(os.walk("."))
+        there = sorted(map(str, Path().rglob("*")))
 
         def assert_as_before(said, *words):
             status, printed, errors = tool("setup-json", "setup.toml", *words)
@@ -130,7 +130,7 @@ class ValuesOfAnotherKind(Case):
             with self.subTest(folder=folder, codes=codes):
                 assert_as_before(".new: No", folder, codes)
                 self.assertEqual({name: Path(name).read_bytes() for name in places}, before)
-                self.assertEqual(sorted(os.walk(".")), there)
+                self.assertEqual(sorted(map(str, Path().rglob("*"))), there)
         for place in places:
             with self.subTest(place=place):
                 os.rename(place, "kept")
@@ -139,7 +139,7 @@ class ValuesOfAnotherKind(Case):
                 Path(place).rmdir()
                 os.rename("kept", place)
                 self.assertEqual({name: Path(name).read_bytes() for name in places}, before)
-                self.assertEqual(sorted(os.walk(".")), there)
+                self.assertEqual(sorted(map(str, Path().rglob("*"))), there)
         write, replace = loaded("setup-json").write, os.replace
 
         def refused(old, new):
@@ -150,7 +150,7 @@ class ValuesOfAnotherKind(Case):
         with mock.patch("os.replace", refused), self.assertRaisesRegex(
                 OSError, "Operation not permitted; already written: setup.json: "):
             write({Path("share/setup.json"): b"new", Path("codes.conf"): b"new"})
-        self.assertEqual(sorted(os.walk(".")), there)
+        self.assertEqual(sorted(map(str, Path().rglob("*"))), there)
 
     def test_setup_json_takes_codes_that_differ_in_capitals_alone(self):
         """As the office does: the proxy tells these apart by patterns."""

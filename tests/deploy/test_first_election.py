@@ -30,7 +30,7 @@ class FirstElection(SiteCase):
                   for file in (ROOT / "tests/pages").iterdir()}
         found = {name: without_time(read(name)) for name in os.listdir("pages")
                  if not name.endswith(".gz")
-                 and name not in (".provisional", "manifest.json", "openapi.json")}
+                 and not name.startswith(".") and name not in ("manifest.json", "openapi.json")}
         self.assertEqual(sorted(found), sorted(stored))
         for name, text in found.items():
             with self.subTest(name=name):

@@ -3,8 +3,6 @@
 The page is opened as a file, without an office.
 """
 
-import json
-
 from tests.support import browser
 from tests.support.case import Case, needs
 from tests.support.rounds import DEPLOY
@@ -34,6 +32,39 @@ FAR_OFF = (
     ([100, 100, 100, 209], []), ([100, 100, 100, 210], [[3, True]]),
     ([100, 100, 100, 48], []), ([100, 100, 100, 47], [[3, False]]),
     ([100, 100, 300], [[2, True]]), ([100, 300], []),
+)
+# The same of other shares and variances, of a list without a share, of small numbers, and of
+# figures that would fit the list beside them.
+EXCHANGED = (
+    ([30, 50, 4, 11], [None, 0.3, 0.2, 0.1], 0.04, [[2, False, 3], [3, False, 2]]),
+    ([12, 3, 0, 2, 8], [0.2] * 5, 0.09, []),
+    ([12, 0, 1, 0], [0.6, 0.3, 0.05, 0.05], 0.04, [[1, False, 2], [2, True, 1]]),
+    ([0, 1, 15, 1], [0.6, 0.3, 0.05, 0.05], 0.04,
+     [[0, False, None], [1, False, 2], [2, True, 1]]),
+    ([3, 18, 3, 2, 1], [0.4, 0.3, 0.15, None, 0.05], 0.04, []),
+    # Lists of which five votes are expected count for the size of a return: here by the list in the
+    # middle it is 1,000. With one vote less they do not, and it has the votes that there are.
+    ([50, 50, 0], [0.05, 0.05, 0.9], 0.04, [[2, False, None]]),
+    ([49, 50, 0], [0.05, 0.05, 0.9], 0.04, [[0, True, None], [1, True, None], [2, False, None]]),
+)
+# What is expected after votes and closed returns, of a former result and of known spreads: whether
+# by the former one, and share and variance of each list. Of a former result the variance is that of
+# 0.6. Of n closed returns it is that of the list's spread, or of 0.5, times 1 + 1 / n.
+EXPECTED = (
+    ([30, 70], 4, [0, 0], [], [False, [0.3, 0.3125], [0.7, 0.3125]]),
+    ([30, 70], 4, [60, 40], [0.2], [False, [0.3, 0.05], [0.7, 0.3125]]),
+    ([30, 70], 2, [60, None], [], [True, [1, 0.36], None]),
+    ([30, 70], 1, [0, 0], [], [False, [0.3, 0.5], [0.7, 0.5]]),
+    ([30, 70], 1, [1, 0], [], [True, [1, 0.36], [0, 0.36]]),
+    ([30, 70], 1, [None, None], [], [False, [0.3, 0.5], [0.7, 0.5]]),
+    ([0, 0], 4, [0, 0], [], None), ([30, 70], 0, [0, 0], [], None),
+)
+# Closed returns, and the spread of each list over them. Of the first pair 0.2 of 10 votes and a
+# half, 2.5, are expected of A: of 1.5 and 3.5 the squares of the logarithms are 0.261 and 0.113,
+# less 1 / 2.5 each. With 8 times 0.25 that is 1.574 of 10, of which the root is 0.3968.
+SPREADS = (
+    ([[1, 9], [3, 7]], [0.3968, 0.4234]), ([[1000, 0], [0, 1000]], [0.8047, 0.8047]),
+    ([[100, 100]] * 200, [0.1, 0.1]), ([[100, 100]], [0.4702, 0.4702]), ([], []),
 )
 
 # A constituency as setup.json has it, and a name of the board.
@@ -97,10 +128,10 @@ OFFICE = """
   };
   person = { name: "clara", role };
   shown = { con: "c1", view: null, station, found: null };
-  lot = null;
   learned = { con: null, closed: 0, spreads: [] };
   return look().then(() => ({
-    asked, lot: lot && lot.group, found: shown.found && shown.found.status,
+    asked, lot: (lotNeeded(shown.view) || { group: null }).group,
+    found: shown.found && shown.found.status,
     waits: element("return").textContent.includes("It waits for its second entry"),
     compares: !element("compare").hidden }));
 """
@@ -184,6 +215,26 @@ class Functions(Case):
                         "const [votes] = arguments; return farOff(votes, votes.map(() => "
                         "({ share: 1 / votes.length, variance: 0.04 })))", votes)
                     self.assertEqual([[one["place"], one["isMore"]] for one in found], wanted)
+            for votes, shares, variance, wanted in EXCHANGED:
+                with self.subTest(votes=votes, shares=shares):
+                    found = it.run(
+                        "const [votes, shares, variance] = arguments; return farOff(votes, shares"
+                        ".map((share) => share === null ? null : { share, variance }))",
+                        votes, shares, variance)
+                    self.assertEqual([[one["place"], one["isMore"], one.get("other")]
+                                      for one in found], wanted)
+            for votes, closed, former, spreads, wanted in EXPECTED:
+                with self.subTest(votes=votes, closed=closed, former=former):
+                    found = it.run(
+                        "const it = expectation(...arguments), round = (one) => "
+                        "Math.round(one * 1e4) / 1e4; return it && [it.isFormer, ...it.lists.map("
+                        "(one) => one && [round(one.share), round(one.variance)])]",
+                        votes, closed, former, spreads)
+                    self.assertEqual(found, wanted)
+            for returns, wanted in SPREADS:
+                with self.subTest(returns=returns):
+                    self.assertEqual([round(one, 4) for one in it.run(
+                        "return spreadsOf(arguments[0])", returns)], wanted)
             # How fast stations are closed is said from the first whole minute on.
             for seconds, said in ((59, []), (60, ["1 minutes: 2, which is 120 an hour."]),
                                   (90, ["2 minutes: 2, which is 80 an hour."])):
@@ -207,15 +258,10 @@ class Functions(Case):
                         "return showWaiting().then(() => { [ask, listStations] = asked; return "
                         "['alert', 'status'].map((one) => element(one).textContent); })", status)
                     self.assertEqual(found, wanted)
-            # What others typed is shown where it is a text, and lists where they are codes.
+            # What others typed is shown where it is a text.
             self.assertEqual([it.run("return saidOf(arguments[0])", {"note": note})
                               for note in ({"toString": 1, "valueOf": 1}, ["a"], 7, "")], [""] * 4)
             self.assertIn("torn", it.run("return saidOf(arguments[0])", {"note": "torn"}))
-            for order, wanted in ((["B", "A"], ["A", "B"]), ([{"toString": 1}], None),
-                                  (["A", "<b>"], None), ("AB", None)):
-                found = it.run("return lotOf({ others: [{ act: 'draw', body: arguments[0] }] })",
-                               json.dumps({"order": order}))
-                self.assertEqual(found, wanted)
             # A receipt has what was sent, whatever is recorded or can be read by then.
             for form, then, has, has_not in (
                     ("close", "{ ...given, votes: [1, 39] }", ["20"], ["39"]),
@@ -234,7 +280,9 @@ class Functions(Case):
                         element(form).dispatchEvent(new Event("submit", {{ cancelable: true }}));
                         return new Promise((done) => setTimeout(() => {{
                           [ask, look, window.confirm] = kept;
-                          done([element("receipt").textContent, busy]);
+                          // (without the moment, the last row)
+                          const rows = [...element("receipt").querySelectorAll("tr")].slice(0, -1);
+                          done([rows.map((row) => row.textContent).join(), busy]);
                         }}, 200));""", form)
                     self.assertFalse(is_busy)
                     self.assertEqual([one for one in has if one not in text], [], text)
@@ -272,10 +320,19 @@ class Functions(Case):
                 "moment(Date.UTC(2026, 10, 29, 15, 29))]; })")
             self.assertEqual(found[0], found[1])
             # A row in quotes goes over as many lines as it takes to close them.
-            found = it.run("return rowsOfFile(arguments[0])",
-                           'a,"b\nc"\n\nd,"e""f"\n"g\nh\ni",j\nk\n')
-            self.assertEqual([(row["line"], row["text"]) for row in found], [
-                (1, 'a,"b c"'), (4, 'd,"e""f"'), (5, '"g h i",j'), (8, "k")])
+            for separator, text, wanted in (
+                    (",", 'a,"b\nc"\n\nd,"e""f"\n"g\nh\ni",j\nk\n',
+                     [(1, 'a,"b c"'), (4, 'd,"e""f"'), (5, '"g h i",j'), (8, "k")]),
+                    # One of blanks is a row; a quote within a field, or after one, is none more.
+                    (",", "a\n \nb\n", [(1, "a"), (2, " "), (3, "b")]),
+                    (",", 'a,p"1\nb,"c"d"\ne', [(1, 'a,p"1'), (2, 'b,"c"d"'), (3, "e")]),
+                    (",", 'a;"b\nc";d', [(1, 'a;"b'), (2, 'c";d')]),
+                    (";", 'a;"b\nc";d', [(1, 'a;"b c";d')]),
+                    (",", 'a,"""b\n,""c""\n"",d"\ne', [(1, 'a,"""b ,""c"" "",d"'), (4, "e")]),
+                    (",", "\n\r\na\r\rb\r\n\nc", [(3, "a"), (5, "b"), (7, "c")])):
+                with self.subTest(separator=separator, text=text):
+                    found = it.run("return rowsOfFile(arguments[0], arguments[1])", text, separator)
+                    self.assertEqual([(row["line"], row["text"]) for row in found], wanted)
 
     @needs("chromium")
     def test_with_a_setup(self):
@@ -315,15 +372,28 @@ class Functions(Case):
                     (False, [], ["certify"]), (True, [{}], ["vacate", "reopen"]),
                     (True, [], ["reopen"])):
                 with self.subTest(certified=is_certified, holders=holders):
-                    it.run(f"shown.view = {{ ...viewOf({RESULT}), certified: arguments[0] }}; "
-                           "showView(arguments[1])", is_certified, holders)
+                    it.run(f"shown.view = {{ ...viewOf({RESULT}), certified: arguments[0], "
+                           "holders: arguments[1] }; showView()", is_certified, holders)
                     self.assertEqual([form for form in forms
                                       if it.run("return !element(arguments[0]).hidden", form)],
                                      wanted)
             # The lists of a lot are asked for from the first place on.
-            it.run("lot = { con: 'c1', edition: 4, group: ['A', 'B'], seats: 1 }; showDraw()")
+            it.run("showDraw({ group: ['A', 'B'], seats: 1 })")
             self.assertEqual(it.run("return [...element('order').children].map((one) => "
                                     "one.firstChild.textContent)"), ["Place 1 ", "Place 2 "])
+
+    @needs("chromium")
+    def test_in_spanish(self):
+        """Numbers, plurals and the states of a return are those of the page's language; what has
+        no text there is shown as it is."""
+        with browser.tab() as it:
+            it.open((DEPLOY / "www/clerk_es.html").as_uri())
+            self.assertEqual(it.run("return ['closed', 'lost'].map(stateOf)"), ["cerrada", "lost"])
+            self.assertEqual(it.run("return [1234, '1234'].map(shownAs)"), ["1.234", "1234"])
+            # (a million is of a form that few languages have, and none of these texts)
+            self.assertEqual(it.run("return [1, 2, 1000000].map((many) => "
+                                    "plural(many, { one: 'acta', other: 'actas' }))"),
+                             ["acta", "actas", "actas"])
 
     @needs("chromium")
     def test_what_is_asked_for_and_shown(self):
@@ -337,20 +407,17 @@ class Functions(Case):
             # A lot is known to the board once all is closed, and as long as nothing is certified.
             for role, result, wanted in (
                     ("board", {}, ["A", "B"]), ("board", {"closed": 19}, None),
-                    ("board", {"certified": True}, None), ("clerk", {}, None),
-                    ("board", {"status": "seats"}, None)):
+                    ("board", {"certified": True, "status": "certified"}, None),
+                    ("clerk", {}, None), ("board", {"status": "seats"}, None)):
                 with self.subTest(role=role, result=result):
                     self.assertEqual(looked(role, **result)["lot"], wanted)
             # A return is shown of a station of this constituency alone.
             self.assertEqual(looked("clerk")["found"], "received")
             self.assertIsNone(looked("clerk", "t1")["found"])
-            # The list of stations is for who enters a second time, where a return was corrected.
-            for role, station, queried, wanted in (
-                    ("second", "s1", 1, True), ("second", "s1", 0, False), ("second", "", 1, False),
-                    ("clerk", "s1", 1, False), ("board", "", 1, False)):
-                with self.subTest(role=role, station=station, queried=queried):
-                    self.assertEqual("stations" in looked(role, station, queried=queried)["asked"],
-                                     wanted)
+            # Nobody asks for the table of all stations by choosing one.
+            for role, station in (("second", "s1"), ("second", ""), ("clerk", "s1"), ("board", "")):
+                with self.subTest(role=role, station=station):
+                    self.assertNotIn("stations", looked(role, station, queried=1)["asked"])
             # What is usual is learned from ten closed returns on; a station learns nothing.
             for role, result, wanted in (
                     ("clerk", {"closed": 10}, True), ("clerk", {"closed": 9}, False),
@@ -375,7 +442,7 @@ class Functions(Case):
             it.open((DEPLOY / "www/clerk.html").as_uri())
             it.run(KNOWN)
             for role, asked, shown in (
-                    ("second", ["result", "c1", "progress", "stations"], True),
+                    ("second", ["result", "c1", "progress", "stations-c1-open.csv"], True),
                     ("station", ["result", "s1", "c1", "progress"], True),
                     ("clerk", ["result", "s1"], False), ("board", ["result", "s1"], False)):
                 with self.subTest(role=role):

@@ -107,7 +107,7 @@ class Figures(Case):
     def test_the_first_list(self):
         """None without a vote, or where two have as many."""
         for votes, wanted in (([3, 5], "B"), ([5, 5, 1], None), ([0, 0], None), ([1], "A"),
-                              ([5, 2, 2], "A"), ([], None)):
+                              ([0], None), ([5, 2, 2], "A"), ([], None)):
             with self.subTest(votes=votes):
                 con = {"tally": {"lists": [{"code": code, "votes": many}
                                            for code, many in zip("ABC", votes)]}}

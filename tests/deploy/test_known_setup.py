@@ -3,11 +3,13 @@ taken for these."""
 
 import json
 import sys
+import tomllib
 from pathlib import Path
 
 from tests.support import tools
 from tests.support.case import needs
-from tests.support.desks import answering_desk, recording_desk
+from tests.support.desks import answering_desk, commanded, done, recording_desk
+from tests.support.model import Office
 from tests.support.office import (
     DOUBLE,
     LISTS,
@@ -44,6 +46,13 @@ def replay(record, *words):
         [DEPLOY / "replay", *words], input=record, capture_output=True, text=False, timeout=60
     )
     return done.returncode, done.stdout.decode(), done.stderr.decode()
+
+
+# What an office shows that has the return of s1.
+ROW_OF_S1 = "s1 300 received 1 p1 3 0 0\n"
+HAS_S1 = {"/progress": "c1 2 2\n", "/station/s1/lodge": "{}",
+          "/con/c1": {"edition": 1, "certified": False, "lot": [], "gone": []},
+          "/con/c1/returns": "station,slip,blank,spoiled,A,B\ns1,p1,0,0,1,2\n"}
 
 
 class Proxy(Safeguards):
@@ -148,9 +157,8 @@ class TwoEntries(Safeguards):
             record = chained({"setup": hash_of_file(f"{folder}/setup.json")},
                              a_command(json.dumps(LODGED), "/station/s1/lodge"),
                              {"to": 2, "status": 200, "answer": '{"ok":"lodged","rev":1}'})
-            answers = {"/con/c1/result": result | {"entry": entry}, "/station/s1/lodge": "{}",
-                       "/progress": "c1 1 1\n",
-                       "/con/c1/stations": "STATIONS\nstations 1\ns1 300 -\n"}
+            answers = HAS_S1 | {"/con/c1/result": result | {"entry": entry},
+                                "/con/c1/stations": f"STATIONS\nstations 1\n{ROW_OF_S1}"}
             with self.subTest(folder=folder, entry=entry), answering_desk(answers) as (port, asked):
                 status, _, said = replay(record, f"http://127.0.0.1:{port}", "--setup",
                                          f"{folder}/setup.json")
@@ -262,8 +270,9 @@ class Replay(SiteCase):
         lists = [{"code": "A", "name": "Alpha"}, {"code": "B", "name": "Beta"}]
         result = {"name": "Twin Town", "seats": 3, "method": "dhondt", "threshold": 0,
                   "base": "valid", "lot_rule": "fixed", "lists": lists}
-        mine = {"/con/c1/result": result, "/station/s1/lodge": "{}", "/progress": "c1 2 2\n",
-                "/con/c1/stations": "STATIONS c1\nstations 2\ns1 300 -\ns2 300 -\n"}
+        mine = HAS_S1 | {
+            "/con/c1/result": result,
+            "/con/c1/stations": f"STATIONS c1\nstations 2\n{ROW_OF_S1}s2 300 -\n"}
         others = mine | {"/con/c1/result": result | {"lists": lists[::-1]}}
         more = mine | {"/progress": "c1 2 2\nc2 1 1\n"}
         rows = (
@@ -288,45 +297,34 @@ class Replay(SiteCase):
     def test_an_office_that_has_another_return(self):
         """It has gone on by itself: what the record did over its own return is not done over that
         one, at the station and in its constituency, and each is named."""
-        setup_json(with_stations(2) + constituency("c2", "Port", 3, "d0")
-                   + party_list("A", "Alpha", "Ana", "Abel") + party_list("B", "Beta", "Bea")
-                   + station("t1"), "one")
-        lists = [{"code": "A", "name": "Alpha"}, {"code": "B", "name": "Beta"}]
-        result = {"name": "Twin Town", "seats": 3, "method": "dhondt", "threshold": 0,
-                  "base": "valid", "lot_rule": "fixed", "lists": lists}
-        differs = 409, '{"refused":7,"rev":1,"word":"differs"}'
-        targets = {f"/station/{code}/lodge": LODGED for code in ("s1", "s2", "t1")} | {
-            f"/station/{code}/close": {"rev": 1} for code in ("s1", "s2", "t1")} | {
-            f"/con/{code}/certify": {"edition": 1} for code in ("c1", "c2")} | {
-            "/con/c1/vacate": {"list": "A", "place": 1, "note": "x"}}
-        own, heads = LODGED | {"rev": 1, "votes": [7, 7]}, "station,slip,blank,spoiled,A,B\n"
-        answers = dict.fromkeys(targets, "{}") | {
-            "/station/s1/lodge": differs, "/progress": "c1 2 2\nc2 1 1\n", "/station/s1": own,
-            "/con/c1/result": result, "/con/c2/result": result | {"name": "Port"},
-            **dict.fromkeys(("/con/c1", "/con/c2"), {"edition": 1, "lot": []}),
-            "/con/c1/stations": "STATIONS\nstations 2\ns1 300 received 1 p1 14 0 0\n"
-                                "s2 300 closed 2 p1 3 0 0\n",
-            "/con/c1/returns": heads + "s1,p1,0,0,7,7\ns2,p1,0,0,1,2\n",
-            "/con/c2/stations": "STATIONS\nstations 1\nt1 300 closed 2 p1 3 0 0\n",
-            "/con/c2/returns": heads + "t1,p1,0,0,1,2\n"}
-        commands = [entry for place, (target, body) in enumerate(targets.items()) for entry in (
-            a_command(json.dumps(body), target),
-            {"to": 2 * place + 2, "status": 200, "answer": "{}"})]
+        setup = (with_stations(2) + constituency("c2", "Port", 3, "d0")
+                 + party_list("A", "Alpha", "Ana", "Abel") + party_list("B", "Beta", "Bea")
+                 + station("t1"))
+        setup_json(setup, "one")
+        targets = [*((f"/station/{code}/lodge", json.dumps(LODGED)) for code in ("s1", "s2", "t1")),
+                   *((f"/station/{code}/close", '{"rev": 1}') for code in ("s1", "s2", "t1")),
+                   *((f"/con/{code}/certify", '{"edition": 1}') for code in ("c1", "c2")),
+                   ("/con/c1/vacate", '{"list": "A", "place": 1, "note": "x"}')]
+        own, commands = Office(tomllib.loads(setup)), []
+        for place, (target, body) in enumerate(targets):
+            status, answer = own.ask("POST", target, body)
+            commands += [a_command(body, target),
+                         {"to": 2 * place + 2, "status": status, "answer": answer}]
         known = {"setup": hash_of_file("one/setup.json")}, *commands
         unknown = {"n": 1, "to": 0, "status": 409, "answer": ""}, *commands
-        for record, words, left in ((known, ("--setup", "one/setup.json"), [3, 6]),
-                                    (unknown, (), [3, 6])):
-            with self.subTest(words=words), answering_desk(answers) as (port, asked):
+        for record, words in ((known, ("--setup", "one/setup.json")), (unknown, ())):
+            with self.subTest(words=words), commanded(setup) as (office, port, came):
+                done(office, "/station/s1/lodge", LODGED | {"votes": [7, 7]})
                 status, printed, _ = replay(chained(*record), f"http://127.0.0.1:{port}", *words)
-                sent = [target for target in asked if target in targets]
-                self.assertEqual((status, sent), (1, [
-                    target for place, target in enumerate(targets) if place not in left]))
-                self.assertEqual([int(line.split(":")[0].removeprefix("line "))
-                                  for line in printed.splitlines()[:-1]],
-                                 [2, *(2 * place + 2 for place in left)])
-                for line in (2, 8):
-                    self.assertIn("it was not sent: the office has something else than line "
-                                  f"{line}\n", printed)
+                self.assertEqual((status, came), (1, [
+                    command for place, command in enumerate(targets) if place not in (3, 6, 8)]))
+                self.assertEqual([(line.split(":")[0], line.split(": ")[-1])
+                                  for line in printed.splitlines()[:-1]], [
+                    ("line 2", '409 {"refused":7,"rev":1,"word":"differs"}'),
+                    *((f"line {line}", f"the office has something else than line {other}")
+                      for line, other in ((8, 2), (14, 8), (18, 14))),
+                    ("con c1", "the office has something else than line 18 left"),
+                    ("station s1", "the office has something else than line 8 left")])
 
     def test_names_with_other_ends_of_a_line(self):
         """A reader of text may take U+0085 or U+2028 for the end of a line, and an office does

@@ -188,8 +188,12 @@ class Package(Case):
                     for file in (DEPLOY / f"{name}.service", folder / f"{name}@.service"))
                 self.assertEqual(many, one)
         self.assertIn("Requires=office-ports.service", lines_of(folder / "office@.service"))
-        self.assertIn("OnFailure=office-alarm@%i.service",
-                      lines_of(folder / "office-status@.service"))
+        for unit in ("office-status", "office-backup"):
+            self.assertIn("OnFailure=office-alarm@%i.service",
+                          lines_of(folder / f"{unit}@.service"))
+        lines = lines_of(folder / "office-alarm@.service")
+        [calls] = [line for line in lines if "journalctl" in line]
+        self.assertIn("journalctl -u office-status@%i -u office-backup@%i says what", calls)
         self.assertIn("ExecStart=/usr/lib/office/status --config /etc/office/%i/status.toml",
                       lines_of(folder / "office-status@.service"))
         Path("units").mkdir()

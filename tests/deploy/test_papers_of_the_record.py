@@ -46,10 +46,12 @@ class OfTheRecord(OfPapers):
                  for rev in (2, 4, 6)]
         other = self.CORRECTED | {"slip": "r215", "votes": [1_040, 40, 20, 0, 0], "spoiled": 3}
         recorded(also=[again[0], done("clara", "/station/04-002-A/correct", other),
-                       again[1], done("berta", "/station/04-002-A/correct", self.CORRECTED),
-                       again[2], done("clara", "/station/04-002-A/correct", self.CORRECTED),
+                       again[1], done("berta", "/station/04-002-A/correct",
+                                      self.CORRECTED | {"rev": 5}),
+                       again[2], done("clara", "/station/04-002-A/correct",
+                                      self.CORRECTED | {"rev": 7}),
                        done("bruno", "/station/04-002-A/close", {"rev": 8})])
-        copy_of("UPDATE returns SET rev = 9 WHERE station = '04-002-A'")
+        copy_of("UPDATE returns SET rev = 9, note = 'ROBLE?' WHERE station = '04-002-A'")
         for language, said, changed, slip, spoiled, none in (
                 ("en", "Return of station 04-002-A corrected", "{}: {} became {}", "Paper",
                  "spoiled", "the same figures"),
@@ -200,3 +202,29 @@ class OfTheRecord(OfPapers):
         recorded(setup=hashlib.sha256(Path("setup.json").read_bytes()).hexdigest())
         papers("acts", COPY, "out", "--record", "commands.log")
         self.assertIn("up to line 63", paper("out", "act-count-*").text)
+
+    def test_notes_that_are_not_those_of_the_record(self):
+        """They would be incidents beside those of the record. A query or a reopening that it lacks
+        is one, as the copy has it."""
+        last = [*self.AGAIN, done("clara", "/station/04-002-A/correct", self.CORRECTED),
+                done("bruno", "/station/04-002-A/close", {"rev": 4}),
+                done("berta", "/con/montehondo/certify", {"edition": 3})]
+        for reason, note, refused in (
+                ("recount", "ROBLE?", None), ("other", "ROBLE?", "montehondo"),
+                ("", "ROBLE?", "montehondo"), ("recount", "", "04-002-A"),
+                ("recount", "other", "04-002-A")):
+            with self.subTest(reason=reason, note=note):
+                copy_of("INSERT INTO past SELECT con, 2, list, n FROM seats",
+                        f"UPDATE cons SET edition = 4, note = '{reason}'",
+                        f"UPDATE returns SET rev = 5, note = '{note}' WHERE station = '04-002-A'")
+                recorded(also=last)
+                shutil.rmtree("out", ignore_errors=True)
+                if refused:
+                    self.refuses(f"the record says something else of {refused} than the copy",
+                                 "count", "--record", "commands.log")
+                else:
+                    papers("count", COPY, "out", "--record", "commands.log")
+        copy_of("UPDATE returns SET note = 'seen' WHERE station = '03-001-B'",
+                "UPDATE cons SET edition = 3, note = 'again'")
+        self.refuses("the record says something else of 03-001-B than the copy", "count",
+                     "--record", "commands.log")

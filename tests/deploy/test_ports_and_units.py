@@ -237,7 +237,7 @@ class Ports(Safeguards):
                 if asked == "again":
                     machine.at(tool.RULES).unlink()
                 with contextlib.redirect_stdout(io.StringIO()):
-                    tool.write_rules(machine, None if asked == "again" else asked)
+                    tool.write_rules(machine, ["one"], None if asked == "again" else asked)
                 rules = machine.at(tool.RULES).read_text(encoding="utf-8")
                 Path("rules").write_text(numbered(rules), encoding="utf-8")
                 words = acts[act].replace(tool.RULES, "rules").replace("/usr/sbin/nft", "nft")

@@ -83,8 +83,8 @@ class PressPages(SiteCase):
             "lists": [{"code": "A", "name": "Alpha", "candidates": ["Ana", "Abel"]},
                       {"code": "B", "name": "Beta", "candidates": ["Bea"]}],
             "stations": [{"code": "s1", "electors": 300}]}])
-        self.assertEqual([name for name in os.listdir("pages") if name.startswith(".")],
-                         [".provisional"])
+        self.assertEqual(sorted(file.name for file in Path("pages").glob(".*")),
+                         [".provisional", ".reserve"])
 
     def test_a_page_after_a_lot(self):
         """Where lots alternate the page says so, and setup.json. The list that the lot left out

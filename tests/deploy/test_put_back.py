@@ -16,6 +16,8 @@ from tests.support.safeguards import TWO_TOWNS, Safeguards
 from tests.support.site import DEPLOY, SiteCase, backup, new, serving
 
 SLIP = {"slip": "p1", "votes": [120, 71], "blank": 2, "spoiled": 1}
+# Of an office of which no act could be compared.
+SILENT = [(False, "it says of none of the last acts of the record now whether it has it")]
 
 
 def said_by_status(*words):
@@ -85,8 +87,7 @@ class Status(Safeguards):
                 ("an edition", {"/con/c1": {"edition": 1}}, back(6, "/con/c1", 2)),
                 ("both", {"/station/s1": 404, "/con/c1": {"edition": 1}},
                  back(4, "/station/s1", 2)),
-                ("no answer", {"/station/s1": 503},
-                 [(True, "of the last acts of the record it has all 0 that were compared")]),
+                ("no answer", {"/station/s1": 503}, SILENT),
                 ("no JSON", {"/con/c1": "?"},
                  [(True, "of the last acts of the record it has all 1 that were compared")])):
             with self.subTest(why=why):
@@ -158,10 +159,9 @@ class Status(Safeguards):
                 # So it is at the next look, which has it from the one before.
                 for more in ("--forget",), ():
                     self.looks(shown, lines, [(is_well, wanted)], *more)
-        # An office that does not say it now is wrong itself.
+        # An office that says nothing of them now.
         for lines, shown in ((whole, {table: 503}), (gone, {"/con/c1": {"edition": 2}})):
-            self.looks(shown, lines, [(True, "of the last acts of the record it has all 0 that "
-                                             "were compared")], "--forget")
+            self.looks(shown, lines, SILENT, "--forget")
 
     def test_it_stays_so(self):
         """An office that was put back is wrong until it has what it lacked, whatever it does."""
@@ -177,13 +177,30 @@ class Status(Safeguards):
             self.assertLess(len(asked), 45)
         # So it is after a look at which it did not answer, as while somebody starts it again.
         self.looks({f"/station/{code}": 503 for code in ("s1", *stations)},
-                   lines + lodged(*stations, begin=3), [
-            (True, "of the last acts of the record it has all 0 that were compared")])
+                   lines + lodged(*stations, begin=3), SILENT)
         self.looks(there, lines + lodged(*stations, begin=3), wrong)
         self.looks(there | {"/station/s1": {"rev": 1}}, lines + lodged(*stations, begin=3), [
             (True, "of the last acts of the record it has all 21 that were compared")])
         self.looks(there, lines + lodged(*stations, begin=3), [
             (True, "of the last acts of the record it has all 20 that were compared")])
+
+    def test_it_goes_on_with_the_same_return(self):
+        """The act that it lacks is looked for, not a later one of the office that was put back;
+        also where a look comes only after both."""
+        lost, later = done("/station/s1/correct", 1, rev=3), done("/station/s1/close", 3, rev=2)
+        well = [(True, "of the last acts of the record it has all 1 that were compared")]
+        wrong = [(False, "it was put back to an earlier moment: it lacks what line 2 of the record "
+                         "answered, by which /station/s1 came to 3")]
+        back, on = {"/station/s1": {"rev": 2}}, {"/station/s1": {"rev": 3}}
+        self.looks(back, [*lost, *later], wrong, "--forget")
+        self.looks(on, lost, well, "--forget")
+        self.looks(back, [*lost, *later], wrong)
+        self.looks(back, [*lost, *later], wrong)
+        # It has gone on for as long as the record had before.
+        again = done("/station/s1/query", 5, rev=3)
+        self.looks(on, [*lost, *later, *again], well)
+        self.looks(back, [*lost, *later, *again],
+                   [(False, wrong[0][1].replace("line 2", "line 6"))])
 
     def test_several_offices(self):
         """Each is compared with its own acts."""

@@ -1,30 +1,35 @@
 """Records: rows with as many votes as there may be, commands sent again, and long histories."""
 
 import contextlib
+import hashlib
+import csv
 import io
 import json
+import os
 import socket
 import sqlite3
 import sys
 import threading
 import tomllib
+from pathlib import Path
 from types import SimpleNamespace
 from unittest import mock
 
 from tests.support.case import Case
 from tests.support.office import SETUP, station
+from tests.support.program import write
 from tests.support.record import LODGED, a_command, chained
 from tests.support.scripts import loaded, module
 
 entries = loaded("entries")
-recorder, replay = module("recorder"), loaded("replay")
+chain, recorder, replay = module("chain"), module("recorder"), loaded("replay")
 
 
 class RowsOfAFile(Case):
-    def lodged(self, rows, setup=SETUP):
+    def lodged(self, rows, setup=SETUP, head="station,slip,blank,spoiled,A,B"):
         """The stations of the rows that an import lodges, by the tool that reads records."""
         [con] = tomllib.loads(setup)["constituency"]
-        text = "station,slip,blank,spoiled,A,B\n" + "".join(f"{row}\n" for row in rows)
+        text = f"{head}\n" + "".join(f"{row}\n" for row in rows)
         return [code for code, _ in entries.rows_of(text, False, con)]
 
     def test_as_many_votes_as_electors(self):
@@ -34,10 +39,81 @@ class RowsOfAFile(Case):
         self.assertEqual(self.lodged(["s1,p1,0,0,150,151"]), [])
         self.assertEqual(self.lodged(["s1,p1,1,0,150,150"]), [])
 
+    def test_a_file_that_is_refused_as_a_whole(self):
+        row, other = "s1,p1,0,0,1,2", "s9,p1,0,0,1,2"
+        self.assertEqual(self.lodged([row] + [other] * 19_999), ["s1"])
+        self.assertEqual(self.lodged([row] + [other] * 20_000), [])
+        for head in ("station,slip,blank,spoiled,B,A", "station,slip,blank,spoiled,A",
+                     "station,slip,spoiled,blank,A,B", "station,slip,blank,spoiled,A,B,"):
+            with self.subTest(head=head):
+                self.assertEqual(self.lodged([row], head=head), [])
+        self.assertEqual(self.lodged([row], head='\ufeff"station",slip,blank,spoiled,A,B'), ["s1"])
+
     def test_a_million_votes(self):
         setup = SETUP + station("s2", 1000000)
         self.assertEqual(self.lodged(["s2,p1,0,0,1000000,0"], setup), ["s2"])
         self.assertEqual(self.lodged(["s2,p1,0,0,1000001,0"], setup), [])
+
+
+class Lines(Case):
+    """Lines as one after the other, and what was shown of them."""
+
+    def test_a_line_that_does_not_follow_on_the_one_before(self):
+        """By its number or by its hash; a line after it is right again."""
+        first, second, third = chained({"setup": "5e"}, {}, {}).splitlines()
+        other = chained({}, {"n": 3}, {}).splitlines()
+        forged = second.replace(b'"before": "', b'"before": "0')
+        of_forged = third.replace(hashlib.sha256(second).hexdigest().encode(),
+                                  hashlib.sha256(forged).hexdigest().encode())
+        for lines, wrong, setup in (
+                ([first, second, third], [], "5e"), (other, [2], None),
+                ([first, forged, of_forged], [2], "5e"), ([second], [1], None),
+                ([first, third], [2], "5e"), ([first, b"cut", b"[]", b"null"], [2, 3, 4], "5e")):
+            with self.subTest(lines=lines):
+                it = chain.Chain()
+                self.assertEqual(sum(map(it.take, lines), []) + it.end(), [
+                    f"line {number}: not as it was written, or one before it" for number in wrong])
+                self.assertEqual((it.number, it.setup), (len(lines), setup))
+
+    def test_lines_that_were_shown(self):
+        lines = chained({}, {}).splitlines()
+        one, two = (hashlib.sha256(line).hexdigest() for line in lines)
+        for shown, said in (
+                ({1: {one}, 2: {two}}, []), ({1: {two}}, ["line 1: another one was shown"]),
+                ({1: {one, two}}, ["line 1: another one was shown"]),
+                ({4: {one}, 3: {two}}, ["line 3: it was shown, and is not there",
+                                        "line 4: it was shown, and is not there"])):
+            with self.subTest(shown=shown):
+                it = chain.Chain(shown)
+                self.assertEqual(sum(map(it.take, lines), []) + it.end(), said)
+
+    def test_what_was_shown(self):
+        """By the numbers of lines; a number that has two hashes has both, and 0 has none."""
+        for text, found in (("lines,sha256\n7,aa\n", {7: {"aa"}}),
+                            ("time,lines,sha256\n,0,00\n,7,aa\n,9,cc\n,7,bb\n",
+                             {7: {"aa", "bb"}, 9: {"cc"}}),
+                            ("lines,sha256\n0,00\n", {})):
+            with self.subTest(text=text):
+                write("record.csv", text)
+                self.assertEqual(chain.read_shown("record.csv"), found)
+
+    def test_a_record_of_a_setup(self):
+        """By its first line alone; nobody waits for a pipe."""
+        write("setup.json", "[]")
+        own = hashlib.sha256(b"[]").hexdigest()
+        long = {"setup": own, "more": "x" * 8192}
+        for name, record, begins in (
+                ("right", chained({"setup": own}, {}), True), ("cut", chained({"setup": own})[:-1],
+                                                               True),
+                ("later", chained({}, {"setup": own}), False), ("none", b"", False),
+                ("other", chained({"setup": "0" * 64}), False), ("long", chained(long), False),
+                ("number", chained({"setup": 5}), False), ("list", b"[1]\n", False)):
+            with self.subTest(name=name):
+                Path(name).write_bytes(record)
+                self.assertIs(chain.begins_with(Path(name), Path("setup.json")), begins)
+        os.mkfifo("pipe")
+        for record, setup in (("pipe", "setup.json"), ("right", "missing"), ("missing", "right")):
+            self.assertIs(chain.begins_with(Path(record), Path(setup)), False)
 
 
 @contextlib.contextmanager
@@ -185,3 +261,21 @@ class Offices(Case):
                         replay.Setup.compare(self.CON, desks)
                     else:
                         self.assertRaises(replay.OtherSetup, replay.Setup.compare, self.CON, desks)
+
+    def test_a_setup_with_two_entries(self):
+        """So has the office; a setup that does not say it may be of an older package."""
+        double, single = {"entry": "double"}, {"entry": "single"}
+        for of_setup, of_office, is_taken in (
+                (double, double, True), (double, single, False), (double, {}, False),
+                ({}, double, True), ({}, {}, True), (single, double, True)):
+            for number in (1, 2):
+                with self.subTest(setup=of_setup, office=of_office, offices=number):
+                    left = self.office(**of_office) + [(404, "{}")] * 2 * (number - 1)
+                    desks = {place: "desk" for place in range(number)}
+                    with mock.patch.object(replay, "send", lambda *_: left.pop(0)):
+                        if is_taken:
+                            replay.Setup.compare(self.CON | of_setup, desks)
+                        else:
+                            self.assertRaisesRegex(
+                                replay.OtherSetup, "one entry closes a return there",
+                                replay.Setup.compare, self.CON | of_setup, desks)

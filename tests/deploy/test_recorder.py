@@ -17,7 +17,9 @@ from unittest import mock
 
 from tests.support import tools
 from tests.support.case import needs
-from tests.support.desks import answer_of, desk_with, recording_desk, whole_message
+from tests.support.desks import (
+    answer_of, desk_with, empty_desk, recording_desk, whole_message,
+)
 from tests.support.proxy import proxy
 from tests.support.record import a_command, replayed
 from tests.support.recorder import FAILING, command, recorder_alone
@@ -190,9 +192,8 @@ class Recorder(SiteCase):
                               for key in ("name", "role", "address", "office", "method", "path",
                                           "bytes", "status")],
                              ["clara", "clerk", "192.0.2.1", 1, "POST", "/con/c1/certify", 3, 403])
-            messages.clear()
-            self.assertEqual(replayed(port, record)[0], 0)
-            self.assertEqual([body for _, body in messages], bodies)
+            with empty_desk() as (other, came):
+                self.assertEqual((replayed(other, record)[0], came), (0, bodies))
             # Who reads the head reads it whole: another file takes its place.
             with open("recorder/head", encoding="utf-8") as old:
                 self.assertEqual(command("/station/s1/close"), 200)

@@ -9,7 +9,14 @@ from pathlib import Path
 
 from tests.support import tools
 from tests.support.case import ROOT, needs
-from tests.support.desks import answer_of, answering_desk, desk_with, recording_desk
+from tests.support.desks import (
+    answer_of,
+    answering_desk,
+    commanded,
+    done,
+    empty_desk,
+    recording_desk,
+)
 from tests.support.office import with_stations
 from tests.support.proxy import office_and_proxy, proxy
 from tests.support.record import LODGED, a_command, chained, replayed
@@ -81,6 +88,13 @@ def spoiled_lines():
     return lines[:100]
 
 
+LODGED_ANSWER = {"status": 200, "answer": '{"ok":"lodged","rev":1}'}
+
+
+def lodge(n):
+    return f"/station/s{n}/lodge", json.dumps(LODGED | {"votes": [n, 0]})
+
+
 # Commands that no recorder has written, and what is said of them.
 ODD = ((a_command("{}") | {"n": 99}, "not as it was written, or one before it: its number is 99"),
        (a_command("{}") | {"method": "POST /x"}, "not a line of a record"),
@@ -89,7 +103,7 @@ ODD = ((a_command("{}") | {"n": 99}, "not as it was written, or one before it: i
        (a_command("{}") | {"time": "2026-11-26T22:14:00"}, "not a line of a record"),
        (a_command(b"") | {"body_base64": "e30=!"}, "not a line of a record"),
        (a_command("{}") | {"office": 2}, "office 2 is not named"),
-       (a_command("{}") | {"office": "\ud800"}, "office \\ud800 is not named"))
+       (a_command("{}") | {"office": "\ud800"}, "not a line of a record"))
 
 
 class Replay(SiteCase):
@@ -154,13 +168,11 @@ class Replay(SiteCase):
             a_command("") | {"bytes": 3, "status": 403},
             b'{"time":"2026', a_command("last"), {"to": 17, "status": 200, "answer": ""},
             a_command("lost"))
-        messages = []
 
-        def answered(_, body):
-            messages.append(body)
+        def answered(body):
             return b"" if body == b"cut" else answer_of((409 if body == latin else 200, "{}"))
 
-        with desk_with(answered) as port:
+        with empty_desk(answered) as (port, messages):
             status, said = replayed(port, record)
             self.assertEqual((status, messages), (1, [latin, b"second", b"cut", b"last"]))
             head = "2026-11-26T22:14:{:02}.000+00:00 clara POST /con/c1/import"
@@ -192,18 +204,13 @@ class Replay(SiteCase):
 
     def test_a_record_of_a_hundred_spoiled_lines(self):
         """Each is named by its number, and what comes between and after them is sent."""
-        spoiled, messages = spoiled_lines(), []
+        spoiled = spoiled_lines()
         self.assertEqual(len(spoiled), 100)
         entries = []
         for place, line in enumerate(spoiled):
-            entries += [a_command(f"{place}", "/station/s1/close"), line,
+            entries += [a_command(f"{place}", "/station/s1/lodge"), line,
                         {"to": 3 * place + 1, "status": 200, "answer": ""}]
-
-        def answered(head, body):
-            messages.append(body)
-            return answer_of("{}")
-
-        with desk_with(answered) as port:
+        with empty_desk() as (port, messages):
             status, said = replayed(port, chained(*entries))
         self.assertEqual((status, [body for body in messages if body.isdigit()]),
                          (1, [b"%d" % place for place in range(100)]))
@@ -217,44 +224,47 @@ class Replay(SiteCase):
     def test_a_record_whose_clock_was_put_back(self):
         """A copy of 22:14:10 lacks what was done after it, also where the clock said 22:12 then: it
         is sent, and the line is named."""
-        done = ((11, "22:13:00"), (12, "22:14:10"), (13, "22:12:20"), (14, "22:12:30"),
-                (15, "22:14:20"))
+        times = ((11, "22:13:00"), (12, "22:14:10"), (13, "22:12:20"), (14, "22:12:30"),
+                 (15, "22:14:20"))
         entries = []
-        for n, time_of in done:
+        for n, time_of in times:
             moment = {"time": f"2026-11-26T{time_of}.000+00:00"}
-            entries += [a_command(f"{n}", f"/station/s{n}/close") | moment,
-                        {"to": len(entries) + 1, "status": 200, "answer": ""} | moment]
-        with recording_desk() as (port, messages):
+            entries += [a_command(*lodge(n)[::-1]) | moment, LODGED_ANSWER | {
+                "to": len(entries) + 1} | moment]
+        with commanded(with_stations(15)) as (office, port, came):
+            done(office, *lodge(11))
             status, said = replayed(port, chained(*entries), "--since", "2026-11-26T22:14:10+00:00")
-            self.assertEqual((status, [body for _, body in messages]),
-                             (1, [b"12", b"13", b"14", b"15"]))
+            self.assertEqual((status, came), (1, [lodge(n) for n in (12, 13, 14, 15)]))
             self.assertEqual(said.splitlines()[0],
                              "line 5: the clock was put back before it. What was answered from "
                              "here on is sent, whatever its time")
             self.assertIn("\nleft out by their time: 1 that were done. The answer to the last is "
                           "line 2, of 2026-11-26T22:13:00.000+00:00: does the copy have it?\n"
                           "sent 4, to look at 2; lines 10, ", said)
-            # Over a new office it is nothing to look at.
-            self.assertEqual((replayed(port, chained(*entries))[0], len(messages)), (0, 9))
+        # Over a new office it is nothing to look at.
+        with commanded(with_stations(15)) as (_, port, came):
+            self.assertEqual((replayed(port, chained(*entries))[0], len(came)), (0, 5))
 
     def test_what_was_answered_after_a_line(self):
         """It is sent, whatever its time, also where it was asked for before that line; and what has
         no answer is named wherever it is."""
-        entries = [a_command(f"{n}", f"/station/s{n}/close") for n in range(1, 5)]
-        answers = [{"to": n, "status": 200, "answer": ""} for n in range(1, 4)]
+        entries = [a_command(*lodge(n)[::-1]) for n in range(1, 5)]
+        answers = [LODGED_ANSWER | {"to": n} for n in range(1, 4)]
         record = chained(*entries[:2], answers[0], entries[2], answers[1],
                          answers[2] | {"to": 4, "time": "2026-11-26T21:00:00.000+00:00"},
                          entries[3])
-        for after, bodies in ((0, [b"1", b"2", b"3"]), (3, [b"2", b"3"]), (5, [b"3"]), (7, [])):
-            with self.subTest(after=after), recording_desk() as (port, messages):
+        for after, sent in ((0, [1, 2, 3]), (3, [2, 3]), (5, [3]), (7, [])):
+            with self.subTest(after=after), commanded(with_stations(4)) as (office, port, came):
+                for n in {1, 2, 3} - {*sent}:
+                    done(office, *lodge(n))
                 status, said = replayed(port, record, "--after", f"{after:08}")
-                self.assertEqual((status, [body for _, body in messages]), (1, bodies), said)
+                self.assertEqual((status, came), (1, [lodge(n) for n in sent]), said)
                 self.assertEqual([line[:7] for line in said.splitlines()], ["line 7:", "sent " + (
-                    f"{len(bodies)},")], said)
+                    f"{len(sent)},")], said)
         # A record that lacks its end, or another one's.
-        with recording_desk() as (port, messages):
+        with commanded(with_stations(4)) as (_, port, came):
             status, said = replayed(port, chained(*entries[:1], answers[0]), "--after", "3")
-        self.assertEqual((status, messages, said.splitlines()[0]), (1, [], (
+        self.assertEqual((status, came, said.splitlines()[0]), (1, [], (
             "line 3: it is not there: this record lacks its end, or the copy is another's")))
 
     @needs("nginx", "openssl")
@@ -262,34 +272,35 @@ class Replay(SiteCase):
         """Two spaces, a space at the end, an absolute target: what the desk did, the record has as
         the desk got it, and replay sends it."""
         with recording_desk() as (port, messages), proxy(port) as front:
+            body = json.dumps(LODGED)
             head = (f"Host: {NAME}\r\nAuthorization: {front.authorization('clara')}\r\n"
-                    f"Content-Length: 2\r\nConnection: close\r\n\r\n{{}}")
-            for line in ("POST  /station/s1/close HTTP/1.1", "POST /station/s2/close  HTTP/1.1",
-                         f"POST https://{NAME}/station/s3/close HTTP/1.1",
-                         "POST /station/s4/close HTTP/1.1"):
+                    f"Content-Length: {len(body)}\r\nConnection: close\r\n\r\n{body}")
+            for line in ("POST  /station/s1/lodge HTTP/1.1", "POST /station/s2/lodge  HTTP/1.1",
+                         f"POST https://{NAME}/station/s3/lodge HTTP/1.1",
+                         "POST /station/s4/lodge HTTP/1.1"):
                 with self.subTest(line=line):
                     with front.connect() as it:
                         it.sendall(f"{line}\r\n{head}".encode())
                         self.assertTrue(it.recv(65536).startswith(b"HTTP/1.1 200 "))
-            wanted = [f"/station/s{n}/close" for n in range(1, 5)]
+            wanted = [f"/station/s{n}/lodge" for n in range(1, 5)]
             self.assertEqual([line["path"] for line in front.record(4)], wanted)
             self.assertEqual([head.split(b" ")[1].decode() for head, _ in messages], wanted)
             record = (front.folder / "log/commands.log").read_bytes()
-            messages.clear()
+        with commanded(with_stations(4)) as (_, port, came):
             self.assertEqual(replayed(port, record)[0], 0)
-            self.assertEqual([head.split(b" ")[1].decode() for head, _ in messages], wanted)
+            self.assertEqual([target for target, _ in came], wanted)
 
     def test_what_is_not_sent_again(self):
         """Each is named, and an answer to what is not there too."""
         for entry, words in ODD:
             with self.subTest(entry=entry, words=words):
-                with recording_desk() as (port, messages):
+                with empty_desk() as (port, messages):
                     status, said = replayed(port, chained(
                         entry, {"to": 1, "status": 200, "answer": ""},
                         a_command("[]"), {"to": 3, "status": 200, "answer": ""}))
-                self.assertEqual((status, [body for _, body in messages]), (1, [b"[]"]))
+                self.assertEqual((status, messages), (1, [b"[]"]))
                 self.assertTrue(f"line 1: {words}" in said or words in said.splitlines()[0], said)
-        with recording_desk() as (port, messages):
+        with empty_desk() as (port, messages):
             status, said = replayed(port, chained({"to": 7, "status": 200, "answer": ""},
                                                   {"to": 8, "status": 409, "answer": ""}))
         self.assertEqual((status, messages, said.splitlines()[0]),
@@ -312,7 +323,7 @@ class Replay(SiteCase):
                             (said_of(13, 1) | {"first": [9, 7]}, 1),
                             ({"ok": "moved", "rev": 2}, 1)):
             with self.subTest(now=now, wanted=wanted):
-                with answering_desk({"/con/c1/import": now}) as (port, _):
+                with answering_desk({"/con/c1/import": now, "/progress": ""}) as (port, _):
                     status, said = replayed(
                         port, chained(a_command("x"), {"to": 1, "status": 200, "answer": before}))
                 self.assertEqual((status,
@@ -325,7 +336,7 @@ class Replay(SiteCase):
         """A line for each of what is to be looked at, whatever a body, an answer or a line has in
         it."""
         odd = "\nsent 9, to look at 0\x1b[2J\r\u2028é"
-        with answering_desk({"/con/c1/import": (409, odd)}) as (port, _):
+        with answering_desk({"/con/c1/import": (409, odd), "/progress": ""}) as (port, _):
             status, said = replayed(port, chained(a_command(odd),
                                                   {"to": 1, "status": 200, "answer": ""},
                                                   a_command(odd), odd.replace("\n", " ").encode()))
@@ -339,9 +350,8 @@ class Replay(SiteCase):
         answers = iter([b"x\r\n\r\n", b"HTTP/1.1 200 OK\r\nContent-Length: x\r\n\r\n",
                         answer_of("{}")])
         entries = [entry for n in (1, 3, 5)
-                   for entry in (a_command("{}", f"/station/s{n}/close"),
-                                 {"to": n, "status": 200, "answer": ""})]
-        with desk_with(lambda *_: time.sleep(2) or next(answers)) as port:
+                   for entry in (a_command("{}"), {"to": n, "status": 200, "answer": ""})]
+        with empty_desk(lambda _: time.sleep(2) or next(answers)) as (port, _):
             status, said = replayed(port, chained(*entries))
         self.assertEqual((status, said.splitlines()[-1].split(";")[0]), (1, "sent 3, to look at 1"))
         self.assertTrue(said.startswith("line 1: "), said)
@@ -428,8 +438,9 @@ class OfficeThatDiffers(SiteCase):
             with self.subTest(other=other):
                 self.assertEqual(
                     self.over(lines, [*QUERIED, on("s1", "correct", rev=2, **body)], after=2),
-                    ([7, 13, 17], "corrected", body["votes"], False))
-        self.assertEqual(self.over(lines, electors=29), ([7, 13, 17], "queried", [1, 2], False))
+                    ([7, 13, 15, 17], "corrected", body["votes"], False))
+        self.assertEqual(self.over(lines, electors=29),
+                         ([7, 13, 15, 17], "queried", [1, 2], False))
 
     def test_a_return_with_which_the_office_has_gone_on(self):
         """It is not closed at the revision that the record names too, nor certified where no other
@@ -511,11 +522,11 @@ class OfficeThatDiffers(SiteCase):
         self.assertEqual(self.over(lines), ([], "closed", [10, 20], True))
 
     def test_a_file_of_which_other_rows_are_recorded(self):
-        """The row of s1 was not recorded, and is now, since what was before it is lost: nobody
-        knows which row it is, so no station of the file is closed."""
+        """The row of s1 was not recorded, and is now, since what was before it is lost: s1 is not
+        closed over it, and the other station is, as it was."""
         lines = self.recorded(QUERIED[0], imported("s1,p1,0,0,7,7", "s2,p1,0,0,1,2"),
                               on("s1", "close", rev=1), SECOND[1], CERTIFY)
-        self.assertEqual(self.over(lines, unknown=(2,)), ([5, 7, 9], "received", [7, 7], False))
+        self.assertEqual(self.over(lines, unknown=(2,)), ([5, 9], "received", [7, 7], False))
 
     def test_a_file_with_a_station_that_has_another_return(self):
         """It is known, and the other one is closed."""
@@ -524,42 +535,53 @@ class OfficeThatDiffers(SiteCase):
         self.assertEqual(self.over(lines, [on("s1", "lodge", **OTHER)]),
                          ([3, 7], "received", [7, 7], False))
 
+    def test_a_file_with_a_row_that_is_very_long(self):
+        """The office does not record it, and it records the others, which are known all the
+        same."""
+        lines = self.recorded(imported("s1,p1,0,0,1,2", f"s2,{'p' * 200_000},0,0,1,2"),
+                              on("s1", "close", rev=1))
+        self.assertEqual(self.over(lines, [on("s1", "lodge", **OTHER)]),
+                         ([3], "received", [7, 7], False))
+        self.assertEqual(self.over(lines), ([], "closed", [1, 2], False))
+
     def test_an_office_that_does_not_say_its_returns(self):
         """Nobody knows over which ones a certificate would be, and it is not sent."""
         lines = (a_command(CERTIFY[1], CERTIFY[0]), {"to": 1, "status": 200, "answer": "{}"})
-        table = "STATIONS c1 Twin Town\nstations 1 missing 1 closed 0\ns1 300 -\n"
-        for con, stations, wanted in (({"edition": 1, "lot": []}, table, True),
-                                      (503, table, False),
-                                      ({"edition": 1, "lot": []}, 503, False)):
-            answers = {"/con/c1": con, "/con/c1/stations": stations, CERTIFY[0]: "{}"}
-            with self.subTest(con=con), answering_desk(answers) as (port, asked):
+        con = {"edition": 1, "lot": [], "certified": False, "gone": []}
+        shown = {"/con/c1": con, "/con/c1/returns": "station,slip,blank,spoiled,A,B\n",
+                 "/con/c1/stations": "STATIONS c1 Twin Town\nstations 1 missing 1 closed 0\n"
+                                     "s1 300 -\n"}
+        for other, wanted in (({}, True), *(({target: 503}, False) for target in shown),
+                              ({"/con/c1": {"edition": 1}}, False)):
+            answers = shown | other | {CERTIFY[0]: "{}"}
+            with self.subTest(other=other), answering_desk(answers) as (port, asked):
                 replayed(port, chained(*lines))
                 self.assertEqual(CERTIFY[0] in asked, wanted)
 
     def test_the_stations_of_a_file(self):
-        """By a trial where fewer rows are recorded now. By the file where more are, or others, or
-        where the trial or the file is not accepted. A code may be in quotes, a line may end with
-        CR."""
-        body = 'station;slip;blank;spoiled;A;B\r"s1";p;0;0;1;2\r\ns2;p;0;0;1;2\rs3;p;0;0;1;2'
-        answer = {"bad": 0, "differs": 1, "first": [3, 7], "lodged": 2, "ok": "import",
+        """Each is looked at by itself, whatever the office answers to the file: as many rows as
+        then may be other ones. A code may be in quotes, a line may end with CR. Of a station of
+        which the record has no line nobody knows the return."""
+        body = ('station;slip;blank;spoiled;A;B\r"s1";p;0;0;1;2\r\ns2;p;0;0;1;2\r'
+                '""s3;p;0;0;1;2\n"s"2;p;0;0;2;1')
+        answer = {"bad": 0, "differs": 1, "first": [4, 7], "lodged": 3, "ok": "import",
                   "refused": 0, "same": 0}
-        fewer = answer | {"lodged": 1, "differs": 2, "first": [2, 7]}
-        more = answer | {"lodged": 3, "differs": 0, "first": None}
-        trial = "lodged 0\nsame 1\ndiffers 2\nfirst 2 7\nrow 2 7 differs s2\nrow 3 7 differs s3\n"
         closes = {n: f"/station/s{n}/close" for n in range(1, 5)}
-        shown = [f"/station/s{n}" for n in closes]
         entries = [entry for place, (target, text, said) in enumerate((
             ("/con/c1/import/semicolon", body, json.dumps(answer)),
-            *((close, "{}", "{}") for close in closes.values()))) for entry in (
+            *((close, '{"rev":1}', "{}") for close in closes.values()))) for entry in (
                 a_command(text, target), {"to": 2 * place + 1, "status": 200, "answer": said})]
-        for now, tried, sent in ((answer, trial, [1, 2, 3, 4]), (fewer, trial, [1, 4]),
-                                 (fewer, 503, [4]), (more, trial, [4]), (503, trial, [4]),
-                                 (answer | {"first": [2, 7]}, trial, [4])):
-            answers = dict.fromkeys(closes.values(), "{}") | {
-                "/con/c1/import/semicolon": now, "/con/c1/trial/semicolon": tried}
-            with self.subTest(now=now, tried=tried), answering_desk(answers) as (port, asked):
-                replayed(port, chained(*entries))
-                # (here no station shows its return)
-                self.assertEqual([target for target in asked if target not in shown], [
-                    "/con/c1/import/semicolon", *["/con/c1/trial/semicolon"] * (now is fewer),
-                    *(closes[n] for n in sent)])
+        own = {"rev": 1, "status": "received", "slip": "p", "votes": [1, 2], "blank": 0,
+               "spoiled": 0}
+        other = own | {"votes": [2, 1]}
+        for shown, sent in (((own, own, own, own), [1, 2, 3, 4]),
+                            ((own, other, own, own), [1, 3, 4]),
+                            ((other, own, other, other), [2, 4]), ((own, 404, own, 404), [1, 3]),
+                            ((own, 503, own | {"status": "closed"}, own), [1, 4])):
+            for now in (answer, answer | {"first": None}, 503):
+                answers = dict.fromkeys(closes.values(), "{}") | {"/progress": "",
+                    "/con/c1/import/semicolon": now,
+                    **{f"/station/s{n}": it for n, it in zip(closes, shown)}}
+                with self.subTest(shown=shown, now=now), answering_desk(answers) as (port, asked):
+                    replayed(port, chained(*entries))
+                    self.assertEqual([n for n in closes if closes[n] in asked], sent)

@@ -72,7 +72,8 @@ BOOTED = {
                                  "office.service office-recorder.service office-reader.service",
                              "ReadWritePaths": "/var/www/office", "UMask": "0022",
                              "SystemCallErrorNumber": "EPERM"},
-    "office-backup.service": {"Type": "oneshot", "SupplementaryGroups": "office-recorder",
+    "office-backup.service": {"Type": "oneshot", "OnFailure": "office-alarm.service",
+                              "SupplementaryGroups": "office-recorder",
                               "EnvironmentFile": "-/etc/office/backup.env", "Nice": "10",
                               "TimeoutStartSec": "20min", "TimeoutStopSec": "10min",
                               "StateDirectory": "office", "StateDirectoryMode": "0700",
@@ -240,7 +241,7 @@ class Services(SiteCase):
         kept = {"etc/office/setup.toml": "a setup", "etc/nginx/office/staff.htpasswd": "a password",
                 "etc/nginx/nginx.conf": "a proxy"}
         for folder in (
-            "bin", "lib", "log",
+            "bin", "lib", "log", "www/es",
             *(f"{machine}/{Path(file).parent}" for file in kept for machine in ("old", "new"))):
             Path(folder).mkdir(parents=True, exist_ok=True)
         for file, text in kept.items():
@@ -267,13 +268,15 @@ class Services(SiteCase):
                 lines[2], lines[3] | {"to": 3})))
         Path("commands.log").write_bytes(record)
 
+        Path("www/record.csv").touch()
         shutil.copy(SYSTEMCTL, "bin")
         with serving(with_stations(2), "lib/office.db") as fresh:
             places = {"8080": fresh.port, "-o office -g office ": "", "--after 1234": "--after 2",
                       "-o office-recorder -g office-recorder ": "", "tar -C /": "tar -C new",
                       "/usr/local/lib/office/": f"{DEPLOY}/", "/var/lib/office": "lib",
                       "/var/log/office": "log", "/etc/office/setup.toml": "setup.toml",
-                      "/usr/local/share/office": ".", "/etc/nginx/office": "."}
+                      "/usr/local/share/office": ".", "/etc/nginx/office": ".",
+                      "/var/www/office": "www"}
             its = {"PATH": f"{Path.cwd()}/bin:{os.environ['PATH']}",
                    "OFFICE": str(fresh.process.pid), "PROGRAM": str(PROGRAM),
                    "PORT": str(fresh.port)}
@@ -292,6 +295,8 @@ class Services(SiteCase):
         self.assertEqual({file: Path("new", file).read_text(encoding="utf-8") for file in kept},
                          kept)
         self.assertEqual(Path("log/commands.log").read_bytes(), record)
+        # Pages that showed the record of a trial of it would be another record to the recorder.
+        self.assertEqual(os.listdir("www"), [])
         first, *then = [line.split()
                         for line in Path("said").read_text(encoding="utf-8").splitlines()]
         self.assertEqual((first[0], [words[0] for words in then]),

@@ -167,3 +167,29 @@ class ShownPages(SiteCase):
             it.command("Emulation.setScriptExecutionDisabled", value=True)
             it.open(f"{site}/four/elected-1.html")
             self.assertEqual((it.run(heads), it.visible(".search")), (elected, False))
+
+    @needs("chromium")
+    def test_a_search_whose_pages_do_not_come(self):
+        """They are asked for again with the next letter: no row is left out for good."""
+        refuse = """window.asked = fetch;
+          window.fetch = () => arguments[0] ? Promise.reject(new TypeError("no answer"))
+            : Promise.resolve(new Response("Too many", { status: 429 }));"""
+        with four() as (_, port):
+            press(port, "--setup", "setup.toml", folder="four")
+        many_stations()
+        with browser.tab() as it, web_server(Path.cwd()) as site:
+            for is_lost in (False, True):
+                with self.subTest(is_lost=is_lost):
+                    it.open(f"{site}/many/stations-c1-2.html")
+                    it.run(refuse, is_lost)
+                    it.type(".search input", "s9")
+                    it.wait("return document.querySelector('.search output').textContent")
+                    it.run("window.fetch = window.asked")
+                    it.type(".search input", "s99")
+                    it.wait("return document.querySelector('.search output').textContent === '11'")
+                    it.open(f"{site}/four/index.html")
+                    it.run(refuse, is_lost)
+                    it.type(".find input", "oes")
+                    it.run("window.fetch = window.asked")
+                    it.type(".find input", "oest")
+                    it.wait("return document.querySelector('.find output').textContent === '1'")

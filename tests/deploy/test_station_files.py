@@ -9,7 +9,7 @@ from pathlib import Path
 from tests.support import model
 from tests.support.desks import answer_of, desk_with, done
 from tests.support.office import LISTS, PROFILE, constituency, station, with_stations
-from tests.support.pages import REOPENED, TWIN, WITHDRAWN, read, results_of
+from tests.support.pages import REOPENED, TWIN, WITHDRAWN, read, results_of, shown_text
 from tests.support.scripts import module
 from tests.support.site import SiteCase
 
@@ -283,3 +283,64 @@ class StationFiles(SiteCase):
             with self.subTest(left=left):
                 seen.left = left
                 self.assertAlmostEqual(rounds.seconds_of_round(seen), seconds)
+
+
+class OfOneMoment(SiteCase):
+    """Pages say of a count what it was at one moment, also where the stations are asked for later
+    than the results."""
+
+    of_the_program = False
+
+    def setUp(self):
+        super().setUp()
+        setup = with_stations(4).replace('"s3"\nelectors = 300', '"s3"\nelectors = 1000')
+        self.office, self.setup = model.Office(tomllib.loads(setup)), setup
+        for code, (a, b) in {"s1": (100, 100), "s2": (60, 40), "s3": (500, 400)}.items():
+            done(self.office, f"/station/{code}/lodge",
+                 {"slip": code, "votes": [a, b], "blank": 0, "spoiled": 0})
+        for code in ("s1", "s2"):
+            done(self.office, f"/station/{code}/close", {"rev": 1})
+
+    def test_electors_of_other_returns(self):
+        """While stations are not asked for, as many returns are closed, but other ones: no turnout
+        is said. Once they are asked for again it is that of 1,000 votes of 1,300 electors, on each
+        page."""
+        pages = ("con-c1.html", "index.html", "embed-c1.html", "stations-c1-1.html")
+        with rounds_of(lambda target: self.office.ask("GET", target), self.setup) as a_round:
+            self.assertEqual(a_round()[0], [])
+            for name in pages[:3]:
+                self.assertIn("Turnout of what is counted: 50.00", read(name))
+            done(self.office, "/station/s1/query", {"rev": 2, "note": "sum"})
+            done(self.office, "/station/s3/close", {"rev": 1})
+            self.assertEqual(a_round(0.0), ([], []))
+            for name in pages[:3]:
+                self.assertNotIn("Turnout", read(name))
+            self.assertEqual(a_round(), ([], [TABLE, RETURNS]))
+            for name in pages:
+                with self.subTest(name=name):
+                    self.assertIn("Turnout of what is counted: 76.92", read(name))
+
+    def test_a_return_that_is_closed_within_a_round(self):
+        """The pages of places are written again with the numbers of the next round, though the
+        table of stations is the same."""
+        late = [True]
+
+        def answers(target):
+            if target == TABLE and late:
+                late.clear()
+                done(self.office, "/station/s3/close", {"rev": 1})
+            return self.office.ask("GET", target)
+
+        Path("site").mkdir()
+        Path("site/site.toml").write_text("", encoding="utf-8")
+        Path("site/stations.csv").write_text("station,name,place\n" + "".join(
+            f"s{n},School,{'Far' if n == 4 else 'Town'}\n" for n in range(1, 5)),
+            encoding="utf-8")
+        site = rounds.Site(Path("site"))
+        with rounds_of(answers, self.setup) as a_round, with_instead("Site", lambda: site):
+            self.assertEqual(a_round()[0], [])
+            self.assertEqual(a_round()[0], [])
+            for name in ("con-c1.html", "stations-c1-1.html", "places-c1-1.html", "index.html"):
+                with self.subTest(name=name):
+                    self.assertIn("75.00% of the polling stations are counted, 3 of 4",
+                                  shown_text(read(name)))

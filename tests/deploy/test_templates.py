@@ -95,7 +95,7 @@ class Faults(OfPages):
                 ("templates/paper.css", b"/* \xff */", "templates: paper.css: not UTF-8"),
                 ("templates/foot.html", b"\xff", "templates: foot.html: not UTF-8"),
                 ("stations.csv", f"station,name\ns1,{'x' * 131_073}\n",
-                 "stations.csv: field larger than field limit"),
+                 "stations.csv: s1: a name of more than 300 letters"),
                 ("site.toml", f"x = {'9' * 4_301}", "site.toml: Exceeds the limit"),
                 ("site.toml", 'contact = 3', "site.toml: contact is 3: write a text in quotes"),
                 ("site.toml", 'accessibility = "javascript:alert(1)"',

@@ -13,9 +13,9 @@ from pathlib import Path
 from tests.support import model, tools
 from tests.support.case import needs
 from tests.support.clerks import clerks_browser, confirmed, said
-from tests.support.desks import answer_of, desk_with, done, recording_desk
+from tests.support.desks import answer_of, commanded, desk_with, done, recording_desk
 from tests.support.office import SETUP
-from tests.support.record import a_command, chained, replayed
+from tests.support.record import LODGED, a_command, chained, replayed
 from tests.support.recorder import recorder_alone, recorder_at
 from tests.support.running import PATIENCE
 from tests.support.safeguards import Safeguards, WithSetup
@@ -478,14 +478,15 @@ class Tools(Safeguards):
                "over s1"))
 
     def test_replay_sends_once_what_went_through(self):
-        lines = [waits("berta"), waits("berta"), second("simon", 2), answer(3),
-                 waits("carla", "reopen"), second("simon", 5, "reopen"), answer(6, 409)]
-        with recording_desk(b'{"edition":1,"lot":[]}') as (port, messages):
+        closed = ("/station/s1/lodge", json.dumps(LODGED)), ("/station/s1/close", '{"rev":1}')
+        lines = [entry for number, (target, body) in enumerate(closed) for entry in (
+            a_command(body, target), answer(2 * number + 1))]
+        lines += [waits("berta"), waits("berta"), second("simon", 6), answer(7),
+                  waits("carla", "reopen"), second("simon", 9, "reopen"), answer(10, 409)]
+        with commanded(SETUP) as (_, port, came):
             status, said_of = replayed(port, chained(*lines))
-            self.assertEqual((status, said_of.split(";")[0]), (0, "sent 1, to look at 0"))
-            self.assertEqual([(head.split(b" ")[1], body) for head, body in messages
-                              if head.startswith(b"POST ")],
-                             [(b"/con/c1/certify", b'{"edition":1}')])
+            self.assertEqual((status, said_of.split(";")[0]), (0, "sent 3, to look at 0"))
+            self.assertEqual(came, [*closed, ("/con/c1/certify", '{"edition":1}')])
         checked = tools.run([DEPLOY / "replay", "--check"], input=chained(*lines),
                             capture_output=True, timeout=PATIENCE)
         self.assertEqual(checked.returncode, 0)

@@ -74,8 +74,9 @@ class TypedSlips(TypedCase):
 
     @needs("chromium")
     def test_a_code_that_is_typed_again(self):
-        """The slip comes back corrected: its return is asked for again, and the second entry is
-        compared with what is recorded now, at once."""
+        """The slip comes back corrected: the second entry is compared with what is recorded now,
+        once it is sent again. The page knows no revision that no answer named: the table of all
+        stations would cost too much at each choice."""
         with browser.tab() as it:
             offices = []
 
@@ -95,9 +96,11 @@ class TypedSlips(TypedCase):
                            "document.getElementById('station').select()")
                     it.keys("5a", ENTER)
                     said(it, texts["now"])
-                    self.assertEqual((it.run(FIELD), it.text("#confirm-rev")),
-                                     ("slip", texts["compared_later"]))
+                    self.assertEqual(it.run(FIELD), "slip")
                     it.keys("r101", ENTER, *[f"{typed}{ENTER}" for typed in TYPED])
+                    said(it, texts["stale_blind"])
+                    self.assertEqual(it.text("#confirm-rev"), texts["compared_later"])
+                    it.keys(ENTER)
                     said(it, texts["same_closed"])
 
     @needs("chromium")

@@ -450,8 +450,8 @@ class Reader(Safeguards):
         self.assertEqual(found, [200] * 16 + [429] * 4)
 
     def test_how_many_reports_of_a_name(self):
-        """Four past the cache, of whichever office, and twenty-four of stations and of seconds;
-        others are answered 429. Of these one is asked for at a time: clerks do not wait for them.
+        """Four past the cache at each office, and twenty-four of stations and of seconds; others
+        are answered 429. Of these one is asked for at a time: clerks do not wait for them.
         """
         reader, go_on, heard = loaded("reader.py"), threading.Event(), []
         # (what is left to others afterwards, test_history tries)
@@ -465,9 +465,10 @@ class Reader(Safeguards):
                 return reader.Answer(200, TABLE, "text/plain")
 
         often = reader.Often()
-        places = [often.places, *often.places_of.values()]
         offices = [reader.Reader(Desk(), threading.Semaphore(reader.AT_ONCE), often)
                    for _ in range(2)]
+        places = [each for one in offices
+                  for each in (one.places_of_names, *one.places_of.values())]
         with concurrent.futures.ThreadPoolExecutor(60) as at_once, contextlib.ExitStack() as ended:
             ended.callback(go_on.set)
 
@@ -484,7 +485,6 @@ class Reader(Safeguards):
                 return done.result(PATIENCE / 10).status
 
             self.assertEqual([asked("s1", "station") for _ in range(5)], [None] * 4 + [429])
-            self.assertEqual(asked("s1", "station", office=1), 429)
             self.assertEqual([asked("sara", "second") for _ in range(5)], [None] * 4 + [429])
             self.assertEqual(asked("clara", "clerk", "/con/c1/result"), 200)
             # Where half of all places are taken, a name has two.
@@ -502,9 +502,11 @@ class Reader(Safeguards):
             self.assertEqual([asked("clara", "clerk", office=1) for _ in range(5)],
                              [None] * 4 + [429])
             self.assertEqual(asked("berta", "board", "/con/c1/result", office=1), 200)
+            # Stations have as many places there: an office that is away keeps nobody from it.
+            self.assertIsNone(asked("s1", "station", office=1))
             go_on.set()
-        self.assertEqual(heard.count("/progress"), 36)
-        self.assertEqual([dict(one.names) for one in places], [{}, {}, {}])
+        self.assertEqual(heard.count("/progress"), 37)
+        self.assertEqual([dict(one.names) for one in places], [{}] * 6)
 
     def test_names_do_not_wait_for_strangers(self):
         """These hold what reads for them, and what it would ask."""

@@ -7,6 +7,7 @@ import fcntl
 import os
 import shutil
 import subprocess
+import time
 
 from tests.support.case import ROOT, Case
 from tests.support.running import PATIENCE
@@ -88,6 +89,18 @@ class BesideABuild(Case):
         with open("repository/crates/tally_office/out/office.lock", "a", encoding="utf-8") as lock:
             fcntl.flock(lock, fcntl.LOCK_EX | fcntl.LOCK_NB)
         self.assertIsNone(ran.poll())
+
+    def test_a_build_waits_for_another(self):
+        """Also for longer than the second after which it looks again."""
+        os.makedirs("repository/crates/tally_office/out", exist_ok=True)
+        with open("repository/crates/tally_office/out/office.lock", "a", encoding="utf-8") as lock:
+            fcntl.flock(lock, fcntl.LOCK_EX)
+            ran = self.start()
+            self.assertIn("another ./office is building", ran.stderr.readline())
+            time.sleep(2.5)
+            self.assertFalse(os.path.exists("bin/runs"))
+        out, errors = ran.communicate("", timeout=PATIENCE)
+        self.assertEqual((ran.returncode, out), (0, "build 1\n"), errors)
 
     def test_the_input_is_the_programs(self):
         """A toolchain that reads its input gets none of it, whether it builds or is asked alone."""

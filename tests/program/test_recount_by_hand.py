@@ -128,6 +128,77 @@ class Groups(Case):
                     self.assertEqual(recount.group(con, votes, [1, 2, 3]), [1, 2, 3])
 
 
+class Allotments(Case):
+    def test_lots_in_turn(self):
+        """Of three lists with ten votes each the second was drawn first and the first one last.
+        Where lots alternate, the second seats go the other way round, and by quotas they never
+        do."""
+        for method, kind, seats, wanted in (
+                ("dhondt", "fixed", 4, [1, 2, 1]), ("dhondt", "fixed", 5, [1, 2, 2]),
+                ("dhondt", "fixed", 7, [2, 3, 2]), ("dhondt", "alternating", 4, [2, 1, 1]),
+                ("dhondt", "alternating", 5, [2, 1, 2]), ("dhondt", "alternating", 7, [2, 3, 2]),
+                ("dhondt", "alternating", 8, [2, 3, 3]), ("hare", "alternating", 4, [1, 2, 1]),
+                ("hare", "fixed", 5, [1, 2, 2]), ("hare", "alternating", 1, [0, 1, 0])):
+            with self.subTest(method=method, kind=kind, seats=seats):
+                con = {"rule": {"method": method, "lot": kind}, "seats": seats}
+                found = recount.allotted(con, {1: 10, 2: 10, 3: 10}, [1, 2, 3], [2, 3, 1])
+                self.assertEqual(found, dict(enumerate(wanted, 1)))
+
+    def test_seats_of_unequal_votes(self):
+        """By D'Hondt 80, 40 and 40: of equal quotients the first is that of more votes. By quotas
+        claims of 3.25, 1.25 and 0.5; and of 2.5, 1.5 and 1, where more votes come first. A list
+        that does not take part gets none."""
+        for method, seats, votes, lists, wanted in (
+                ("dhondt", 2, [40, 80], [1, 2], [0, 2]), ("dhondt", 3, [40, 80], [1, 2], [1, 2]),
+                ("sainte-lague", 2, [30, 90], [1, 2], [0, 2]),
+                ("hare", 5, [13, 5, 2], [1, 2, 3], [3, 1, 1]),
+                ("hare", 5, [3, 5, 2], [1, 2, 3], [1, 3, 1]),
+                ("hare", 4, [13, 5, 2], [1, 2], [3, 1, 0]),
+                ("dhondt", 4, [13, 5, 12], [1, 2], [3, 1, 0])):
+            with self.subTest(method=method, seats=seats, votes=votes):
+                con = {"rule": {"method": method}, "seats": seats}
+                found = recount.allotted(con, dict(enumerate(votes, 1)), lists, [])
+                self.assertEqual(found, dict(enumerate(wanted, 1)))
+
+    def test_who_takes_part(self):
+        """A list with a vote that reaches the threshold, exactly too: of 20,000 votes 50.01 per
+        cent are 10,002."""
+        for base, threshold, votes, blank, wanted in (
+                ("lists", 1000, [90, 10], 100, [1, 2]), ("lists", 1001, [90, 10], 100, [1]),
+                ("valid", 500, [90, 10], 100, [1, 2]), ("valid", 501, [90, 10], 100, [1]),
+                ("lists", 5001, [9999, 10001], 0, []), ("lists", 5001, [9998, 10002], 0, [2]),
+                ("lists", 0, [1, 0], 9, [1]), ("lists", 5000, [1, 1], 9, [1, 2]),
+                ("valid", 0, [0, 0], 9, [])):
+            with self.subTest(base=base, threshold=threshold, votes=votes):
+                rule = {"base": base, "threshold": threshold}
+                self.assertEqual(recount.taking_part(rule, dict(enumerate(votes, 1)), blank),
+                                 wanted)
+
+    def test_sums_of_stations(self):
+        """Of blank votes, of each list and of spoiled ones; and of what no list has, as a database
+        may have it."""
+        con = {"list": [{}, {}], "seats": 2, "most": {"s1": 20, "s2": 20},
+               "rule": {"method": "dhondt", "base": "valid", "threshold": 0}}
+        cast = {"s1": {0: 1, 1: 2, 61: 3}, "s2": {0: 4, 1: 5, 2: 6, 7: 5}}
+        self.assertEqual(recount.judged(con, cast, []),
+                         ({0: 5, 1: 7, 2: 6, 61: 3, 7: 5}, {1: 1, 2: 1}, []))
+
+    def test_the_order_of_the_setup_where_there_is_no_lot(self):
+        for method, seats, wanted in (("dhondt", 4, [2, 1, 1]), ("hare", 5, [2, 2, 1])):
+            with self.subTest(method=method):
+                con = {"rule": {"method": method}, "seats": seats}
+                found = recount.allotted(con, {1: 10, 2: 10, 3: 10}, [1, 2, 3], [])
+                self.assertEqual(found, dict(enumerate(wanted, 1)))
+
+
+class Divisors(Case):
+    def test_the_divisors_of_each_method(self):
+        for method, wanted in (("dhondt", [1, 2, 3, 4]), ("sainte-lague", [1, 3, 5, 7]),
+                               ("modified-sainte-lague", [Fraction(7, 5), 3, 5, 7])):
+            with self.subTest(method=method):
+                self.assertEqual([recount.divisor(method, k) for k in range(1, 5)], wanted)
+
+
 def counted(*words):
     """The status and the texts of a recount with these words."""
     out, errors = io.StringIO(), io.StringIO()
@@ -243,6 +314,7 @@ class OfReturns(Case):
             ("AB", first, "c1-2,q,0,0,1_0,1"),
             ("AB", first, "c1-2,q,0,0,,1"),
             ("AB", first, 'c1-2,"q,0,0,1,1'),
+            ("AB", first, 'c1-2,q,0,0,1,"1"1'),
             ("BA", first),
             ("ABC", first),
         ):
@@ -345,9 +417,14 @@ class OfReturns(Case):
                     self.cannot_be_counted(ran)
 
     def test_words_that_name_no_files(self):
-        for words in ((), ("a.db", "--lots", "b"), ("--setup", "a"), ("--lots", "a"), ("a", "b")):
+        said = "recount.py: error: either a database, or --setup and --returns"
+        for words in ((), ("a.db", "--lots", "b"), ("a.db", "--setup", "b", "--returns", "c"),
+                      ("--setup", "a"), ("--returns", "a"), ("--lots", "a"),
+                      ("--setup", "a", "--lots", "b")):
             with self.subTest(words=words):
-                self.assertEqual(counted(*words).status, 2)
+                ran = counted(*words)
+                self.assertEqual((ran.status, ran.out, ran.err.splitlines()[-1]), (2, "", said))
+        self.assertEqual(counted("a", "b").status, 2)
 
 
 class OfDatabases(ProgramCase):
@@ -423,3 +500,9 @@ class OfDatabases(ProgramCase):
         new()
         close_return("s1", "c1", [200, 100], spoiled=1)
         spoiled("c1 differs: more votes than electors\n")
+
+    def test_one_of_two_constituencies_that_differs(self):
+        new(profile("d0") + town() + town("c2"), constituencies=2)
+        self.assertEqual(counted("office.db"), Ran(0, "c1 agrees\nc2 agrees\n", ""))
+        change("UPDATE totals SET n = 1 WHERE con = 'c1' AND item = 0")
+        spoiled("c1 differs: totals\nc2 agrees\n")

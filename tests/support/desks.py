@@ -98,6 +98,38 @@ def modelled(setup):
         yield office, port
 
 
+@contextlib.contextmanager
+def commanded(setup):
+    """In place of the office its model, which takes commands too; the model, its port, and the
+    targets and bodies of the commands that came."""
+    office, came = model.Office(tomllib.loads(setup)), []
+
+    def answered(head, body):
+        method, target = head.decode().split(" ")[:2]
+        if method == "POST":
+            came.append((target, body.decode()))
+        return answer_of(office.ask(method, target, body.decode()))
+
+    with desk_with(answered) as port:
+        yield office, port, came
+
+
+@contextlib.contextmanager
+def empty_desk(answered=lambda body: answer_of("{}")):
+    """In place of the office something that has no constituency, and gives to each command what a
+    function of its body returns; its port, and the bodies that came."""
+    came = []
+
+    def answer(head, body):
+        if head.startswith(b"GET "):
+            return answer_of("" if head.startswith(b"GET /progress ") else 404)
+        came.append(body)
+        return answered(body)
+
+    with desk_with(answer) as port:
+        yield port, came
+
+
 def done(office, target, body):
     """Sends a command to the model of an office, which has to accept it."""
     same(office.ask("POST", target, body if isinstance(body, str) else json.dumps(body))[0], 200)

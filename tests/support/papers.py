@@ -20,6 +20,7 @@ from tests.support.case import ROOT
 from tests.support.office import party_list, station
 from tests.support.record import chained
 from tests.support.running import PATIENCE
+from tests.support.scripts import module
 from tests.support.site import DEPLOY, EXAMPLES, SiteCase
 
 COPY = "copy.db"
@@ -136,6 +137,30 @@ def large(lists, stations):
                   for row in votes.items()]
     return found + [("INSERT INTO totals VALUES (?, ?, ?)", (CON, item, n * stations))
                     for item, n in votes.items()]
+
+
+# ---- a constituency that is made by hand
+
+RULE = {"code": "p", "method": "dhondt", "threshold": 0, "base": "valid"}
+PEOPLE = {"A": ["Ana", "Abel"], "B": ["Bea", "Bo"]}
+
+
+def con_of(votes=((3, 2), (4, 1)), lists=None, seats=3, rule=(), agents=0, status=4, blank=1,
+           **more):
+    """A constituency of 10 electors in each station: the first may have agents. Each return has so
+    many blank votes, and two spoiled ones."""
+    lists = lists or ["A", "B"][:len(votes[0])]
+    stations = [{"code": f"s{n}", "electors": 10} for n in range(1, len(votes) + 1)]
+    if agents:
+        stations[0]["agents"] = agents
+    setup = {"code": "c1", "name": "Twin Town", "seats": seats, "rule": RULE | dict(rule),
+             "station": stations, "list": [
+                 {"code": code, "name": f"List {code}",
+                  "candidates": PEOPLE.get(code, ["Eva", "Ivo"])} for code in lists]}
+    data = module("papers_data")
+    returns = [data.Return(station["code"], 2, f"p{n}", status, "", blank, 2, list(row))
+               for n, (station, row) in enumerate(zip(stations, votes), 1)]
+    return data.Con(setup, returns=returns, **more)
 
 
 # ---- running it
