@@ -357,11 +357,10 @@ def print_sums(given, returns):
         print(f"{returns.name} has the returns of no certificate: what is certified may differ.")
 
 
-def print_lots(audit):
+def print_lots(audit, begin="A lot decided"):
     for it in audit.lots:
         # (here the order of the setup gave the seat to the first)
-        print(f"A lot decided between {it.words.replace(' comes before ', ' and ')}: the votes of the two are equal.")
-    print("No sample can confirm what a lot decided: count all papers.")
+        print(f"{begin} between {it.words.replace(' comes before ', ' and ')}: the votes of the two are equal.")
 
 
 def work(audit, draws):
@@ -405,6 +404,7 @@ def print_plan(audit, risk):
     print_outcome(audit)
     if audit.lots:
         print_lots(audit)
+        print("No sample can confirm what a lot decided: count all papers.")
         return
     print(f"The seats follow from {counted(len(audit.assertions), 'assertion')}. The closest, each with the votes that were recorded wrongly at "
           "least if it is false:")
@@ -496,10 +496,16 @@ def follow(audit, given, draws, counted):
 def count_of_all(audit, of_papers):
     print("All papers are counted:")
     print_outcome(of_papers)
-    if of_papers.lots:
-        print_lots(of_papers)
+    if of_papers.lots or audit.lots:
+        print_lots(of_papers, "A lot has to decide")
+        if {it.words for it in of_papers.lots} == {it.words for it in audit.lots}:
+            print("By the returns the same lot decides: the certified seats have to be those of the lot that was drawn.")
+        elif of_papers.lots:
+            print("By the returns no such lot decides: correct them, and certify again.")
+        else:
+            print("By the returns a lot decides, and by the papers none: the certified seats have to be these.")
         return 1
-    same = of_papers.seats == audit.seats and not audit.lots
+    same = of_papers.seats == audit.seats
     print("The papers give the same seats." if same else "The papers give other seats.")
     return 0 if same else 1
 

@@ -5,6 +5,7 @@ import csv
 import hashlib
 import io
 import json
+import math
 import re
 import stat
 from collections import Counter, defaultdict
@@ -89,7 +90,7 @@ class Con:
     """A constituency: its entry in setup.json, its sums in results.csv, its closed returns by their
     stations and, where it is certified, who is elected: list, place in it and name, or None for
     both where a seat is empty. After a vacancy that is who holds the seat now; `left` has the lists
-    of those who have left."""
+    of which somebody has left who would hold a seat."""
 
     setup: dict
     published: dict
@@ -131,12 +132,6 @@ class Con:
         """The seats of each list by its code; none without a certificate."""
         given = Counter(code for code, *_ in self.elected)
         return {one["code"]: given[one["code"]] for one in self.lists} if self.certified else {}
-
-    @property
-    def may_be_elected(self):
-        """Each candidate, as in `elected`, and an empty seat of each list."""
-        return {(one["code"], *who) for one in self.lists
-                for who in [(None, None), *enumerate(one["candidates"], 1)]}
 
     @property
     def sums(self):
@@ -264,14 +259,23 @@ def read_returns(pages, con, name):
     return found
 
 
+def lists_left(gone, elected):
+    """The lists of which somebody has left who would hold a seat. Who is gone stays so after a
+    reopening, where the list may have fewer seats, or none."""
+    last = {}
+    for listed, place, _ in elected:
+        last[listed] = max(last.get(listed, 0), place or math.inf)
+    return {one["list"] for one in gone if one["place"] < last.get(one["list"], 0)}
+
+
 def read_con(pages, setup, row, sums):
     """A constituency of which all that is published agrees: a row of it in results.csv, and its
     sums there."""
     code, certified = setup["code"], row["certified"] == "true"
     state = pages.json(f"con-{code}.json")
     lists = [(row["code"], row["name"]) for row in state["tally"]["lists"]]
-    if (state["tally"]["name"], lists) != (
-            setup["name"], [(one["code"], one["name"]) for one in setup["lists"]]):
+    if (state["tally"]["name"], state["rule"]["seats"], lists) != (
+            setup["name"], setup["seats"], [(one["code"], one["name"]) for one in setup["lists"]]):
         raise Refused("other_setup", file=pages.last, con=code)
     if (state["view"]["certified"], str(state["view"]["edition"])) != (
             certified, row["edition"]):
@@ -279,16 +283,27 @@ def read_con(pages, setup, row, sums):
     con = Con(setup, sums, certified)
     if certified:
         con.elected = [(one["list"], one["place"], one["name"]) for one in state["holders"]]
-        con.left = {one["list"] for one in state["view"]["gone"]}
+        con.left = lists_left(state["view"]["gone"], con.elected)
         compare(pages.last, code, {("seats", one): n for one, n in state["seats"]["seats"].items()},
                 of_kinds(sums, "seats"))
     if sums["closed", ""]:
         edition = row["edition"] if certified else OPEN
         con.returns = read_returns(pages, con, f"stations-{code}-{edition}.csv")
     compare(pages.last, code, con.sums, sums)
-    if not set(con.elected) <= con.may_be_elected:
+    if certified and con.elected != holders_of(con, state["view"]["gone"]):
         raise Refused("other_setup", file=f"con-{code}.json", con=code)
     return con
+
+
+def holders_of(con, gone):
+    """Who holds the seats by law: of each list the first of its candidates who are not gone, and
+    where there are no more nobody."""
+    left, found = {(one["list"], one["place"]) for one in gone}, []
+    for one in con.lists:
+        code, seats = one["code"], con.published["seats", one["code"]]
+        stay = [who for who in enumerate(one["candidates"], 1) if (code, who[0]) not in left]
+        found += [(code, *who) for who in [*stay, *[(None, None)] * seats][:seats]]
+    return found
 
 
 def names_of(election):

@@ -12,12 +12,15 @@ LIKE = str.maketrans(
     "АВЕКМНОРСТУХІЈЅаеорсухіјѕһԁԛԝΑΒΕΖΗΙΚΜΝΟΡΤΥΧονυ01",
     "ABEKMHOPCTYXIJSaeopcyxijshdqwABEZHIKMNOPTYXovuol",
 )
-ALPHABETS = ("LATIN", "CYRILLIC", "GREEK")
+ALPHABETS = ("LATIN", "CYRILLIC", "GREEK", "ARMENIAN", "CHEROKEE", "COPTIC", "LISU")
+# Letters and signs that are drawn as nothing: Hangul fillers, an empty Braille sign, a joiner.
+BLANK = re.compile("[\u034f\u115f\u1160\u2800\u3164\uffa0]")
 
 
 def unseen(text):
     """The characters of a text that are not seen, or turn round what follows: their codes."""
-    return sorted({f"U+{ord(c):04X}" for c in text if unicodedata.category(c) in ("Cc", "Cf", "Zl", "Zp")})
+    return sorted({f"U+{ord(c):04X}" for c in text
+                   if unicodedata.category(c) in ("Cc", "Cf", "Zl", "Zp") or BLANK.match(c)})
 
 
 def mixed(text):

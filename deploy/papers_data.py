@@ -14,6 +14,9 @@ from tempfile import TemporaryDirectory
 from chain import Chain, hash_of_file
 from press_data import json_text, read_setup, returns_csv
 from press_parts import hundredths
+from record_commands import items, said_in
+from record_moments import latest
+from record_unanswered import Shown
 from scripts import script
 
 # As tables have them: the status of a closed return, and the spoiled votes among its numbers.
@@ -68,7 +71,7 @@ class Return:
     @property
     def figures(self):
         """Its slip and its numbers, as the record's reader has them."""
-        return self.slip, entries.items(self.votes, self.blank, self.spoiled)
+        return self.slip, items(self.votes, self.blank, self.spoiled)
 
 
 @dataclass
@@ -274,10 +277,13 @@ class Record(entries.Reading):
         """Counts a line that the reader of entries would print: what a paper says of it is looked for there."""
         self.left += 1
 
+    def put_back(self, said):
+        """An office that was put back has its acts since then: entries names it."""
+
     def done(self, command, entry):
         left, before = self.left, self.figures_before(command)
         super().done(command, entry)
-        if self.left == left and command.what in ("query", "correct", "reopen", "draw"):
+        if self.left == left and (command.what in ("correct", "draw") or note_of(command)):
             self.events.append(command)
         if command.what == "correct":
             self.corrections[command.number] = before, self.figures_of(command.code)
@@ -290,7 +296,7 @@ class Record(entries.Reading):
         """The slip and the numbers of a return before this correction; None where the record lacks
         an act before it, by the revision that it names."""
         known = self.returns.get(command.code, entries.Return()).revisions
-        if command.what == "correct" and entries.revision_of(command.body) == len(known):
+        if command.what == "correct" and said_in(command.body, "rev") == len(known):
             return self.figures_of(command.code)
         return None
 
@@ -299,7 +305,11 @@ class Record(entries.Reading):
     def gone_since(self, con):
         """Those who are gone since the certificate; None where the record does not say."""
         whole = len(self.editions[con.code]) - 1 == con.edition
-        if not whole or self.lost_gone_of(con):
+        # (one of which the copy alone says that he is gone may have gone before the certificate)
+        certified = latest(self.moments[con.code][-1])
+        is_unsure = any(who[0] == con.code and moment < certified <= latest(moment)
+                        for who, moment in self.gone.items())
+        if not whole or is_unsure or self.lost_gone_of(con):
             return None
         return con.gone.keys() - self.places_of(con, self.gone_before.get(con.code, ()))
 
@@ -311,6 +321,12 @@ class Record(entries.Reading):
     def meet(self, con):
         """Refuses a record that knows more of the constituency than the copy, or something else."""
         of_copy = {one.station: one for one in con.returns}
+        self.shown_by_copy({("station", code): Shown(one.revision, (one.status,), one.figures)
+                            for code, one in of_copy.items()}
+                           | {("con", con.code): Shown(con.edition, (con.certified,))}
+                           | {("gone", con.code, con.lists[place - 1]["code"], order): Shown(1)
+                              for place, order in con.gone})
+        taken = {place for *_, places in self.borne_out.values() for place in places}
         for station in con.stations:
             known = self.returns[station["code"]].revisions if station["code"] in self.returns else []
             one = of_copy.get(station["code"])
@@ -319,7 +335,10 @@ class Record(entries.Reading):
             if one and len(known) == one.revision and (
                     known[-1] != (one.status, one.figures)
                     or self.returns[one.station].notes[-1] not in (None, one.note)):
-                raise Refused("other_record", con=con.code, what=station["code"])
+                if ("station", one.station) not in taken:
+                    raise Refused("other_record", con=con.code, what=station["code"])
+                # (another act than the one that was taken as done: nobody knows whose)
+                del self.returns[one.station]
         known = self.editions[con.code]
         if len(known) - 1 > con.edition or self.places_of(con, self.gone) - con.gone.keys():
             raise Refused("copy_is_older", con=con.code, what=con.code)
@@ -400,10 +419,12 @@ def read_record(file, text, whole=None):
     if whole and not of_whole(whole, json.loads(made)):
         raise Refused("setup_of_another", file=whole)
     record, chain, faults = Record(setup), Chain(), []
-    with open(file, "rb") as lines:
-        for number, line in enumerate(lines, 1):
-            faults += chain.take(line.removesuffix(b"\n"))
-            record.take(number, line.decode(errors="surrogateescape").rstrip("\n"))
+    with open(file, "rb") as data:
+        lines = list(data)
+    record.answered = entries.answered_in(lines)
+    for number, line in enumerate(lines, 1):
+        faults += chain.take(line.removesuffix(b"\n"))
+        record.take(number, line.decode(errors="surrogateescape").rstrip("\n"))
     if faults:
         raise Refused("record_broken", file=file, fault=faults[0])
     if chain.setup not in (None, digest):
@@ -421,5 +442,6 @@ def gone_since(con, record):
 
 
 def note_of(command):
-    """The note of a query or a reopening that was done."""
-    return json.loads(command.body)["note"]
+    """The note of a query or a reopening; None where it has none, with which no office does it."""
+    note = entries.note_of(command.body) if command.what in ("query", "reopen") else None
+    return note if isinstance(note, str) else None

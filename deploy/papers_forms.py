@@ -216,8 +216,10 @@ def lot(forms, con, record):
     if rule.get("lot") == "alternating" and rule["method"] != "hare":
         found.append(forms.say("lot_turned"))
     drawn = record.events_of(con, "draw") if record else []
-    # (one that was drawn past the record has another moment than the record's last one)
-    if drawn and list(record.lots[con.code][-1][1]) == order:
+    # (another one that was drawn past the record, after a query that the record lacks too, may have
+    # the same order and has another moment)
+    is_other = bool(drawn) and record.lacks_edition_of(con) and record.lost_of(con)
+    if drawn and not is_other and list(record.lots[con.code][-1][1]) == order:
         found.append(forms.say("lot_when", moment=forms.when(drawn[-1].time)))
     return found
 

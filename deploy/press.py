@@ -5,15 +5,14 @@
 
 It asks the office by GET alone, once a round for the results of all constituencies, and writes into FOLDER: index.html, what
 they are together; count.html, how far the count is; a page for each constituency and for each list, and small ones for other
-sites; the elected; and the same numbers as CSV and JSON. Where
-there are several offices the pages are those of all. With the setup file it also writes setup.json, which the clerks' page reads,
-draws the threshold, has turnout, names the candidates who are gone, and writes for each certificate the returns of its stations,
-as one CSV and as pages; where there is no certificate, those that are closed so far. The setup has to be that of the offices
-together. A constituency that two of them have, that is missing or unknown, or that is not as the setup has it is named on standard
-error, and the pages of all stay as they were. With the head that the recorder writes, each
-round shows how long the record of commands is and the hash of its last line, and record.csv keeps what was shown. The folder of the site says what the pages are called, in which language,
-and more (press_site.py). manifest.json has the hash of each file, feed.atom what was certified, withdrawn and vacated, and
-datapackage.json, the schemas and openapi.json say what the files have.
+sites; the elected; and the same numbers as CSV and JSON. Where there are several offices the pages are those of all. With the
+setup file it also writes setup.json, which the clerks' page reads, has turnout, names the candidates who are gone, and writes for
+each certificate the returns of its stations, as one CSV and as pages; where there is no certificate, those that are closed so far.
+The setup has to be that of the offices together. A constituency that two of them have, that is missing or unknown, or that is not
+as the setup has it is named on standard error, and the pages of all stay as they were. With the head that the recorder writes,
+each round shows how long the record of commands is and the hash of its last line, and record.csv keeps what was shown. The folder
+of the site says what the pages are called, in which language, and more (press_site.py). manifest.json has the hash of each file,
+feed.atom what was certified, withdrawn and vacated, and datapackage.json, the schemas and openapi.json say what the files have.
 
 The pages are made by press_pages.py, the other files by press_data.py. A page is written when something on it changes, and
 those of the country and of the count in each round. The stations of a constituency are asked for once a certificate; without
@@ -30,7 +29,6 @@ cannot be used. Python 3.11 or later.
 import argparse
 import contextlib
 import csv
-import hashlib
 import json
 import math
 import re
@@ -42,13 +40,13 @@ from datetime import datetime
 from functools import partial
 from pathlib import Path
 
-from press_data import (ACTS, OF_HASH, OPEN, STATION, adds_up, con_csv, con_json, datapackage, feed, goes_on,
-                        index_csv, index_json, json_text, manifest, record_csv, results_csv,
-                        returns_csv, returns_in, said_before, schemas, shown_heads)
+from press_data import (OPEN, STATION, acts_of, adds_up, con_csv, con_json, datapackage, feed, goes_on, index_csv, index_json,
+                        json_text, manifest, record_csv, results_csv, returns_csv, returns_in, said_before, schemas, shown_heads)
 from press_country import together
 from press_embed import con_embedded, country_embedded, withdrawn_embedded
-from press_files import (allow_provisional, changed, forget, is_folder, is_known, keep_room, make_folder, moment_in, put, put_bytes,
-                         remove, remove_folder, repair, restore, text_of, text_of_another, use_room, withdraw_of_all, withdraw_of_con)
+from press_files import (allow_provisional, are_withdrawn, begun, changed, forget, is_folder, is_known, keep_room, make_folder,
+                         moment_in, published, put, put_bytes, remove, remove_folder, repair, restore, text_of, text_of_another,
+                         unless_full, use_room, withdraw_of_all, withdraw_of_con)
 from press_image import shared_image
 from press_lists import elected_csv, elected_pages, list_pages
 from press_offices import Office, OtherSetup, compare_stations, results_of
@@ -85,18 +83,12 @@ def put_dated(folder, name, write, moment):
     """Writes a file that says its moment, by a function of the moment. One that says the same of an earlier moment keeps that. The
     moment that it says."""
     before = text_of(folder / name)
-    since = moment_in(MOMENTS[Path(name).suffix], before) or moment
+    since = min(moment_in(MOMENTS[Path(name).suffix], before) or moment, moment)
     text = write(since)
     if text != unaged(before):
         since, text = moment, write(moment)
     put(folder, name, text)
     return since
-
-
-def published(folder, *left):
-    """The files of a folder that are for readers, but for those left."""
-    return [file for file in sorted(folder.iterdir())
-            if file.is_file() and file.suffix != ".gz" and not file.name.startswith(".") and file.name not in left]
 
 
 def put_head(folder, file, failures):
@@ -152,11 +144,6 @@ def remove_languages(folder, site):
 def is_ours(page):
     """Whether this program made a page: the folder may have others of the board's, in any encoding."""
     return is_known(page) or AGE[0] in text_of(page)
-
-
-def mark_old(site, file):
-    """Says on a page how old it is."""
-    put(file.parent, file.name, aged(site, text_of(file), datetime.now().astimezone()))
 
 
 # ---- the returns of stations
@@ -242,7 +229,7 @@ def write_returns(office, folder, code, con, entry, seen, may_ask):
             remove(folder, name)
     files = {of: name for of, name in files.items() if (folder / name).is_file()}
     for name in files.values():
-        if not is_known(folder / name) and (text := text_of(folder / name)):
+        if not (is_known(folder / name) and is_known(folder / f"{name}.gz")) and (text := text_of(folder / name)):
             put(folder, name, text)
     return files
 
@@ -279,26 +266,16 @@ def write_open(office, folder, site, code, con, entry, seen, may_ask):
     return {OPEN: name} if (folder / name).is_file() else {}
 
 
-def acts_of(folder, code, edition, returns):
-    """The PDF files of acts that deploy/papers made of this certificate, each with its kind and its language: its edition and the
-    beginning of the hash of its returns are in their names. An act of another edition or of other returns is none of them."""
-    if edition not in returns:
-        return []
-    digest = hashlib.sha256((folder / returns[edition]).read_bytes()).hexdigest()[:OF_HASH]
-    name = re.compile(rf"act-({'|'.join(ACTS)})-{re.escape(code)}-{edition}-{digest}-([A-Za-z0-9-]+)\.pdf")
-    found = (name.fullmatch(file.name) for file in sorted(folder.glob("act-*.pdf")))
-    return [(one[0], one[1], one[2]) for one in found if one]
-
-
 def write_stations(folder, site, code, con, entry, seen, file, states=None):
     """Writes the pages of the stations and of the places from a file of returns; without one no station is closed."""
     text = text_of(folder / file) if file else ""
     for one, into in site.editions(folder):
         pages, seen.starts[one.language, code] = stations_pages(one, code, con, entry, text, states) if file else ([], [])
-        write_parts(into, f"stations-{code}", pages)
+        write_parts(into, f"stations-{code}", pages, seen.asked)
         of_each, of_table, places = places_pages(one, code, con, entry, text, states)
-        write_parts(into, f"place-{code}", left_as_they_are(into, f"place-{code}", of_each, seen.places.setdefault(code, {})))
-        write_parts(into, f"places-{code}", of_table)
+        of_each = left_as_they_are(into, f"place-{code}", of_each, seen.places.setdefault(code, {}))
+        write_parts(into, f"place-{code}", of_each, seen.asked)
+        write_parts(into, f"places-{code}", of_table, seen.asked)
     if places:
         put(folder, f"places-{code}.csv", places_csv(con, places))
     else:
@@ -315,10 +292,9 @@ def left_as_they_are(folder, name, pages, before):
     return found
 
 
-def write_parts(folder, name, pages):
+def write_parts(folder, name, pages, moment):
     """Writes pages that follow one another, each a text, a function of its moment, or None where it stays as it is, and removes those
     that this program made before and that are not of them."""
-    moment = datetime.now().astimezone()
     for place, one in enumerate(pages, 1):
         if one is None:
             continue
@@ -342,7 +318,7 @@ class Seen:
     places of those with which its pages of stations begin; the constituencies of which the pages of lists were made; in each language, of
     which beginnings find.json was made; of each what the page of each place shows; the edition of each whose file of returns was
     compared with the office; the seconds that the last round left for stations, fewer than none where it waited longer; whether setup.json
-    was written."""
+    was written; and the moment at which the offices were asked last, which the pages say: what they answered may be others' by then."""
     cons: dict = field(default_factory=dict)
     written: dict = field(default_factory=dict)
     moments: dict = field(default_factory=dict)
@@ -355,6 +331,7 @@ class Seen:
     compared: dict = field(default_factory=dict)
     left: float = 0.0
     has_setup: bool = False
+    asked: datetime = None
 
     def forget(self):
         """Each file is made again in the next round."""
@@ -378,8 +355,7 @@ def write_con(folder, site, code, con, entry, returns, seen):
     """Writes the files of a constituency, where something of it has changed."""
     if seen.written.get(code) == returns and con is seen.cons.get(code):
         return
-    row = con["progress"]
-    now = datetime.now().astimezone()
+    row, now = con["progress"], seen.asked
     electors = seen.electors[code] = electors_counted(folder, con, entry, returns)
     if OPEN not in returns:
         file = returns.get(row["edition"]) if row["certified"] and entry else None
@@ -392,29 +368,31 @@ def write_con(folder, site, code, con, entry, returns, seen):
         body, *more = con_bodies(one, code, con, row, entry, returns, electors, has_places)
         moments.append(put_dated(into, f"con-{code}.html", partial(con_page, one, con, row, body), now))
         put_dated(into, f"embed-{code}.html", con_embedded(one, code, con, head_of(body)), now)
-        write_parts(into, f"details-{code}", [partial(details_page, one, code, con, row, of_page) for of_page in more])
-    put(folder, f"con-{code}.csv", con_csv(con))
+        write_parts(into, f"details-{code}", [partial(details_page, one, code, con, row, of_page) for of_page in more], now)
+    # (of a table and its JSON file the JSON is first: by that they are withdrawn)
     put_dated(folder, f"con-{code}.json", lambda moment: con_json(con, moment), now)
+    put(folder, f"con-{code}.csv", con_csv(con))
+    remove(folder, begun(code))
     seen.cons[code], seen.written[code], seen.moments[code] = con, returns, moments[0]
 
 
 def write_index(folder, site, cons, setup, electors, seen, head):
     """Writes the files of all constituencies; `electors` are those of the stations that are counted, by constituency."""
-    moment, changed = datetime.now().astimezone(), max((seen.moments[code] for code in cons if code in seen.moments), default=None)
+    moment, changed = seen.asked, max((seen.moments[code] for code in cons if code in seen.moments), default=None)
     for one, into in site.editions(folder):
         first, *more = index_pages(one, cons, setup, moment, changed, electors)
         put(into, "index.html", first)
-        write_parts(into, "cons", more)
+        write_parts(into, "cons", more, moment)
         first, *more = count_pages(one, cons, moment, changed, head)
         put(into, "count.html", first)
-        write_parts(into, "count", more)
+        write_parts(into, "count", more, moment)
         starts = {code: seen.starts.get((one.language, code), []) for code in cons}
         if seen.found.get(one.language) != starts:
             put(into, "find.json", find_json(cons, setup, one, starts))
             seen.found[one.language] = starts
     progress = [con["progress"] for con in cons.values()]
-    put(folder, "index.csv", index_csv(progress))
     put_dated(folder, "index.json", lambda since: index_json(progress, since), moment)
+    put(folder, "index.csv", index_csv(progress))
     put(folder, "results.csv", results_csv(cons, setup))
 
 
@@ -428,7 +406,7 @@ def write_lists(folder, site, cons, electors, seen):
     changed: shares are of the country."""
     if len(cons) == len(seen.lists) and all(con is seen.lists.get(code) for code, con in cons.items()):
         return
-    country, moment = together(cons, electors), datetime.now().astimezone()
+    country, moment = together(cons, electors), seen.asked
     if site.about.get("address"):
         put_bytes(folder / "share.png", shared_image(site, country))
     codes = {party.code for party in country.parties}
@@ -437,20 +415,21 @@ def write_lists(folder, site, cons, electors, seen):
         for party in country.parties:
             first, *more = list_pages(one, country, party, cons)
             put_dated(into, f"list-{party.code}.html", first, moment)
-            write_parts(into, f"lists-{party.code}", more)
+            write_parts(into, f"lists-{party.code}", more, moment)
         for page in into.glob("list*-*.html"):
             found = re.fullmatch(r"list-(.+)|lists-(.+)-\d+", page.stem)
             if found and not {found[1], found[2]} & codes and is_ours(page):
                 remove(into, page.name)
-        write_parts(into, "elected", elected_pages(one, country, cons))
+        write_parts(into, "elected", elected_pages(one, country, cons), moment)
     put(folder, "elected.csv", elected_csv(cons))
+    remove(folder, begun(None))
     seen.lists = dict(cons)
 
 
 def write_about(folder, site, cons, codes, setup, seen, head, is_whole):
     """Writes the feed, after these constituencies, and what describes the other files. The codes are those of all constituencies,
     where they are known. The round is whole where each of these was written."""
-    moment, (known, has_others) = datetime.now().astimezone(), said_before(text_of(folder / "feed.atom"))
+    moment, (known, has_others) = seen.asked, said_before(text_of(folder / "feed.atom"))
     if has_others:
         print(f"failed: {folder / 'feed.atom'}: what is none of the entries of these pages is left out", file=sys.stderr)
     put_dated(folder, "feed.atom", lambda since: feed(known, cons, codes, setup, site, since), moment)
@@ -467,6 +446,11 @@ class Round:
 
     def __init__(self, offices, folder, site, setup, seen, seconds):
         self.folder, self.site, self.setup, self.seen, self.seconds = folder, site, setup, seen, seconds
+        before, seen.asked = seen.asked, datetime.now().astimezone()
+        if before and before > seen.asked:
+            # The clock was ahead, and is right by now: what is dated after this is made again.
+            seen.forget()
+            seen.moments.clear()
         found, self.failures = results_of(offices, setup)
         self.whole = not self.failures
         # By constituency its office, what it is, and the files of returns that are there.
@@ -474,7 +458,7 @@ class Round:
         if not site.provisional:
             found = {code: (office, without_provisional(con)) for code, (office, con) in found.items()}
         self.cons = {code: self.as_before(code, con) for code, (_, con) in found.items()}
-        self.files, self.failed = {}, set()
+        self.files, self.failed, self.later = {}, set(), set()
         for con in self.cons.values():
             site.meet(row["code"] for row in con["tally"]["lists"])
 
@@ -499,12 +483,11 @@ class Round:
         """Says on a page how old it is; that of a constituency is written again once there is an answer. One that this program has
         not written is still none of its own: somebody may have changed it before."""
         is_own = is_known(page)
-        mark_old(site, page)
+        put(page.parent, page.name, aged(site, text_of(page), datetime.now().astimezone()))
         if not is_own:
             forget(page)
-        self.seen.written.pop(con_of(page.name), None)
-        self.seen.stations.pop(con_of(page.name), None)
-        self.seen.places.pop(con_of(page.name), None)
+        for known in (self.seen.written, self.seen.stations, self.seen.places):
+            known.pop(con_of(page.name), None)
         self.seen.lists.clear()
 
     def each(self, act, order=None):
@@ -540,18 +523,23 @@ class Round:
             files |= write_open(office, self.folder, self.site, code, con, entry, self.seen, may_ask)
             if con["view"]["certified"]:
                 files["acts"] = acts_of(self.folder, code, con["view"]["edition"], files)
+            row, seen = con["progress"], self.seen
+            if entry and (code not in seen.stations if has_open(row) else row["certified"] and seen.compared.get(code) != row["edition"]):
+                self.later.add(code)  # (somebody may have changed its files before the start)
             self.seconds -= office.took - before
         except (ValueError, KeyError, TypeError, IndexError, csv.Error) as error:
             raise NoAnswer(f"/con/{code}/returns: a text that is not of its report: {error!r}") from error
         self.files[code] = files
 
     def write_con(self, code, con):
+        if self.seen.cons.get(code) is not con:
+            withdraw_of_con(self.folder, code, con["view"]["edition"] if con["view"]["certified"] else None, are_next=True)
         write_con(self.folder, self.site, code, con, self.setup.get(code), self.files[code], self.seen)
 
     def write_rest(self, head):
         """Writes the files that are of all constituencies."""
         shown = head and self.cons and put_head(self.folder, head, self.failures)
-        self.withdraw()
+        self.withdraw(self.whole)
         if self.whole:
             if self.setup and not self.seen.has_setup:
                 put(self.folder, "setup.json", json_text(list(self.setup.values())))
@@ -563,25 +551,34 @@ class Round:
         if self.cons:
             cons = {code: self.seen.cons[code] for code in self.cons if code not in self.failed}
             codes = list(self.cons) if self.whole else None
-            write_about(self.folder, self.site, cons, codes, self.setup, self.seen, shown, self.whole and not self.failed)
+            write_about(self.folder, self.site, cons, codes, self.setup, self.seen, shown, self.whole and not self.failed | self.later)
 
-    def withdraw(self):
+    def withdraw(self, are_next=False):
         """Removes the files for programs that say of a constituency that it is certified as it is no more: of all constituencies,
-        and of one that is not written now. Of one that did not answer nobody knows better, unless it is none of the setup."""
+        and of one that is not written now. Of one that did not answer nobody knows better, unless it is none of the setup. The pages of
+        all may be written next."""
         now = {code: con["view"]["edition"] if con["view"]["certified"] else None for code, con in self.cons.items()}
-        withdraw_of_all(self.folder, now, self.setup or None)
+        withdraw_of_all(self.folder, now, self.setup or None, are_next)
         for code, con in self.cons.items():
             if self.seen.cons.get(code) is not con:
                 withdraw_of_con(self.folder, code, now[code])
 
     def leave_on_full_disk(self):
-        """Says on each page how old it is, by the room that was kept for it. Nothing vouches for them until a round is whole."""
+        """Says on each page how old it is, by the room that was kept for it, and keeps it again. One that cannot say so is removed where
+        it may have a certificate that is withdrawn. Nothing vouches for them until a round is whole."""
         use_room(self.folder)
         with contextlib.suppress(OSError):
             remove(self.folder, "manifest.json")
             self.withdraw()
-            for site, page in self.pages():
-                mark_old(site, page)
+        for site, page in self.pages():
+            try:
+                self.mark_old(site, page)
+            except OSError:
+                if are_withdrawn(self.folder, con_of(page.name)) and text_of(page) == unaged(text_of(page)):
+                    with contextlib.suppress(OSError):
+                        remove(page.parent, page.name)
+        with contextlib.suppress(OSError):
+            keep_room(self.folder)
 
 
 def seconds_of_round(seen):
@@ -607,8 +604,10 @@ def look_for_changes(folder, site, seen):
 
 
 def write_given(folder, site):
-    """Writes the files of what is given at the start."""
+    """Writes the files of what is given at the start, and makes the folders of other languages."""
     allow_provisional(folder, site.provisional)
+    for one in site.others:
+        make_folder(folder / one.language)
     if known := site.for_clerks():
         put(folder, "site.json", json_text(known))
     else:
@@ -617,9 +616,10 @@ def write_given(folder, site):
 
 def write_all(offices, folder, site, setup, seen, head=None, seconds=math.inf):
     """One round; how many pages of constituencies and of the country were written, and what failed."""
-    look_for_changes(folder, site, seen)
     it = Round(offices, folder, site, setup, seen, seconds)
     try:
+        look_for_changes(folder, site, seen)
+        keep_room(folder)
         if it.failures:
             it.leave_as_it_is()
         it.each(it.write_returns, it.waits)
@@ -628,8 +628,6 @@ def write_all(offices, folder, site, setup, seen, head=None, seconds=math.inf):
         if it.whole and it.cons:
             withdraw(folder, site, {*it.cons, *setup})
         it.write_rest(head)
-        if it.whole:
-            keep_room(folder)
     except OSError:
         it.leave_on_full_disk()
         raise
@@ -637,13 +635,13 @@ def write_all(offices, folder, site, setup, seen, head=None, seconds=math.inf):
 
 
 def begin(folder, site):
-    """Makes the folder ready for the pages, and looks at what is in it."""
-    write_given(folder, site)
+    """Makes the folder ready for the pages, and looks at what is in it. What finds no room is written in a round: the room that is kept is
+    for the pages."""
+    with unless_full():
+        write_given(folder, site)
     remove_languages(folder, site)
     restore(folder)
     for _, into in site.editions(folder):
-        if into != folder:
-            make_folder(into)
         repair(into)
 
 
@@ -684,10 +682,11 @@ def main():
             seen.forget()
             written, failures = 0, [f"{error.filename or given.folder}: {error.strerror}: the round ended there"]
         asked = sum(office.asked for office in offices)
-        for failure in failures:
-            print(f"failed: {failure}", file=sys.stderr)
-        print(f"{datetime.now().strftime('%H:%M:%S')} pages {written} failed {len(failures)} GETs {asked - before} "
-              f"in {time.monotonic() - began:.1f} s", flush=True)
+        with unless_full():
+            for failure in failures:
+                print(f"failed: {failure}", file=sys.stderr)
+            print(f"{datetime.now().strftime('%H:%M:%S')} pages {written} failed {len(failures)} GETs {asked - before} "
+                  f"in {time.monotonic() - began:.1f} s", flush=True)
         if given.every is None:
             return 1 if failures else 0
         time.sleep(max(0.0, given.every - (time.monotonic() - began)))

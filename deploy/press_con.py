@@ -10,8 +10,8 @@ from press_figures import bars, half_circle
 from press_head import Standing, con_outlook, con_state, counted_line, has_won, leads
 from press_lots import lot_drawn, lot_said
 from press_open import reason_said, reopened_counted
-from press_parts import (COUNTED, NOTHING, TABLE_ROOM, Head, Part, blank_row, by_votes, changed,
-                         changing, details_links, divided, hundredths, list_link, list_name,
+from press_parts import (COUNTED, NOTHING, TABLE_ROOM, Head, Part, base_of, blank_row, by_votes,
+                         changed, changing, details_links, divided, list_link, list_name,
                          list_share, numbers, pieces, progress_bar, room_beside, rounded, row_of,
                          sections, sections_on, size, stacked_row, table, tables, together,
                          votes_said)
@@ -30,15 +30,15 @@ TABLES_OF_CON = ((math.inf, math.inf), (math.inf, 12_000), (math.inf, 6_000), (1
 # ---- seats and votes
 
 
-def former_con(site, code, con, entry):
+def former_con(site, code, con):
     """The seats and the shares that each list had, each where they can be compared."""
     tally = con["tally"]
-    whole = tally["closed"] == tally["stations"] and entry and entry["base"] == "valid"
+    whole = tally["closed"] == tally["stations"] and con["rule"]["base"] == "valid"
     return (seats_before(site.former, [code]) if "seats" in con else None,
             shares_before(site.former, [code]) if whole else None)
 
 
-def seats_sections(site, code, con, row, entry, room):
+def seats_sections(site, code, con, room):
     """The seats, with as many rows of their table as have room, and the others."""
     macros = site.templates.of_con
     if not con["view"]["certified"]:
@@ -48,7 +48,7 @@ def seats_sections(site, code, con, row, entry, room):
         count = site.said("seats_count", many=con["rule"]["seats"])
         return [Part(macros.no_seats(none, why, count))]
     given, total = con["seats"]["seats"], con["seats"]["total"]
-    before, _ = former_con(site, code, con, entry)
+    before, _ = former_con(site, code, con)
     rows = [row_of(site, list_name(site, one["code"], one["name"]),
                    changed(site, one["code"], given[one["code"]], before, site.number))
             for one in by_votes(con)]
@@ -58,8 +58,8 @@ def seats_sections(site, code, con, row, entry, room):
     ordered = {one["code"]: given[one["code"]] for one in by_votes(con)}
     circle = half_circle(site, ordered, total) if total else None
     # (of Hare's rule a list has one claim to a seat, for which the order is as it was drawn)
-    turned = entry and entry["lot"] == "alternating" and entry["method"] != "hare"
-    seats = macros.seats(certified_said(site, con, entry), circle, first,
+    turned = con["rule"]["lot_rule"] == "alternating" and con["rule"]["method"] != "hare"
+    seats = macros.seats(certified_said(site, con), circle, first,
                          lot_drawn(site, con), turned, last_seat(site, con))
     return [Part(seats, first.heads), *sections_on(site, more)]
 
@@ -152,35 +152,34 @@ def provisional_sections(site, con, none, why, room):
     return [Part(seats, first.heads), *sections_on(site, more)]
 
 
-def certified_said(site, con, entry):
-    values = {"edition": con["seats"]["edition"], "many": con["seats"]["total"]}
-    said = (site.said("certified_by", **values, method=site.words["methods"][entry["method"]])
-            if entry else site.said("certified_in", **values))
+def certified_said(site, con):
+    said = site.said("certified_by", many=con["seats"]["total"], edition=con["seats"]["edition"],
+                     method=site.words["methods"][con["rule"]["method"]])
     if not con["past"]:
         return said
     return said + " " + site.said("certified_again", many=len(con["past"]),
                                   edition=con["past"][-1]["edition"])
 
 
-def votes_sections(site, code, con, entry, room):
+def votes_sections(site, code, con, room):
     """The votes, with as many rows of their table as have room, and the others."""
-    _, before = former_con(site, code, con, entry)
-    lists = [row | {"share": share_of(con, entry, row)} for row in by_votes(con)]
+    _, before = former_con(site, code, con)
+    rule = con["rule"]
+    lists = [row | {"share": list_share(con, row)} for row in by_votes(con)]
     rows = [stacked_row(site, list_link(site, row["code"], row["name"]),
                         *votes_cells(site, con, row, before), takes_part(site, con, row))
             for row in lists]
     if con["tally"]["closed"]:
-        rows.append(blank_row(site, con["tally"]["blank"], blank_share(con, entry), "–"))
-    base = site.say(f"base_{entry['base']}") if entry else site.say("base_valid")
-    threshold, limit = entry["threshold"] if entry else 0, ""
-    if threshold:
-        limit = site.said("threshold", share=site.per_cent(threshold), base=base)
-    shares = site.said("shares_of", base=base) if entry else site.said("shares_in")
+        rows.append(blank_row(site, con["tally"]["blank"], blank_share(con), "–"))
+    base, limit = site.say(f"base_{rule['base']}"), ""
+    if rule["threshold"]:
+        limit = site.said("threshold", share=site.per_cent(rule["threshold"]), base=base)
+    shares = site.said("shares_of", base=base)
     heads = (site.said("list"), numbers(site.said("votes").lower()),
              changing(site, "share", before), site.said("takes_part"))
     first, *more = tables(site, site.said("table_votes"), heads, rows, "stacked", room=room)
     votes = site.templates.of_con.votes(
-        con["tally"]["closed"], con["tally"]["stations"], bars(site, lists, threshold, limit),
+        con["tally"]["closed"], con["tally"]["stations"], bars(site, lists, rule["threshold"], limit),
         first, shares, before is not None, con_state(con) == "withdrawn")
     return [Part(votes, first.heads), *sections_on(site, more)]
 
@@ -200,38 +199,22 @@ def takes_part(site, con, row):
     return site.said("yes" if row["eligible"] else "no")
 
 
-def blank_share(con, entry):
+def blank_share(con):
     """The share of the blank votes, as those of the lists are shown; None where shares are of the
     votes for lists."""
     if con["rule"]["base"] == "lists":
         return None
-    of_valid = rounded if entry else hundredths
-    return of_valid(con["tally"]["blank"], con["tally"]["valid"])
+    return rounded(con["tally"]["blank"], con["tally"]["valid"])
 
 
-def share_of(con, entry, row):
-    """The share of a list in hundredths of a per cent; that of the office, which is rounded down,
-    where the rule is not known."""
-    if not entry:
-        return int(row["share"].replace(".", ""))
-    return list_share(con, row)
-
-
-def base_of(con, entry):
-    """The votes of which shares are."""
-    if entry and entry["base"] == "lists":
-        return sum(row["votes"] for row in con["tally"]["lists"])
-    return con["tally"]["valid"]
-
-
-def con_head(site, con, entry, electors):
+def con_head(site, con, electors):
     """The lines under the title: how much is counted, the seats, what is missing, and who has won
     or who leads. The electors are those of the stations that are counted, or None."""
     tally, seats = con["tally"], con.get("seats")
     standings = [Standing(row["name"], row["votes"], seats["seats"][row["code"]] if seats else 0,
                           list_share(con, row)) for row in tally["lists"]]
     headline = (has_won(site, standings, seats["total"]) if seats
-                else leads(site, standings, base_of(con, entry),
+                else leads(site, standings, base_of(con),
                            tally["closed"] == tally["stations"]))
     counted = counted_line(site, tally["closed"], tally["stations"],
                            tally["valid"] + tally["spoiled"], electors)
@@ -386,7 +369,7 @@ def con_bodies(site, code, con, row, entry, returns, electors, has_places):
     """The parts of the page of a constituency, and, where that is too long for one, the pages on
     which it goes on; `entry` is what the setup says of the constituency, or None, and `electors`
     are those of the stations that are counted, or None. Its places have pages, or not."""
-    head = con_head(site, con, entry, electors)
+    head = con_head(site, con, electors)
     order = {listed["code"]: place for place, listed in enumerate(by_votes(con))}
     names = {listed["code"]: listed["candidates"] for listed in entry["lists"]} if entry else {}
     published = (row["edition"] if row["certified"] else OPEN) in returns
@@ -403,8 +386,8 @@ def con_bodies(site, code, con, row, entry, returns, electors, has_places):
         return details_links(site, names, groups, here)
 
     for of_seats, of_votes in TABLES_OF_CON:
-        seats, *more_seats = seats_sections(site, code, con, row, entry, of_seats)
-        votes, *more_votes = votes_sections(site, code, con, entry, of_votes)
+        seats, *more_seats = seats_sections(site, code, con, of_seats)
+        votes, *more_votes = votes_sections(site, code, con, of_votes)
         more = [*more_seats, *more_votes, *details]
         if sum(map(size, [seats, votes, counted, files, *more])) <= room:
             return [{"seats": NOTHING.join([seats, *more_seats]), "counted": counted,

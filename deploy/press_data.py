@@ -2,6 +2,7 @@
 
 import contextlib
 import csv
+import hashlib
 import io
 import json
 import re
@@ -374,6 +375,20 @@ def adds_up(text, view):
     return len(returns) == view["closed"] and sums == [view["blank"], view["spoiled"], *view["votes"]]
 
 
+# ---- the acts
+
+
+def acts_of(folder, code, edition, returns):
+    """The PDF files of acts that deploy/papers made of this certificate, each with its kind and its language: its edition and the
+    beginning of the hash of its returns are in their names. An act of another edition or of other returns is none of them."""
+    if edition not in returns:
+        return []
+    digest = hashlib.sha256((folder / returns[edition]).read_bytes()).hexdigest()[:OF_HASH]
+    name = re.compile(rf"act-({'|'.join(ACTS)})-{re.escape(code)}-{edition}-{digest}-([A-Za-z0-9-]+)\.pdf")
+    found = (name.fullmatch(file.name) for file in sorted(folder.glob("act-*.pdf")))
+    return [(one[0], one[1], one[2]) for one in found if one]
+
+
 # ---- the JSON files
 
 
@@ -491,13 +506,13 @@ def was_title(site, tally, title):
 
 
 def seen_before(site, tally, before, now):
-    """An entry as the office bears it out now, with the moment at which it was first seen. No answer has the note of an earlier
-    reopening, nor the share that was counted when provisional seats first were these: each stays as it was written, a share that
-    may have been counted before now."""
+    """An entry as the office bears it out now, with the moment at which it was first seen, unless that is yet to come. No answer has
+    the note of an earlier reopening, nor the share that was counted when provisional seats first were these: each stays as it was
+    written, a share that may have been counted before now."""
     kind = now.find(f"{ATOM}category").get("term")
     keeps = kind == "provisional" and was_title(site, tally, before.findtext(f"{ATOM}title") or "")
-    is_moment = moment_in("(.*)", before.findtext(f"{ATOM}updated") or "")
-    old = [*["updated"] * bool(is_moment), *["title"] * keeps, *["summary"] * (not now.findtext(f"{ATOM}summary"))]
+    since, moment = (moment_in("(.*)", entry.findtext(f"{ATOM}updated") or "") for entry in (before, now))
+    old = [*["updated"] * bool(since and since <= moment), *["title"] * keeps, *["summary"] * (not now.findtext(f"{ATOM}summary"))]
     for tag in old:
         now.find(ATOM + tag).text = before.findtext(ATOM + tag)
     return now

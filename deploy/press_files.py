@@ -2,16 +2,20 @@
 it left each of them, and so finds what somebody else changed."""
 
 import contextlib
+import errno
 import gzip
 import hashlib
 import json
 import os
 import re
 import shutil
+import sqlite3
 import stat
 import sys
+import time
 import zlib
 from datetime import datetime
+from urllib.parse import quote
 
 # As each compressed file of ours begins: it has no moment. What a board compressed itself has one.
 BEGINS = gzip.compress(b"", 6, mtime=0)[:8]
@@ -19,9 +23,13 @@ BEGINS = gzip.compress(b"", 6, mtime=0)[:8]
 # The file by which the proxy knows that seats may be shown before they are certified.
 PROVISIONAL = ".provisional"
 
+# Seconds that a round takes at most, before it removes a copy of a database that is newer.
+LATELY = 120
+
 # A file that keeps some room of the disk, and its bytes: when all else is full, pages can still say
 # how old they are.
 RESERVE, RESERVED = ".reserve", 4 * 1024 * 1024
+FULL = (errno.ENOSPC, errno.EDQUOT)
 
 # The files for programs and the picture that are of all constituencies.
 OF_ALL = ("results.csv", "elected.csv", "index.csv", "index.json", "share.png")
@@ -44,7 +52,13 @@ def put(folder, name, text):
         leave(file, data)
         return
     put_bytes(compressed, compressed_of(data))
-    put_bytes(file, data)
+    try:
+        put_bytes(file, data)
+    except OSError:
+        # (browsers get the compressed one alone: it never says another thing than the file)
+        LEFT.pop(compressed.absolute(), None)
+        compressed.unlink(missing_ok=True)
+        raise
 
 
 def put_bytes(file, data):
@@ -186,11 +200,13 @@ def vouched(folder, files, is_whole):
     return found
 
 
-def withdraw_of_all(folder, editions, setup):
+def withdraw_of_all(folder, editions, setup, are_next=False):
     """Removes the files for programs of all constituencies, where they say of one of these that it
     is certified as it is no more, or of one that is none of the setup, or where nobody knows what
     they say: pages say how old they are, and these files do not. By constituency the edition that
-    is certified, or None; the setup may be None."""
+    is certified, or None; the setup may be None. Pages of these editions may be written next.
+    Copies of a database go alike."""
+    withdraw_databases(folder, editions)
     try:
         cons = json.loads(text_of(folder / "index.json"))["constituencies"]
         before = {con["con"]: con["edition"] for con in cons if con["certified"]}
@@ -201,37 +217,87 @@ def withdraw_of_all(folder, editions, setup):
             for code, edition in before.items()):
         for name in OF_ALL:
             remove(folder, name)
+    elif are_next and before != {code: edition for code, edition in editions.items() if edition}:
+        put_bytes(folder / begun(None), b"")
 
 
-def withdraw_of_con(folder, code, edition):
-    """Removes the files for programs of a constituency that say the same of it."""
+def withdraw_databases(folder, editions):
+    """Removes each copy of a database that an office published, and that says of one of these
+    constituencies that it is certified as it is no more. By constituency the edition that is
+    certified, or None. One that cannot be read is perhaps being put there; and of one that was put
+    there lately a round that began before it knows nothing."""
+    for file in folder.glob("office*.db"):
+        if 0 <= time.time() - file.stat().st_mtime < LATELY:
+            continue
+        with contextlib.suppress(sqlite3.Error, ValueError), contextlib.closing(sqlite3.connect(
+                f"file:{quote(str(file.absolute()))}?mode=ro&immutable=1", uri=True)) as it:
+            says = it.execute("SELECT con, edition FROM cons WHERE certified").fetchall()
+            if any(editions.get(code, edition) != edition for code, edition in says):
+                print(f"failed: {file}: a certificate that it has is withdrawn: removed",
+                      file=sys.stderr)
+                remove(folder, file.name)
+
+
+def withdraw_of_con(folder, code, edition, are_next=False):
+    """Removes the files for programs of a constituency that say the same of it, or of which nobody
+    knows what they say. Pages of this edition may be written next."""
     try:
         view = json.loads(text_of(folder / f"con-{code}.json"))["view"]
         before = view["edition"] if view["certified"] else None
     except (ValueError, KeyError, TypeError, RecursionError):
-        before = None
+        before = 0  # (which is no edition)
     if before not in (None, edition):
         for suffix in ("csv", "json"):
             remove(folder, f"con-{code}.{suffix}")
+    elif are_next and before != edition:
+        put_bytes(folder / begun(code), b"")
+
+
+def begun(code):
+    """A file that is there while pages of a constituency, or those of all, may have a certificate
+    that the file for programs lacks, since that is written after them."""
+    return f".begun-{code}" if code else ".begun"
+
+
+def are_withdrawn(folder, code):
+    """Whether the pages of a constituency, or those of all, may have a certificate that is
+    withdrawn: the file for programs that is written after them is removed, or may lack it."""
+    last = f"con-{code}.json" if code else "elected.csv"
+    return not (folder / last).exists() or (folder / begun(code)).exists()
 
 
 def keep_room(folder):
-    """Keeps some room of the disk, as long as there is some."""
+    """Keeps some room of the disk. Fails where there is not as much."""
     file = folder / RESERVE
-    with contextlib.suppress(OSError):
-        if file.exists() and file.stat().st_size == RESERVED:
-            return
-        try:
+    try:
+        if not file.exists() or file.stat().st_size != RESERVED:
             with open(file, "wb") as it:
                 os.posix_fallocate(it.fileno(), 0, RESERVED)
-        except OSError:
-            file.unlink()
+    except OSError as error:
+        use_room(folder)
+        if error.errno in FULL:
+            raise
+
+
+@contextlib.contextmanager
+def unless_full():
+    """Passes over a fault of a full disk."""
+    try:
+        yield
+    except OSError as error:
+        if error.errno not in FULL:
             raise
 
 
 def use_room(folder):
     with contextlib.suppress(OSError):
         (folder / RESERVE).unlink()
+
+
+def published(folder, *left):
+    """The files of a folder that are for readers, but for those left."""
+    return [file for file in sorted(folder.iterdir()) if file.is_file() and file.suffix != ".gz"
+            and not file.name.startswith(".") and file.name not in left]
 
 
 def text_of(file):
@@ -268,19 +334,22 @@ RETURNS = re.compile(r"stations-[A-Za-z0-9_-]+-\d+\.csv")
 def restore(folder):
     """Says which files of a certificate's returns are no more as the manifest has them, from before
     this program began, and makes each again from the compressed one beside it. Where that one is
-    another too both are removed. The office makes that of a certificate in force again, and nobody
-    can make that of a withdrawn one."""
+    another too, or the disk has no room, both are removed. The office makes that of a certificate
+    in force again, and nobody can make that of a withdrawn one."""
     for name, digest in manifest_of(folder).items():
         file, compressed = folder / name, folder / f"{name}.gz"
         if not RETURNS.fullmatch(name) or on_disk(file) and hash_of(file) == digest:
             continue
         print(f"failed: {file}: somebody else changed or removed it", file=sys.stderr)
-        data = None
+        data, is_made = None, False
         with contextlib.suppress(OSError):
             data = content_of(compressed.read_bytes()) if on_disk(compressed) else None
         if data is not None and hashlib.sha256(data).hexdigest() == digest:
-            put_bytes(file, data)
-        elif not is_folder(file):
+            with unless_full():
+                use_room(folder)
+                put_bytes(file, data)
+                is_made = True
+        if not is_made and not is_folder(file):
             remove(folder, name)
 
 
@@ -317,6 +386,8 @@ def repair_one(compressed, file):
     if not file.is_file():
         compressed.unlink()
     elif content_of(compressed.read_bytes()) != file.read_bytes():
+        # (without room for it the proxy gives the file)
+        compressed.unlink()
         put_bytes(compressed, compressed_of(file.read_bytes()))
 
 

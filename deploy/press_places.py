@@ -11,7 +11,7 @@ from typing import Callable, NamedTuple
 from press_country import by_name
 from press_data import PLACE, VERSION, csv_text, in_a_cell
 from press_figures import bars
-from press_head import Standing, counted_line, leads
+from press_head import Standing, counted_line, leads, level
 from press_names import closed, in_order, isolated, label
 from press_parts import (NOTHING, TABLE_ROOM, blank_row, changed, framed, list_name, numbers,
                          pieces, rounded, searched, stacked_row, votes_said)
@@ -81,9 +81,9 @@ def place_head(site, entry, place, names):
     standings = [Standing(names[code], votes) for code, votes in place.votes.items()]
     headline, first = leads(site, standings, base_of(entry, place)), max(place.votes.values())
     if headline and place.closed == len(place.stations):
-        ahead = [names[code] for code, votes in place.votes.items() if votes == first]
+        ahead = [one for one in standings if one.votes == first]
         headline = site.say("place_first" if len(ahead) == 1 else "place_level",
-                            first=isolated(ahead[0]), second=isolated(ahead[-1]),
+                            first=isolated(ahead[0].name), lists=level(site, ahead),
                             share=site.per_cent(rounded(first, base_of(entry, place))))
     papers = place.of_lists + place.blank + place.spoiled
     return {"headline": headline,
@@ -145,8 +145,9 @@ def place_pages(site, code, con, entry, places, stations_of, has_stations):
     return [page(number, place) for number, place in enumerate(places, 1)]
 
 
-def table_pages(site, code, con, entry, places):
-    """The pages of the table of places, each as a function of its moment."""
+def table_pages(site, code, con, entry, places, closed):
+    """The pages of the table of places, each as a function of its moment, with how many stations are
+    closed in its rows: the results of the constituency are of a moment before."""
     tally, rows = con["tally"], []
     numbered = sorted(enumerate(places, 1), key=lambda one: in_order(one[1].name))
     for number, place in numbered:
@@ -161,7 +162,7 @@ def table_pages(site, code, con, entry, places):
             site.share(counted_share(place.closed, len(place.stations)))))
     heads = (site.said("place_name"), site.said("first"), numbers(site.said("valid_votes")),
              numbers(site.said("counted_head")))
-    counted = counted_line(site, tally["closed"], tally["stations"])
+    counted = counted_line(site, closed, len(entry["stations"]))
 
     def written(rows, links, moment):
         return site.templates.page(

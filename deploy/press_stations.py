@@ -102,4 +102,4 @@ def places_pages(site, code, con, entry, text, states=None):
         return heads_of(site, columns, lists, states), rows
 
     return (place_pages(site, code, con, entry, places, (seen, table_of), bool(returns)),
-            table_pages(site, code, con, entry, places), places)
+            table_pages(site, code, con, entry, places, len(returns)), places)

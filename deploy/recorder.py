@@ -32,7 +32,9 @@ them three times as long as a file took: ten seconds at most before the next fil
 Of a name four may wait or be under way, and others are answered 429.
 
 While a desk starts again a command waits for it. A desk that ended without an answer is sent the command again: no command
-acts a second time.
+acts a second time. A browser sends a command again too, by itself, where its connection ended without an answer. It is the same
+one where its name, path, body and field Office-Once are the same: it is recorded once, and has the answer of the first. The last
+eight answers of each name are kept for that, and none over a start: then it is recorded again, and the office decides.
 
 It answers who did what to a station (GET /history/CODE), to the roles that may see it: the names, the times and the acts; to
 a clerk and to the board with what was sent and answered, to a second without. Where the lines of each station are it knows
@@ -59,6 +61,7 @@ import json
 import os
 import re
 import secrets
+import signal
 import socket
 import stat
 import sys
@@ -89,6 +92,8 @@ STAFF_BYTES, STAFF_RATE, COMMAND_BYTES = 32 << 20, 20_000, 1000
 # waits three times as long as it took where others give commands: this many seconds at most, and
 # one of the same name this many. How often those that wait look whether it is their turn.
 FILES_OF_NAME, FILES, REST, LONGEST_REST, LONGEST_OF_NAME, STEP = 4, 16, 3, 10.0, 40.0, 0.02
+# Seconds that a recorder that ends leaves to what is under way, and then to answers on their way.
+ENDING, LAST_ANSWERS = 20, 0.3
 # A history has not what was sent of a line that is longer.
 LONGEST = 65_536
 # The roles that see what a slip says. Who enters it a second time is not to see the first entry.
@@ -154,7 +159,7 @@ class Record:
         # The file of the staff's names, where there is one.
         self.names = names
         self.index = Index(setup.stations if setup else None, Typed(setup.stations if setup else {}))
-        self.reading = turns.Reading()
+        self.reading, self.once = turns.Reading(), turns.Once()
         self.waiting = second_name.Waiting(setup.stations if setup else None)
         self.descriptor = os.open(file, os.O_WRONLY | os.O_APPEND | os.O_CREAT, 0o640)
         self.setup, begins, shown = setup, "", dict(shown or {})
@@ -172,6 +177,8 @@ class Record:
         self.last = hash_of(line.removesuffix(b"\n")) if self.number else FIRST
         # A line that was cut, as by a power cut or a full disk, is ended and counts as a line.
         self.is_cut = not line.endswith(b"\n")
+        # Whether no further command is taken.
+        self.is_ending = False
         # Why nothing may be added to this record, where that is so.
         self.fault = None
         if shown:
@@ -182,7 +189,8 @@ class Record:
     def add(self, entry):
         """Adds a line, and returns its number; an OSError where that cannot be done. A new record begins with its setup."""
         with self.lock:
-            self.begin()
+            if "to" not in entry:
+                self.begin()
             line, place = self.write(entry)
             number = self.number
         self.index.take(line, place)
@@ -216,7 +224,9 @@ class Record:
             self.waiting.unsettled.discard(office)
 
     def begin(self):
-        """A new record begins with its setup."""
+        """A further command: a new record begins with its setup."""
+        if self.is_ending:
+            raise OSError("the recorder ends")
         if self.setup and not self.number:
             self.write({"setup": self.setup.hash})
 
@@ -472,7 +482,9 @@ class Handler(http.server.BaseHTTPRequestHandler):
         self.send_header("Content-Length", str(len(found.body)))
         self.send_header("Connection", "close")
         self.end_headers()
-        self.wfile.write(found.body)
+        # (without a body the proxy has all of it by now and has closed, and nothing can be written)
+        if found.body:
+            self.wfile.write(found.body)
 
     do_GET = do_HEAD = do_POST = do_PUT = do_PATCH = do_DELETE = do_OPTIONS = handle_whole
 
@@ -527,10 +539,18 @@ class Recorder:
             return self.commanded(method, path, fields, body)
 
     def commanded(self, method, path, fields, body):
-        """The answer to a command: it is recorded, and the desk has it; a trial is not recorded."""
-        name, role = fields["office-name"], fields["office-role"]
+        """The answer to a command; a trial is not recorded. One that is sent again is known by what its page gave it."""
         if path.split("/")[3] == "trial":
             return self.desk.ask(method, path, body) if fields["office-allowed"] == "1" else FORBIDDEN
+        if not (once := fields.get("office-once")):
+            return self.recorded(method, path, fields, body)
+        command = hashlib.sha256(f"{path} {once} ".encode() + body).digest()
+        return self.record.once.passed(fields["office-name"], command, lambda: self.recorded(method, path, fields, body),
+                                       lambda found: found.status not in (None, 502, 503, 504))
+
+    def recorded(self, method, path, fields, body):
+        """The answer to a command: it is recorded, and the desk has it."""
+        name, role = fields["office-name"], fields["office-role"]
         entry = {"name": name, "role": role, "address": fields["office-address"], "office": self.office, "method": method, "path": path}
         try:
             if fields["office-allowed"] != "1":
@@ -619,6 +639,17 @@ def show_head(folder, record):
         time.sleep(1)
 
 
+def end(record):
+    """Ends the recorder once each command that is under way has its answer: so a restart leaves no line without one."""
+    with record.lock:
+        record.is_ending = True
+    until = time.monotonic() + ENDING
+    while record.waiting.under_way and time.monotonic() < until:
+        time.sleep(0.02)
+    time.sleep(LAST_ANSWERS)
+    os._exit(0)
+
+
 def main():
     command = argparse.ArgumentParser(description=__doc__.splitlines()[0])
     command.add_argument("folder", type=Path, help="where the sockets and the head are")
@@ -656,6 +687,7 @@ def main():
         for _ in range(THREADS):
             one = Recorder(record, desk, office, limit, given.two_of_board)
             threading.Thread(target=serve, args=(listener, one), daemon=True).start()
+    signal.signal(signal.SIGTERM, lambda *_: threading.Thread(target=end, args=(record,), daemon=True).start())
     show_head(given.folder, record)
 
 

@@ -8,9 +8,7 @@ where the record lacks the first lines of a return; one that is unknown is that 
 
 import json
 
-from scripts import script
-
-entries = script("entries")
+from record_commands import LARGEST, items, judged_rows
 
 LEAVES = {"query": "queried", "correct": "corrected", "close": "closed", "confirm": "closed"}
 OF_CONSTITUENCIES = ("draw", "certify", "reopen", "vacate")
@@ -59,7 +57,7 @@ def is_known_act(place, act):
 def figures_of(said):
     """The slip and the counts of a return; None where an object has none."""
     try:
-        return said["slip"], entries.items(said["votes"], said["blank"], said["spoiled"])
+        return said["slip"], items(said["votes"], said["blank"], said["spoiled"])
     except (KeyError, TypeError):
         return None
 
@@ -130,7 +128,7 @@ def rows_in(command, most, lists):
     (office, *_), act = place_of(command)
     text, rows, wrong = command["body"].decode(errors="surrogateescape"), {}, []
     for number, (station, found) in enumerate(
-            entries.judged_rows(text, act.endswith("semicolon"), most, lists), 1):
+            judged_rows(text, act.endswith("semicolon"), most, lists), 1):
         if isinstance(found, int):
             wrong.append([number, found])
         else:
@@ -144,6 +142,8 @@ class Known:
     def __init__(self, cons, is_setup):
         # By the office, the kind and the code; and the lines by which they came there.
         self.states, self.lines = {}, {}
+        # The lines of the files that were taken.
+        self.files = set()
         # The stations of each constituency, with the most votes that each may have, by the setup.
         # An office does not show how many agents of them there are.
         self.is_setup = is_setup
@@ -206,15 +206,28 @@ class Known:
             if act.startswith("import") or at == place or is_file:
                 self.take(one, None)
 
-    def refuse(self, command, answer):
-        """A command that was refused, as stale or for a return that differs: that was there."""
+    def refuse(self, command, answer, unsure=()):
+        """A command that was refused, as stale or for a return that differs: that was there. Where
+        the record did not lead to it, commands of which nobody knew whether they were done were
+        done before it; or the record lacks what was done."""
         (place, _), led = place_of(command), object_of(answer)
-        word, number = led.get("word"), led.get("now", led.get("rev"))
+        word, number = led.get("word"), number_in(led, "now" if "now" in led else "rev")
+        if word not in ("differs", "stale") or number is None or place not in self.states:
+            return
         given = figures_of(object_of(command["body"])) if word == "differs" else None
-        kept = {state for state in self.states.get(place, ()) if state[0] in (number, None)
-                and (given is None or state[2] != given)}
-        if word in ("differs", "stale") and kept:
+
+        def fitting():
+            return {state for state in self.states[place] if state[0] in (number, None)
+                    and (given is None or state[2] != given)}
+
+        for one in () if fitting() else unsure:
+            if place_of(one)[0] == place:
+                self.take(one, None)
+        if kept := fitting():
             self.states[place] = kept
+        else:
+            unknown = (UNKNOWN,) if place[1] == "station" else (UNKNOWN, UNKNOWN)
+            self.put(place, command, {(number, None, *unknown)}, True)
 
     def put(self, place, command, found, is_done):
         """The states of a place after a command. Of two returns of one revision nobody knows which
@@ -263,7 +276,12 @@ class Known:
         return number_in(led, "edition"), act in ("certify", "vacate"), rest, rest
 
     def take_file(self, command, led, is_done):
-        """A file of returns."""
+        """A file of returns. One of which nobody knows whether it was done is taken once, and not
+        before each later command: it changes only stations that have no return, and none loses
+        its return."""
+        if not is_done and command["n"] in self.files:
+            return None
+        self.files.add(command["n"])
         place, _ = place_of(command)
         ways = self.ways(command, led, is_done)
         if ways is None and self.is_setup:
@@ -277,7 +295,7 @@ class Known:
                 self.put(at, command, {way[0] for way in some}, is_done)
             return None
         most = self.most.get(place[2])
-        rows, _ = rows_in(command, most and dict.fromkeys(most, entries.LARGEST), None)
+        rows, _ = rows_in(command, most and dict.fromkeys(most, LARGEST), None)
         for at, some in rows.items():
             if ABSENT in self.at(at):
                 self.put(at, command, {(1, RECEIVED, figures) for _, figures in some}, False)
@@ -292,7 +310,7 @@ class Known:
         most, lists = self.most.get(con), self.lists.get(con)
         limits = [most]
         if most and not self.is_setup:
-            limits.append(dict.fromkeys(most, entries.LARGEST))
+            limits.append(dict.fromkeys(most, LARGEST))
         for limit in limits if is_done or self.is_setup else ():
             rows, wrong = rows_in(command, limit, lists)
             found = {at: [led_to(state, some) for state in self.at(at)]

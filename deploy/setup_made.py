@@ -1,11 +1,12 @@
 """The setup of `setup-from-tables`: what the rows of the tables say, with each fault of them."""
 
-import re
 from collections import Counter, defaultdict
 from dataclasses import dataclass, field
 
 import setup_limits as limits
-from setup_tables import folded, other_columns, party_key, plain
+from setup_lists import list_of
+from setup_tables import code_letters, folded, identity, note_no_columns, other_columns, party_key
+from setup_tables import words_of
 
 RULES = {"loreg": {"code": "loreg", "method": "dhondt", "threshold": 300, "base": "valid"}}
 # A constituency of one seat has the candidate with most votes (LOREG 163.2).
@@ -39,6 +40,7 @@ class PartyList(Entry):
     text: str = ""
     order: int = 0
     candidates: list = field(default_factory=list)
+    called: dict = field(default_factory=dict)  # first rows of candidates, by what they call it
     names: dict = field(default_factory=dict)  # of its candidates, by their folded names
 
 
@@ -57,6 +59,7 @@ class Maker:
         self.rule, self.entry = rule, entry
         self.rules = columns.get("rules", {})
         self.cons, self.found_by, self.codes_made, self.notes = [], {}, {}, []
+        self.parties, self.owner = {}, {}  # the first list of each party, and of each code
         self.without_zeros, self.profiles, self.other_candidates = {}, [], []
 
     def say(self, key, /, **given):
@@ -73,6 +76,9 @@ class Maker:
         for con in self.cons:
             self.check_constituency(con)
         self.check_persons()
+        for table in self.tables.values():
+            note_no_columns(table)
+            self.notes += table.notes.values()
         return self.setup()
 
     # ---- what every table has
@@ -145,17 +151,26 @@ class Maker:
             return None
         found = self.found_by.get(text) or self.found_by.get(folded(text))
         if found is None:
-            near = self.without_zeros.get(text.lstrip("0"))
-            row.fault(
-                "lost_zeros" if near else "no_constituency",
-                value=text,
-                other=near,
-                file=self.tables["constituencies"].file,
-                table=table.name,
-                column=self.column(table, "constituency"),
-                digits=len(near or ""),
-            )
+            self.no_constituency(row, text)
         return found
+
+    def no_constituency(self, row, text):
+        """The fault of a row whose constituency there is not. Where zeros in front are missing,
+        here or in the table of constituencies, it says what puts them there."""
+        near = self.without_zeros.get(text.lstrip("0"), "")
+        known, is_here = self.tables["constituencies"], len(near) > len(text)
+        table, name = (row.table, "constituency") if is_here else (known, "code")
+        is_one = len(table.places.get(name, ())) == 1
+        row.fault(
+            "lost_zeros" if near and is_one else "no_constituency",
+            value=text,
+            other=near,
+            file=known.file,
+            table=table.name,
+            field=name,
+            column=self.column(table, name),
+            digits=max(len(near), len(text)),
+        )
 
     def note_once(self, key, /, **given):
         said = self.say(key, **given)
@@ -284,6 +299,8 @@ class Maker:
             one.order = 10**6 + number if order is None else order
             if con:
                 self.add_list(con, one)
+            if table.has("party") and not table.value(row, "party"):
+                table.note("party_empty", self.column(table, "party"), row=row.number, value=text)
 
     def add_list(self, con, one):
         for other in con.lists:
@@ -298,21 +315,24 @@ class Maker:
     def give_codes(self):
         """Gives each party one code everywhere: its own, one of `columns.toml`, or a new one."""
         lists = [one for con in self.cons for one in con.lists]
-        given, owner = self.own_codes({one.party for one in lists}), {}
         for one in lists:
-            self.take_code(one, given, owner)
-        first = {}
+            self.parties.setdefault(one.party, one)
+        asked = self.own_codes(self.parties.keys())
+        given = dict(asked)
         for one in lists:
-            first.setdefault(one.party, one.text)
-        taken = {code.lower(): party for party, (code, _) in given.items()}
-        for party in sorted(first.keys() - given.keys()):
+            one.made["code"] = one.made["code"] or asked.get(one.party, ("",))[0]
+            self.take_code(one, given, asked)
+        # (without the column of parties one has several codes, perhaps)
+        taken = {code: one.party for code, one in self.owner.items()}
+        taken |= {code.lower(): party for party, (code, _) in given.items()}
+        for party in sorted(self.parties.keys() - given.keys()):
             wanted, code = self.made_code(party, {}), self.made_code(party, taken)
             if other := taken.get(wanted.lower()):
                 self.note_once(
                     "other_code",
-                    value=first[party],
+                    value=self.parties[party].text,
                     wanted=wanted,
-                    other=first.get(other, other),
+                    other=self.parties[other].text,
                     code=code,
                 )
             taken[code.lower()], given[party] = party, (code, None)
@@ -325,26 +345,48 @@ class Maker:
                 self.note_once(
                     "same_party", value=one.text, other=other.text, code=one.made["code"]
                 )
+        self.note_two_codes(lists)
         for con in self.cons:
             self.check_codes(con)
 
+    def note_two_codes(self, lists):
+        """Notes a name of several codes, which are as many parties in a table without them."""
+        found = defaultdict(dict)
+        for one in lists:
+            found[one.party].setdefault(one.made["code"].lower(), one)
+        for first, *others in (list(codes.values()) for codes in found.values()):
+            if others:
+                self.note_once(
+                    "name_two_codes",
+                    value=first.text,
+                    code=first.made["code"],
+                    other=others[0].made["code"],
+                )
+
     def own_codes(self, parties):
         """The codes of columns.toml, by the keys of parties: of the party that it writes, or else
-        of each party that has these letters and digits."""
-        found = {}
+        of each party that has these letters and digits, which is noted where there are two."""
+        found, by_letters = {}, []
         for text, code in self.columns.get("codes", {}).items():
             if not limits.is_code(code):
                 self.faults.add("columns.toml", None, "not_code", value=code)
+                continue
             letters, keys = identity(text), {party_key(text)} & parties
             keys = keys or {one for one in parties if letters and identity(one) == letters}
             if not keys:
                 self.note_once("code_unused", value=text, code=code)
             for party in keys:
                 found[party] = (code, None)
+            by_letters.append((code, sorted(keys)))
+        for code, keys in by_letters:
+            texts = [self.parties[party].text for party in keys if found[party][0] == code]
+            for other in texts[1:]:
+                self.note_once("code_two_names", value=other, other=texts[0], code=code)
         return found
 
-    def take_code(self, one, given, owner):
-        """Checks the code of a list in its table: its party has it everywhere, and no other."""
+    def take_code(self, one, given, asked):
+        """Checks the code of a list in its table or in `asked`, those of columns.toml: its party
+        has it everywhere, and no other, unless columns.toml gives it to both."""
         code = one.made["code"]
         if not code:
             return
@@ -361,11 +403,18 @@ class Maker:
                 row=row.number if row else "-",
             )
         else:
-            first = owner.setdefault(code.lower(), one)
-            if not has_party:
+            first = self.owner.setdefault(code.lower(), one)
+            by_columns = {first.party, one.party} & asked.keys()
+            if len(by_columns) < 2 and not has_party:
                 self.note_code(one, first)
-            elif first.party != one.party:
-                one.row.fault("code_two_parties", code=code, value=one.text, row=first.row.number)
+            elif len(by_columns) < 2 and first.party != one.party:
+                one.row.fault(
+                    "code_by_columns" if by_columns else "code_two_parties",
+                    code=code,
+                    value=one.text,
+                    other=first.text,
+                    row=first.row.number,
+                )
             given.setdefault(one.party, (code, one.row))
 
     def note_code(self, one, first):
@@ -396,7 +445,7 @@ class Maker:
         for number, row in enumerate(table.rows, 1):
             con = self.constituency_of(row)
             name = self.text(row, "name")
-            one = con and self.list_of(con, row)
+            one = con and list_of(self, con, row)
             is_substitute = self.is_substitute(row)
             place = (
                 self.number(row, "order", 1, limits.MOST_CANDIDATES)
@@ -413,36 +462,6 @@ class Maker:
                     place,
                 )
                 self.add_candidate(one, found)
-
-    def list_of(self, con, row):
-        """The list that a row of candidates names: by code, by party, or by name."""
-        text = row.table.value(row, "list")
-        if not text:
-            row.fault("missing", field=self.column(row.table, "list"))
-            return None
-        for key in (
-            lambda one: one.made["code"] == text,
-            lambda one: one.text == text,
-            lambda one: one.party == party_key(text),
-            lambda one: identity(text) and identity(one.text) == identity(text),
-            lambda one: folded(one.made["name"]) == folded(text),
-        ):
-            found = [one for one in con.lists if key(one)]
-            if len(found) == 1:
-                self.note_other_list(con, text, found[0])
-                return found[0]
-            if found:
-                row.fault("which_list", value=text, con=con.made["code"])
-                return None
-        row.fault("no_such_list", value=text, con=con.made["code"])
-        return None
-
-    def note_other_list(self, con, text, one):
-        """Notes a code of a list that is the party of another: the rows may mean that one."""
-        for other in con.lists:
-            if other is not one and other.text == text:
-                self.note_once("code_is_party", con=con.made["code"], value=text,
-                               name=one.made["name"], other=other.made["name"])
 
     def is_substitute(self, row):
         text = row.table.value(row, "kind").upper()
@@ -486,15 +505,19 @@ class Maker:
     def check_persons(self):
         """No name twice in a constituency, and no identity twice at all. Rows that may be of one
         person, under two names or in two constituencies, are noted."""
-        known = {folded(name) for name in self.rules.get("namesakes", ())}
-        persons, elsewhere = {}, {}
+        known = {folded(name): name for name in self.rules.get("namesakes", ())}
+        persons, elsewhere, names = {}, {}, set()
         for con in self.cons:
             here = {}
             for one in con.lists:
                 for candidate in one.candidates:
-                    is_new = self.is_new_person(candidate, persons)
-                    if is_new and folded(candidate.name) not in known:
+                    is_new, name = self.is_new_person(candidate, persons), folded(candidate.name)
+                    names.add(name)
+                    if is_new and name not in known:
                         self.check_name(candidate, here, elsewhere)
+        for name, written in known.items():
+            if name not in names:
+                self.note_once("namesake_unused", value=written)
 
     def identity_of(self, candidate):
         row = candidate.row
@@ -658,21 +681,6 @@ class Maker:
         ]
         stations = [station.made | station.others for station in con.stations]
         return con.made | con.others | {"list": lists, "station": stations}
-
-
-def identity(text):
-    """The letters and digits of a text, of any alphabet, with dashes between them; perhaps none."""
-    return re.sub(r"[\W_]+", "-", plain(text)).strip("-")
-
-
-def code_letters(text):
-    """Those of them that a code may have, in small letters; perhaps none."""
-    return re.sub("[^a-z0-9]+", "-", plain(text)).strip("-")
-
-
-def words_of(name):
-    """The words of a name without accents, capitals and signs, in an order of their own."""
-    return " ".join(sorted(identity(name).split("-"))) or folded(name)
 
 
 def is_whole(value, most):

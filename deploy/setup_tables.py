@@ -11,6 +11,8 @@ import unicodedata
 from dataclasses import dataclass, field
 from pathlib import Path
 
+from odd_names import BLANK
+
 HERE = Path(__file__).resolve().parent
 LANGUAGES = ("en", "es")
 MARKS = (
@@ -50,6 +52,18 @@ SIGNS = str.maketrans(
 )
 # UTF-8 that was read as Windows-1252: a capital letter of it, and one of the signs after 7F.
 GARBLED = re.compile("[ÃÂ][\x80-\xbfŒœŠšŸŽžƒˆ˜–—‘’‚“”„†‡•…‰‹›€™]")
+# What MS-DOS (code pages 850 and 437) or an old Macintosh wrote, read as Windows-1252: signs where
+# no name has them, as in `Mu¤oz`, `Ram¢n` and `InŽs`. Between letters a dash, an apostrophe, dots
+# and € may be meant.
+MISREAD_SIGNS = re.compile("[¡¢£¤¥¦§µƒˆ˜‚„”†‡‰‹ŠŽŒŸ™]")
+LETTER, SMALL = "[A-Za-zÀ-ÖØ-öø-ÿŒœŠšŸŽž]", "[a-zß-öø-ÿœšž]"
+MISREAD = re.compile(
+    f"{LETTER}[¢£¤¥¦§‚ƒˆ‰˜]|[¤¥ƒˆ]{LETTER}|µ{LETTER}{LETTER}|^[^¡]*{LETTER}¡"
+    f"|{LETTER}[†‡]{LETTER}|{SMALL}[ŠŽŒŸ]|{LETTER}[ŠŽŒŸ™„]{SMALL}"
+    f"|^[^“„]*{LETTER}”{SMALL}|^[^›]*{LETTER}‹{SMALL}[^›]*$"
+)
+# (a small á of MS-DOS is a space here)
+BETWEEN_LETTERS = re.compile(f"{LETTER}+\xa0{SMALL}+")
 
 
 class Texts:
@@ -121,9 +135,17 @@ class Table:
     said: dict = field(default_factory=dict)  # encoding, separator and line ends
     used: set = field(default_factory=set)  # places of columns that have a meaning here
     places: dict = field(default_factory=dict)  # of the parts of each field
+    is_guessed: bool = False  # whether it is Windows-1252 because it is not UTF-8
+    separator: str = ""
+    broken: set = field(default_factory=set)  # numbers of rows with a line break in a cell
+    notes: dict = field(default_factory=dict)  # the first of each kind and column
 
     def has(self, name):
         return name in self.places
+
+    def note(self, key, /, column=None, **given):
+        said = self.faults.texts.say(key, file=self.file, column=column, **given)
+        self.notes.setdefault((key, column), said)
 
     def value(self, row, name):
         """The cell of a field, or those of its columns with a space between; empty without any."""
@@ -162,6 +184,21 @@ def party_key(text):
     return re.sub(r" ?([^\w\s]) ?", r"\1", folded(text.translate(SIGNS)))
 
 
+def identity(text):
+    """The letters and digits of a text, of any alphabet, with dashes between them; perhaps none."""
+    return re.sub(r"[\W_]+", "-", plain(text)).strip("-")
+
+
+def code_letters(text):
+    """Those of them that a code may have, in small letters; perhaps none."""
+    return re.sub("[^a-z0-9]+", "-", plain(text)).strip("-")
+
+
+def words_of(name):
+    """The words of a name without accents, capitals and signs, in an order of their own."""
+    return " ".join(sorted(identity(name).split("-"))) or folded(name)
+
+
 def cleaned(cell):
     """A cell with one space for each row of spaces, line breaks among them."""
     if cell.isascii() and cell.isalnum():
@@ -169,16 +206,21 @@ def cleaned(cell):
     return unicodedata.normalize("NFC", " ".join(cell.split()))
 
 
-def strange(cell):
+def strange(cell, is_guessed=False):
     """Why the letters of a cell cannot be meant, with the one that shows it."""
     if cell.isascii() and cell.isprintable():
         return None
-    for letter in cell:
+    for letter in "" if cell.isprintable() and "\ufffd" not in cell else cell:
         if unicodedata.category(letter) in ("Cc", "Cf", "Cn", "Co", "Cs"):
             return "invisible", f"U+{ord(letter):04X}"
         if letter == "\ufffd":
             return "lost", "U+FFFD"
-    return ("garbled", cell) if GARBLED.search(cell) else None
+    if found := BLANK.search(cell):
+        return "invisible", f"U+{ord(found[0]):04X}"
+    if GARBLED.search(cell):
+        return "garbled", cell
+    is_misread = is_guessed and MISREAD_SIGNS.search(cell) and MISREAD.search(cell)
+    return ("misread", cell) if is_misread else None
 
 
 def decoded(table, data, asked, otherwise):
@@ -192,10 +234,14 @@ def decoded(table, data, asked, otherwise):
     except UnicodeDecodeError as error:
         text = second_guess(table, data, mark or asked, encoding, otherwise, error)
         name = called(otherwise)
+        table.is_guessed = otherwise == "cp1252"
     if "\0" in text:
         row = 1 + text[: text.index("\0")].count("\n")
         table.faults.add(table.file, row, "nul")
         raise Stopped
+    if table.is_guessed and "\xa0" in text and (found := BETWEEN_LETTERS.search(text)):
+        row = 1 + max(map(text[: found.start()].count, "\r\n"))
+        table.note("no_break", row=row, text=found[0].replace("\xa0", "_"))
     table.said["encoding"] = table.faults.texts.say("marked", encoding=name) if mark else name
     return text
 
@@ -225,9 +271,12 @@ def line_ends(text):
 def records(table, text, separator):
     """The records of a CSV with their numbers: the rows as a spreadsheet shows them."""
     reader = csv.reader(io.StringIO(text, newline=""), delimiter=separator, strict=True)
-    number = 0
+    number = lines = 0
     try:
         for number, record in enumerate(reader, 1):
+            if reader.line_num > lines + 1:
+                table.broken.add(number)
+            lines = reader.line_num
             if any(cell.strip() for cell in record):
                 yield number, record
     except csv.Error as error:
@@ -253,7 +302,7 @@ def read_table(name, folder, columns, encoding, faults, fields=None, otherwise="
         return None
     try:
         text = decoded(table, data, encoding, otherwise)
-        separator = separator_of(text)
+        table.separator = separator = separator_of(text)
         found = list(records(table, text, separator))
         if not found:
             faults.add(table.file, 1, "no_header")
@@ -263,6 +312,10 @@ def read_table(name, folder, columns, encoding, faults, fields=None, otherwise="
             "ends": line_ends(text),
         }
         table.header = [cleaned(cell) for cell in found[0][1]]
+        for column in table.header:
+            if wrong := strange(column, table.is_guessed):
+                faults.add(table.file, found[0][0], wrong[0], column=column, letter=wrong[1])
+                raise Stopped
         find_columns(table, fields or FIELDS[name], found[0][0])
     except Stopped:
         return None
@@ -279,10 +332,29 @@ def row_of(table, number, cells):
         row.fault("cells", cells=len(cells), header=width)
         return None
     for place, cell in enumerate(row.cells[:width]):
-        if wrong := strange(cell):
+        if wrong := strange(cell, table.is_guessed):
             row.fault(wrong[0], column=table.header[place], letter=wrong[1])
             return None
+    if number in table.broken:
+        look_for_rows(row, cells)
     return row
+
+
+def look_for_rows(row, cells):
+    """Finds rows within a cell, between a quote that opens one row and a quote that closes another.
+    Lines with as many separators as rows have are a fault. Where a text could have them they are
+    noted, as the first of any other separators after a line break."""
+    table, last = row.table, len(cells) - 1
+    for place, cell in enumerate(cells[: len(table.header)]):
+        lines = re.split("\r\n|\r|\n", cell)
+        counts = [line.count(table.separator) for line in lines]
+        if not any(counts[1:]):
+            continue
+        are_rows = counts == [last - place, *[last] * (len(lines) - 2), place]
+        if are_rows and (place in table.used or last > 2):
+            row.fault("rows_in_cell", column=table.header[place], lines=len(lines))
+        else:
+            table.note("separator_in_cell", table.header[place], row=row.number)
 
 
 # ---- columns
@@ -333,6 +405,14 @@ def parts_of(asked, where):
         place = where.get(cleaned(column).casefold()) if is_column(column) else None
         parts.append((place, part.get("digits", 0), column))
     return parts
+
+
+def note_no_columns(table):
+    """Notes each column of `drop` and `keep` that the table does not have."""
+    for key in ("drop", "keep"):
+        for column in table.columns.get(key, ()):
+            if cleaned(column).casefold() not in map(str.casefold, table.header):
+                table.note("column_unused", column, table=table.name, key=key)
 
 
 def other_columns(table):

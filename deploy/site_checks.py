@@ -2,20 +2,26 @@
 its staff. Each is looked at before anything is changed."""
 
 import re
+import sqlite3
+import time
 import tomllib
+from contextlib import closing, suppress
 from pathlib import Path
+from urllib.parse import quote
 
 from chain import has_commands
 from site_machine import Fault
 from site_places import folders_of, ports_of, sites_of
 from staff import posts
 
+# How often a database is looked at that seems to have no setup.
+LOOKS = 5
 ROLES = ("clerk", "second", "board")
 # Names that nginx would read otherwise in staff.conf, and the one by which a browser logs out.
 WORDS_OF_PROXY = ("default", "include", "logout")
 SHARED = ("staff.conf", "staff.htpasswd", "stations")
 # What a computer with an office may have beside the folders of sites: no site has such a name.
-NO_SITES = ("ports.nft", "setup.toml", "status.toml", "backup.env")
+NO_SITES = ("ports.nft", "setup.toml", "status.toml", "backup.env", "recorder.env")
 
 
 # ---- the site
@@ -32,19 +38,38 @@ def check_site(machine, site):
         raise Fault(f"{place} is the place of another file: choose another name for the site")
 
 
-def check_data(machine, site, begins_again):
-    """No empty office is made beside a record with commands, whose database is perhaps on a file
-    system that is not there now. An interrupted --begin-again goes on, which put it aside."""
+def check_ports(machine, site):
+    """No other site has the same ports, as a copy of its folder in /etc/office has."""
+    pair = ports_of(machine, site)
+    for other in sorted(sites_of(machine)):
+        if other != site and ports_of(machine, other) == pair:
+            raise Fault(f"{site} and {other} have the same ports: one is a copy of the other's "
+                        "folder: move it out of /etc/office; or it is of another computer: remove "
+                        f"/etc/office/{site}/ports, and it gets free ones")
+
+
+def check_data(machine, site, begins_again, setup=None):
+    """No empty office is made of a site that had one, unless its setup is named: the database is
+    perhaps on a file system that is not there now. Nor is one made beside a record with commands,
+    or beside the log of another database, which SQLite would take for that of the new one. An
+    interrupted --begin-again goes on, which put it aside."""
     folder = machine.at(f"/var/lib/office/{site}")
     record, database = machine.at(f"/var/log/office/{site}/commands.log"), folder / "office.db"
-    if database.exists() or not has_commands(record):
-        return
     aside = begun_aside(machine, site)
-    if not (aside and begins_again):
-        more = f", or go on with an interrupted office-site --begin-again {site}" if aside else ""
+    if database.exists() or aside and begins_again:
+        return
+    more = f", or go on with an interrupted office-site --begin-again {site}" if aside else ""
+    if has_commands(record):
         raise Fault(f"{record} has commands, and {database} is not there: mount its file system, "
-                    f"put it back{more}. If it is lost, move the record aside, and do what "
+                    f"put it back{more}. If it is lost, leave the record there, and do what "
                     "/usr/share/doc/office/deploy/README.md says of a machine that is lost")
+    kept = machine.at(f"/etc/office/{site}/setup.toml")
+    if not begins_again and not setup and kept.exists():
+        raise Fault(f"{database} is not there: mount its file system, or put it back{more}. For an "
+                    f"empty office name the setup: office-site {site} {kept}")
+    for log in sorted(folder.glob("office.db-*")):
+        raise Fault(f"{log} is of a database that is not there: put that back{more}. If it is "
+                    "lost, move this aside")
 
 
 def begun_aside(machine, site):
@@ -59,22 +84,44 @@ def begun_aside(machine, site):
 
 
 def check_setup(machine, site, file, begins_again=False):
-    """The text of the setup that is to be: of a site that has one, no other, unless its data is put
-    aside."""
-    kept = machine.at(f"/etc/office/{site}/setup.toml")
-    if not file:
-        if not kept.is_file():
-            raise Fault(f"{site} has no setup yet: name one")
-        return kept.read_bytes()
+    """The text of the setup that is to be: of a site that has a database, the one of which that was
+    made, unless its data is put aside."""
+    named = Path(file) if file else machine.at(f"/etc/office/{site}/setup.toml")
+    if not file and not named.is_file():
+        raise Fault(f"{site} has no setup yet: name one")
     try:
-        text = Path(file).read_bytes()
+        text = named.read_bytes()
     except OSError as error:
-        raise Fault(f"{file}: {error.strerror}") from error
-    has_data = machine.at(f"/var/lib/office/{site}/office.db").exists()
-    if has_data and not begins_again and kept.is_file() and kept.read_bytes() != text:
-        raise Fault(f"{site} has another setup, and a database of it: office-site --begin-again "
-                    f"{site} {file} puts these aside first")
+        raise Fault(f"{named}: {error.strerror}") from error
+    database = machine.at(f"/var/lib/office/{site}/office.db")
+    if database.exists() and not begins_again and not is_setup_of(database, text):
+        raise Fault(f"{database} was made of another setup than {named}: put the setup back of "
+                    "which it was made, as the database has it (docs/FORMATS.md, The database). "
+                    f"For another election office-site --begin-again {site} SETUP puts the data "
+                    "aside first")
     return text
+
+
+def is_setup_of(database, text):
+    """Whether a database was made of a setup that says the same. It is read as a file that nobody
+    changes, since its setup is never changed: so root makes no log beside it."""
+    for left in reversed(range(LOOKS)):
+        try:
+            with closing(sqlite3.connect(f"file:{quote(str(database))}?immutable=1", uri=True)) as it:
+                [[setup]] = it.execute("SELECT text FROM setup")
+            break
+        except (sqlite3.Error, ValueError) as error:
+            # (pages of it are perhaps being written)
+            if not left:
+                raise Fault(f"{database}: no setup can be read in it: {error}") from error
+            time.sleep(0.2)
+    if setup.encode() == text:
+        return True
+    # (comments, spaces and line ends may be others)
+    with suppress(ValueError):
+        return tomllib.loads(setup.removeprefix("\ufeff")) == tomllib.loads(
+            text.decode("utf-8-sig"))
+    return False
 
 
 def check_certificate(machine, site):

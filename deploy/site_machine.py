@@ -33,6 +33,13 @@ class Machine:
         """Where a place of the computer is."""
         return self.root / str(place).lstrip("/")
 
+    def text(self, place):
+        """The text of a file that an administrator may have changed."""
+        try:
+            return self.at(place).read_text(encoding="utf-8")
+        except UnicodeDecodeError as error:
+            raise Fault(f"{self.at(place)}: not UTF-8") from error
+
     def say(self, done, place, is_said=True):
         self.changed.append(str(place))
         if is_said:

@@ -5,6 +5,8 @@ programs in /usr, and each site has folders, units and ports of its own."""
 
 import re
 
+from site_machine import Fault
+
 # The ports of a site: the desk has one of these, and the reader the one that is so much higher.
 DESKS, READER = range(8080, 8180), 100
 HERE_ONLY = "/usr/local/share/office"
@@ -24,9 +26,10 @@ def at_site(text, site, desk, read):
         text = text.replace(old, new)
     folders = "|".join(FOLDERS)
     text = re.sub(rf"({folders})(?![\w-])", rf"\1/{site}", text)
-    for old, new in (("8080", desk), ("8090", read)):
-        text = re.sub(rf"(127\.0\.0\.1:|--port ){old}\b", rf"\g<1>{new}", text)
-    return text
+    # (both at once: a desk may have the port that a reader has in these files)
+    ports = {"8080": desk, "8090": read}
+    return re.sub(r"(127\.0\.0\.1:|--port )(8080|8090)\b",
+                  lambda it: f"{it[1]}{ports[it[2]]}", text)
 
 
 def template_of(unit, text):
@@ -62,6 +65,8 @@ def ports_of(machine, site):
     if not file.is_file():
         return None
     found = dict(re.findall(r"^(DESK|READ)=(\d+)$", file.read_text(), re.M))
+    if len(found) < 2:
+        raise Fault(f"{file} lacks a line DESK=PORT or READ=PORT")
     return int(found["DESK"]), int(found["READ"])
 
 

@@ -78,6 +78,13 @@ def named(text, own, site, desk):
     return text.replace("FILL IN the name", "The name").replace(HERE, site)
 
 
+def with_port(text, parts, kept, desk):
+    """A file that an administrator keeps with the variables of a site that has this port, whatever
+    its port was when that was written."""
+    own = "|".join(sorted(divided(text, parts)[2]))
+    return re.sub(rf"\$({own})(_\d+)?\b", rf"$\1_{desk}", kept)
+
+
 def whole(text, parts, sites, with_ipv6):
     """nginx.conf, for sites in this order."""
     head, _ = directives(text)

@@ -25,6 +25,8 @@ HERE = Path(__file__).resolve().parent
 RECOUNTS = (HERE / "recount.py", HERE.parent / "examples/recount.py")
 # Seconds that an answer may take, and a day and a megabyte.
 PATIENCE, DAY, MEGABYTE = 10, 86_400, 1 << 20
+# Where the proxy listens.
+PROXY = "127.0.0.1", 443
 # How many seconds a moment may be ahead of the clock. One that is farther ahead is from before the
 # clock was put back: nobody knows how old it is.
 AHEAD = 60
@@ -249,18 +251,35 @@ def look_at_room(folder, least):
                  {"room_bytes": free})
 
 
-def look_at_certificate(file, least):
-    """How long the certificate of the site is valid yet."""
+def look_at_certificate(file, days, site=""):
+    """How long the certificate of the site is valid yet, and whether the proxy shows it: it goes on
+    with the one before until it is told to read the new one."""
     words = ("openssl", "x509", "-enddate", "-noout", "-in", file)
     try:
         done = subprocess.run(words, capture_output=True, text=True)
         end = ssl.cert_time_to_seconds(done.stdout.strip().removeprefix("notAfter="))
     except (OSError, ValueError):
         return Found("certificate", False, f"{file} cannot be read as a certificate")
-    days = (end - time.time()) / DAY
+    left = (end - time.time()) / DAY
     day = datetime.fromtimestamp(end, UTC).date()
-    says = f"it ends on {day}" if days > 0 else f"it ended on {day}"
-    return Found("certificate", days >= least, says, numbers={"certificate_days": days})
+    says = f"it ends on {day}" if left > 0 else f"it ended on {day}"
+    wrong = not_shown(file, site) if site else ""
+    return Found("certificate", left >= days and not wrong, says + wrong,
+                 numbers={"certificate_days": left})
+
+
+def not_shown(file, site):
+    """That the proxy does not show this certificate under the name of the site, or nothing."""
+    context = ssl.create_default_context()
+    context.check_hostname, context.verify_mode = False, ssl.CERT_NONE
+    try:
+        first = re.search("-----BEGIN (TRUSTED )?CERT.*?-----END[^\n]*", Path(file).read_text("latin-1"), re.S)[0]
+        with socket.create_connection(PROXY, PATIENCE) as plain, \
+                context.wrap_socket(plain, server_hostname=site) as it:
+            is_shown = it.getpeercert(binary_form=True) == ssl.PEM_cert_to_DER_cert(first)
+    except (OSError, ValueError, TypeError) as error:
+        return f"; the proxy does not show it to {site}: {error}"
+    return "" if is_shown else "; the proxy shows another one: nginx -t && systemctl reload nginx"
 
 
 # ---- the acts of the record, and the office as it is now
@@ -325,22 +344,24 @@ def led_to(command, said, number):
         return f"{target} {body['list']} {body['place']}", 1
     if said.get("ok") != "import":
         return target, said.get("rev", said.get("edition"))
-    stations = stations_in(command)[:MOST_STATIONS]
-    # Each of the others had a return before, or has one now.
-    least = max(0, len(stations) - said["bad"] - said["refused"])
+    codes = codes_in(command)
+    stations = list(dict.fromkeys(filter(None, codes)))[:MOST_STATIONS]
+    # Each of the others had a return before, or has one now. (A row without a code, as spreadsheets
+    # leave them below a table, is bad, and no station's.)
+    least = max(0, len(stations) - max(0, said["bad"] - codes.count("")) - said["refused"])
     con = re.match("/con/[^/]+", target)[0]
     return f"{con} import {number}", least or None, stations
 
 
-def stations_in(command):
-    """The stations of a file of returns that was imported."""
+def codes_in(command):
+    """The code in each row of a file of returns that was imported."""
     body = command.get("body")
     if body is None:
         body = base64.b64decode(command["body_base64"]).decode("utf-8-sig")
     separator = ";" if command["path"].endswith("/semicolon") else ","
     rows = csv.reader(io.StringIO(body.removeprefix("\ufeff"), newline=""), delimiter=separator)
     # (the office passes over blank lines, also above the header)
-    return list(dict.fromkeys(row[0] for row in [row for row in rows if row][1:] if row[0]))
+    return [row[0] for row in rows if row][1:]
 
 
 def shown_by(address, target, stations=()):

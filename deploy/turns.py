@@ -1,4 +1,5 @@
-"""How many requests each name may have, and how what is read of the record takes turns.
+"""How many requests each name may have, how what is read of the record takes turns, and that a
+command which is sent again has the answer of the first.
 
 recorder.py and reader.py ask it. The proxy has seen the password of each name, so that nobody else
 takes its places.
@@ -12,6 +13,8 @@ import time
 # Of a name this many requests for what the record has may wait or be under way, and of all names
 # this many. After each turn others have three times as long, this many seconds at most.
 READ_OF_NAME, READ, REST, LONGEST_REST = 2, 16, 3, 1.0
+# The last answers of a name that are kept, for commands that are sent again.
+KEPT_OF_NAME = 8
 
 
 class Places:
@@ -69,3 +72,33 @@ class Reading:
                 return None
             with self.turn:
                 return act()
+
+
+class Once:
+    """The commands that are under way, and the last answers of each name: a command that is sent
+    again has the answer of the first."""
+
+    def __init__(self):
+        self.changed, self.under_way, self.kept = threading.Condition(), set(), {}
+
+    def passed(self, name, command, act, is_kept=lambda found: True):
+        """The answer to a command of a name. While it is under way already its answer is waited
+        for; where that ended without one, or with one that is not kept, it is done again."""
+        with self.changed:
+            self.changed.wait_for(lambda: (name, command) not in self.under_way)
+            kept = self.kept.setdefault(name, {})
+            if command in kept:
+                return kept[command]
+            self.under_way.add((name, command))
+        try:
+            found = act()
+            with self.changed:
+                if is_kept(found):
+                    kept[command] = found
+                if len(kept) > KEPT_OF_NAME:
+                    del kept[next(iter(kept))]
+            return found
+        finally:
+            with self.changed:
+                self.under_way.remove((name, command))
+                self.changed.notify_all()

@@ -2,18 +2,20 @@
 """Counts a published election again, from its database or from its returns.
 
     recount.py office.db
-    recount.py --setup setup.toml --returns FOLDER [--lots FILE]
+    recount.py --setup FILE --returns FOLDER [--lots FILE]
 
 Of a database it says for each constituency whether the totals agree with the closed returns and, if
-it is certified, the seats with the votes. From returns it prints the seats: FOLDER has CODE.csv for
-each constituency, as 'office show --report returns' prints it, with all stations closed. Lots are
-lines 'CODE A B', the first list first; a lot has to name the lists that it decides among, and no
-other. A byte order mark in front of a file is ignored. The exit status is 0; 1 if something
-differs, if a station is not in the returns, or if a lot is missing or of other lists; 2 if a file
-cannot be used. Nothing is written to any file. Python 3.11 or later.
+it is certified, the seats with the votes. From returns it prints the seats: FILE is the office's
+setup, or the setup.json that a site publishes; FOLDER has CODE.csv for each constituency, as
+'office show --report returns' prints it, with all stations closed. Lots are lines 'CODE A B', the
+first list first; a lot has to name the lists that it decides among, and no other. A byte order mark
+in front of a file is ignored. The exit status is 0; 1 if something differs, if a constituency or a
+station has no returns, or if a lot is missing or of other lists; 2 if a file cannot be used.
+Nothing is written to any file. Python 3.11 or later.
 """
 import argparse
 import csv
+import json
 import re
 import sqlite3
 import sys
@@ -154,7 +156,13 @@ def read_returns(con, lines):
 
 def count_returns(cons, folder, lots):
     status = 0
+    if not folder.is_dir():
+        raise FileNotFoundError(f"{folder} is no folder")
     for con in cons:
+        if not (folder / f"{con['code']}.csv").exists():
+            print(con["code"], "has no returns")
+            status = 1
+            continue
         with open(folder / f"{con['code']}.csv", newline="", encoding="utf-8-sig") as lines:
             cast = read_returns(con, lines)
         codes = [one["code"] for one in con["list"]]
@@ -202,9 +210,20 @@ def check(con, said, value, least, most):
         raise ValueError(f"{con['code']}: {said}: {value!r} is not {least} to {most}")
 
 
-def read_setup(text):
+def tables_of(text, is_published):
+    """The tables of a setup. In a published one each constituency has its own rule, and no size."""
+    text = text.removeprefix("\ufeff")
+    if not is_published:
+        return tomllib.loads(text)
+    cons = json.loads(text)
+    return {"profile": cons, "constituency": [
+        con | {"profile": con["code"], "list": con["lists"], "station": con["stations"],
+               "size": "large"} for con in cons]}
+
+
+def read_setup(text, is_published=False):
     """The constituencies, each with its rule and the most votes that each station can have."""
-    setup = tomllib.loads(text.removeprefix("\ufeff"))
+    setup = tables_of(text, is_published)
     rules = {profile["code"]: profile for profile in setup["profile"]}
     for con in setup["constituency"]:
         con["rule"] = rule = rules[con["profile"]]
@@ -239,7 +258,7 @@ def main():
     try:
         if given.file:
             return count_database(given.file.resolve())
-        cons = read_setup(given.setup.read_bytes().decode())
+        cons = read_setup(given.setup.read_bytes().decode(), given.setup.suffix == ".json")
         return count_returns(cons, given.returns, read_lots(given.lots, cons))
     except Exception as error:  # whatever it is: 1 is the status of a difference
         print(f"recount.py: error: {type(error).__name__}: {error}", file=sys.stderr)

@@ -65,11 +65,14 @@ const STATUSES = {
   403: T.may_not,
   404: T.no_such_code,
   409: T.other_setup,
+  412: T.other_name,
   413: T.body_too_long,
   429: T.too_often,
   502: T.away,
   504: T.too_slow,
 };
+// The same where nothing was to be done, and the page only asked.
+const UNREAD = { ...STATUSES, 0: T.not_seen, 409: T.setup_changed, 412: T.name_changed, 502: T.not_seen, 504: T.not_seen };
 
 const UNKNOWN = T.unknown_station;
 const ROLES = { clerk: T.role_clerk, second: T.role_second, board: T.role_board, station: T.role_station };
@@ -140,9 +143,14 @@ function say(text, kind) {
 
 // ---- asking
 
+// All that is asked goes with the hash of the setup that this page has and the name that it shows:
+// the proxy refuses what is of another setup or name by now. A browser sends a command again by
+// itself where its connection ends without an answer: by numbers at random, which no other command
+// has, it is known to be the same, and has the answer of the first.
 async function ask(method, target, body) {
   try {
-    const headers = method === "POST" && setupHash ? { "Office-Setup": setupHash } : {};
+    const headers = { ...(setupHash && { "Office-Setup": setupHash }), ...(person.name && { "Office-By": person.name }),
+      ...(method === "POST" && { "Office-Once": crypto.getRandomValues(new Uint32Array(4)).join("-") }) };
     const answer = await fetch(target, { method, body, headers, cache: "no-store", redirect: "error" });
     const text = await answer.text();
     const json = (answer.headers.get("Content-Type") || "").startsWith("application/json");
@@ -153,8 +161,7 @@ async function ask(method, target, body) {
   }
 }
 
-// The SHA-256 of a text: the proxy refuses a command of a page that has another setup.json than it
-// knows.
+// The SHA-256 of a text.
 async function hashOf(text) {
   const bytes = await crypto.subtle.digest("SHA-256", new TextEncoder().encode(text));
   return [...new Uint8Array(bytes)].map((byte) => byte.toString(16).padStart(2, "0")).join("");
@@ -166,11 +173,13 @@ function isolated(text) {
   return /[\u0590-\u08ff\ufb1d-\ufdff\ufe70-\ufefc]/.test(plain) ? `\u2068${plain}\u2069` : plain;
 }
 
-function sentence(answer) {
+function sentence(answer, statuses = STATUSES) {
   const word = answer.value && answer.value.word;
   if (Object.hasOwn(SENTENCES, word || "")) return SENTENCES[word](answer.value);
-  return STATUSES[answer.status] || T.other_status({ status: answer.status });
+  return statuses[answer.status] || T.other_status({ status: answer.status });
 }
+
+const unread = (answer) => sentence(answer, UNREAD);
 
 // What a form does, given as what returns an answer, or nothing where it was not sent. The form of
 // a command that was accepted is emptied, and so is one whose answer was lost, where what was typed
@@ -263,7 +272,9 @@ async function command(target, body, done, receipt, isLook = () => false) {
     if (answer.ok && receipt.station) dropDraft(receipt.station);
     showOpen();
     const trouble = await look();
-    say(`${waits ? waitsFor(value) : answer.ok ? done(value) : sentence(answer)}${trouble}`, waits || value.word === "lot_missing" || (answer.ok && isLook(value)) ? "look" : answer.ok ? "done" : "refused");
+    const what = waits ? waitsFor(value) : answer.ok ? done(value) : sentence(answer);
+    // (what the command came to is not said twice)
+    say(`${what}${trouble.replace(` ${unread(answer)}`, "")}`, waits || value.word === "lot_missing" || (answer.ok && isLook(value)) ? "look" : answer.ok ? "done" : "refused");
     if (answer.ok && !waits) showReceipt(done(value), receipt);
     return answer;
   } finally {
@@ -334,7 +345,7 @@ async function look() {
   showView();
   // Before the hour from which results are public a station sees its own return alone.
   const isClosed = result.status === 403 && person.role === "station";
-  return (result.ok || isClosed ? "" : ` ${sentence(result)}`) + (!found || shown.found ? "" : there ? ` ${UNKNOWN}` : ` ${sentence(found)}`);
+  return [...new Set([result.ok || isClosed ? "" : ` ${unread(result)}`, !found || shown.found ? "" : there ? ` ${UNKNOWN}` : ` ${unread(found)}`])].join("");
 }
 
 // The result of the office. A site that shows no seat before it is certified has none for a station
@@ -360,6 +371,8 @@ function unseen(station) {
 async function refresh() {
   setBusy(true);
   const trouble = await look();
+  // What was sent, and is recorded though its answer was lost, is neither to be sent nor compared.
+  for (const form of SLIPS.map(element)) if (form.hidden && isRecorded(form)) form.reset();
   say(trouble || T.now, trouble ? "refused" : "");
   setBusy(false);
 }
@@ -428,7 +441,7 @@ function showReturn() {
   shows("query", open && !again && (entered || status === "closed" || (found && blind())));
   shows("correct", open && status === "queried");
   // Where one entry is enough, whoever wants types the slip again, without seeing what is recorded.
-  shows("lodge", status === "none" || again);
+  shows("lodge", status === "none" || (again && found));
   shows("who", found);
   // (the others have this button above)
   shows("retry", !found);
@@ -462,9 +475,17 @@ function showView() {
   shows("reopen", view && view.certified);
   shows("import", view);
   if (lot) showDraw(lot);
-  element("vacate").elements.holder.replaceChildren(...holders.map((one) => {
+  if (view) showHolders(holders);
+}
+
+// Who was chosen as gone stays chosen, also where a look was lost; in the place of one who is no
+// holder any more nobody is.
+function showHolders(holders) {
+  const { holder } = element("vacate").elements, chosen = holder.value;
+  holder.replaceChildren(made("option", ""), ...holders.map((one) => {
     const option = made("option", T.holder_choice({ list: one.list, place: one.place, name: one.name }));
     option.value = JSON.stringify({ list: one.list, place: one.place });
+    option.selected = option.value === chosen;
     return option;
   }));
 }
@@ -768,10 +789,11 @@ const DRAFTS = ["lodge", "correct"], DAY = 86_400_000;
 const draftKey = (form, station) => `office ${setupHash.slice(0, 16)} ${person.name} ${station} ${form}`;
 
 // A slip that is typed to be compared is kept nowhere, nor is a second entry: nobody is to find it.
+// A correction is kept with the revision that it is to correct.
 function keepDraft({ currentTarget: form }) {
   if (!DRAFTS.includes(form.id) || shown.again) return;
   const typed = [...form.querySelectorAll(".slip input, .counts input:not([type=checkbox])")].map((field) => field.value);
-  kept((storage) => storage.setItem(draftKey(form.id, shown.station), JSON.stringify({ time: Date.now(), typed })));
+  kept((storage) => storage.setItem(draftKey(form.id, shown.station), JSON.stringify({ time: Date.now(), typed, rev: shown.found.rev })));
 }
 
 // Reads or writes what the browser keeps; null where it stores nothing.
@@ -788,19 +810,20 @@ function bringDraft() {
   for (const form of DRAFTS.map(element)) {
     const fields = [...form.querySelectorAll(".slip input, .counts input:not([type=checkbox])")];
     if (form.hidden || shown.again || fields.some((field) => field.value)) continue;
-    const { time, typed } = read(kept((storage) => storage.getItem(draftKey(form.id, shown.station))));
-    if (!Array.isArray(typed) || typed.length !== fields.length || Date.now() - time > DAY) continue;
+    const { time, typed, rev } = read(kept((storage) => storage.getItem(draftKey(form.id, shown.station))));
+    if (!Array.isArray(typed) || typed.length !== fields.length || rev !== shown.found.rev || Date.now() - time > DAY) continue;
     fields.forEach((field, place) => { field.value = typed[place]; });
     element("return").append(Object.assign(made("p", T.draft({ time: moment(new Date(time)) })), { className: "look" }));
   }
 }
 
-// Forgets what was typed more than a day ago, and all that this name typed.
+// Forgets what was typed more than a day ago, and all that this name typed; of "", as on a page
+// that does not know whose it is, what each name typed.
 function dropDrafts(name) {
   kept((storage) => {
     for (const key of Object.keys(storage).filter((one) => one.startsWith("office "))) {
       const age = Date.now() - read(storage.getItem(key)).time;
-      if (key.split(" ")[2] === name || !(age <= DAY)) storage.removeItem(key);
+      if ([key.split(" ")[2], ""].includes(name) || !(age <= DAY)) storage.removeItem(key);
     }
   });
 }
@@ -820,8 +843,9 @@ const toCon = (name, body, done, title, rows) => command(`/con/${shown.con}/${na
 
 onSubmit("lodge", async (form) => {
   if (!checked(form)) return null;
-  const { station } = shown, typed = figures(form);
-  const answer = await toStation("lodge", typed, (value) => value.ok === "same" ? T.same_recorded : T.lodged,
+  // (a first entry that is recorded already was sent twice, and compared with nothing)
+  const { station, again } = shown, typed = figures(form);
+  const answer = await toStation("lodge", typed, (value) => value.ok !== "same" ? T.lodged : again ? T.same_recorded : T.same_before,
     T.receipt_lodge, () => [[T.slip, typed.slip]]);
   if (answer.ok) putOnPile(station, typed.slip);
   return answer;
@@ -913,8 +937,8 @@ function rowsOfFile(text, separator) {
 }
 
 async function readRefused(form, answer) {
-  const { file, separator } = form.elements;
-  fileRows = rowsOfFile(await file.files[0].text().catch(() => ""), separator.value ? ";" : ",");
+  const { separator } = form.elements;
+  fileRows = rowsOfFile(await tried.copy.text(), separator.value ? ";" : ",");
   refusedLines = answer.split("\n").filter(Boolean).slice(6).map((one) => one.split(" ")).map(([, row, , word, of]) => {
     const { text } = fileRows[Number(row)] || { text: "" };
     return { line: lineOf(Number(row)), reason: CAUSES[word](of), text: isolated(text.trim().slice(0, 60)) };
@@ -935,10 +959,21 @@ function showTrial(text) {
   element("import").querySelector("button").textContent = text ? T.import_button : T.try_file;
 }
 
+// What was tried: the file that was chosen, and a copy of what it said then. That is imported.
+let tried = { file: null, copy: null };
+
 async function tryFile(form) {
   setBusy(true);
   say(T.sent);
-  const answer = await ask("POST", `/con/${shown.con}/trial${form.elements.separator.value}`, form.elements.file.files[0]);
+  const file = form.elements.file.files[0], bytes = await file.arrayBuffer().catch(() => null);
+  if (!bytes) {
+    showTrial("");
+    say(T.file_unread, "refused");
+    setBusy(false);
+    return;
+  }
+  tried = { file, copy: new File([bytes], file.name) };
+  const answer = await ask("POST", `/con/${shown.con}/trial${form.elements.separator.value}`, tried.copy);
   if (answer.ok) {
     await readRefused(form, answer.text);
     showTrial(answer.text);
@@ -950,12 +985,12 @@ async function tryFile(form) {
 // The first line that was not accepted, with the reason of the trial, which says more, where it is
 // of that line.
 function firstRefused([row, refusal]) {
-  const line = lineOf(row), tried = refusedLines.find((one) => one.line === line), reason = tried ? tried.reason : REASONS[refusal] || T.other_reason({ number: refusal });
+  const line = lineOf(row), known = refusedLines.find((one) => one.line === line), reason = known ? known.reason : REASONS[refusal] || T.other_reason({ number: refusal });
   return T.imported_first({ line, reason });
 }
 
 function importFile(form) {
-  const file = form.elements.file.files[0], notAccepted = ({ differs, refused, bad }) => differs + refused + bad;
+  const file = tried.copy, notAccepted = ({ differs, refused, bad }) => differs + refused + bad;
   const done = (value) => T.imported({ lodged: value.lodged, same: value.same, differs: value.differs, refused: value.refused, bad: value.bad }) +
     (value.first ? firstRefused(value.first) : "");
   const rows = () => {
@@ -967,8 +1002,8 @@ function importFile(form) {
     (value) => notAccepted(value) > 0);
 }
 
-onSubmit("import", (form) => element("trial").hidden ? tryFile(form) : importFile(form));
-for (const event of ["change", "reset"]) element("import").addEventListener(event, () => showTrial(""));
+onSubmit("import", (form) => element("trial").hidden || form.elements.file.files[0] !== tried.file ? tryFile(form) : importFile(form));
+for (const event of ["change", "cancel", "reset"]) element("import").addEventListener(event, () => showTrial(""));
 
 // ---- who did what to a station
 
@@ -1022,7 +1057,7 @@ async function showHistory() {
       })));
     element("history").scrollIntoView({ block: "nearest" });
   }
-  say(answer.ok ? T.history_shown({ station }) : sentence(answer), answer.ok ? "" : "refused");
+  say(answer.ok ? T.history_shown({ station }) : unread(answer), answer.ok ? "" : "refused");
   setBusy(false);
 }
 
@@ -1056,7 +1091,7 @@ async function findOpen() {
   if (element("station").placeholder) proposeStation(proposedStation());
   showOpen();
   const open = listed.filter((one) => one.status !== "closed").length;
-  say(answer.ok ? T.open_listed({ number: open }) : sentence(answer), answer.ok ? "" : "refused");
+  say(answer.ok ? T.open_listed({ number: open }) : unread(answer), answer.ok ? "" : "refused");
   setBusy(false);
 }
 
@@ -1135,7 +1170,7 @@ async function showWaiting() {
     element("waiting").scrollIntoView({ block: "nearest" });
   }
   // (where who did what could not be read, what differs there is not known)
-  say(lost ? sentence(lost) : T.waiting_shown({ number: waiting.length }), lost ? "refused" : "");
+  say(lost ? unread(lost) : T.waiting_shown({ number: waiting.length }), lost ? "refused" : "");
   setBusy(false);
 }
 
@@ -1172,6 +1207,10 @@ async function learnSite() {
 async function begin() {
   dropDrafts(null);
   const [own, file] = await Promise.all([ask("HEAD", "/clerk.html"), ask("GET", "/setup.json"), learnSite()]);
+  // Without whose page it is and what is elected, nothing on it can be used but the log out.
+  const main = document.querySelector("main");
+  main.hidden = true;
+  if (!own.ok || ![200, 404].includes(file.status)) return say(T.not_loaded, "refused");
   person = { name: own.headers.get("X-Office-Name") || "", role: own.headers.get("X-Office-Role") || "" };
   const bound = own.headers.get("X-Office-Bound-To");
   element("person").textContent = person.name ? `${person.name}, ${ROLES[person.role] || person.role}` : "";
@@ -1185,6 +1224,7 @@ async function begin() {
   // A name that is bound to constituencies may act in no other.
   if (bound !== null) setup = setup.filter((one) => bound.trim().split(" ").includes(one.code));
   if (!setup.length) return say(T.nowhere, "refused");
+  main.hidden = false;
   element("con").replaceChildren(...setup.map((one) => {
     const option = made("option", `${one.name} (${one.code})`);
     option.value = one.code;
@@ -1263,6 +1303,7 @@ element("logout").addEventListener("click", () => {
 });
 element("compare").addEventListener("click", () => {
   shown.again = !shown.again;
+  if (shown.again) element("lodge").reset();
   showReturn();
   if (shown.again) element("lodge").elements.slip.focus();
 });
@@ -1296,7 +1337,8 @@ for (const form of SLIPS.map(element)) {
 addEventListener("invalid", ({ target }) => {
   target.setCustomValidity("");
   const { valueMissing, patternMismatch } = target.validity;
-  target.setCustomValidity(valueMissing ? (target.name === "slip" && target.placeholder ? T.slip_end : T.fill_in) : patternMismatch ? T.other_form({ form: target.title }) : "");
+  const missing = target.matches("select, [type=file]") ? T.choose : target.name === "slip" && target.placeholder ? T.slip_end : T.fill_in;
+  target.setCustomValidity(valueMissing ? missing : patternMismatch ? T.other_form({ form: target.title }) : "");
 }, true);
 for (const event of ["click", "input"]) {
   addEventListener(event, ({ target }) => {

@@ -91,12 +91,21 @@ function renewItself(control) {
     } else if (said.textContent === said.dataset.lost) said.textContent = "";
     if (focus >= 0) reached()[focus]?.focus({ preventScroll: true });
   }
+  // What it said may be a certificate that is withdrawn. The page may come back. (A folder without
+  // its first page, and a site before its hour, answer 403.)
+  function leave() {
+    const kept = [part("header a[href='index.html']"), part("h1")];
+    part("header").replaceChildren(...kept.filter(Boolean));
+    part("main").replaceChildren();
+    shown = "";
+    said.textContent = said.dataset.gone;
+  }
   async function renew() {
     if (waits()) return;
-    const text = await fetch(location.pathname, { cache: "no-cache" })
-      .then((answer) => answer.ok ? answer.text() : "", () => "");
-    const page = parsed(text);
-    if (!page.querySelector("main")) said.textContent = said.dataset.lost;
+    const answer = await fetch(location.pathname, { cache: "no-cache" }).catch(Response.error);
+    const page = parsed(answer.ok ? await answer.text().catch(() => "") : "");
+    if ([403, 404].includes(answer.status)) waits() || leave();
+    else if (!page.querySelector("main")) said.textContent = said.dataset.lost;
     else if (!waits()) show(page);
   }
   tick.addEventListener("change", () => {

@@ -18,7 +18,7 @@ addresses of its own (127.0.0.0/8).
   test_functions_of_records, test_files_with_long_fields, test_numbers_that_no_office_has,
   test_entries_by_hand, test_replay_by_hand, test_changes_between_two_names, test_put_back,
   test_replay_over_others, test_replay_at_random, test_known_by_replay,
-  test_returns_past_the_record, test_replay_of_unknown_answers.
+  test_returns_past_the_record, test_replay_of_unknown_answers, test_commands_without_an_answer.
 - The machine: test_backup, test_room_for_copies, test_copies_elsewhere, test_services,
   test_ports_and_units, test_status, test_functions_of_status, test_what_status_prints,
   test_what_status_lacks, test_names_of_copies.

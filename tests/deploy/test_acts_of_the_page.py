@@ -8,7 +8,7 @@ import json
 from tests.support.case import Case, needs
 from tests.support.page_alone import NOW, page_alone, recorded, result
 
-AWAY = "The office does not answer now. It may have been done."
+UNSEEN = "What the office has now is not known: it did not answer. Ask it again."
 VIEW, AGAIN = "GET /now/con/c1/result", "element('again').click()"
 CLOSED = result(closed=4, received=0)
 LOT = result(closed=4, received=0, status="lot", question=1, group=["A", "B"])
@@ -54,7 +54,7 @@ class Acts(Case):
             for yes, views, answer, sent, said, kind, rows in (
                     (False, [CLOSED], done, 0, NOW, "", None),
                     (True, [result(closed=3)], done, 0, changed, "look", None),
-                    (True, [[502, ""]], done, 0, AWAY, "look", None),
+                    (True, [[502, ""]], done, 0, UNSEEN, "look", None),
                     (True, [CLOSED, CERTIFIED], done, 1, "Done.", "done", seats),
                     (True, [CLOSED, CERTIFIED | {"edition": 7}], done, 1, "Done.", "done", []),
                     (True, [CLOSED, CLOSED | {"edition": 5}], done, 1, "Done.", "done", []),
@@ -122,6 +122,9 @@ class Acts(Case):
             page.asked()
             page.run(CHOSEN, ["B", ""])
             self.assertEqual((page.send("draw")["said"], page.asked()), (NOW, []))
+            self.assertEqual(page.run("return [...element('order').querySelectorAll('select')]"
+                                      ".map((e) => e.validationMessage)"),
+                             ["", "Nothing is chosen here."])
             leaves = "return dispatchEvent(new Event('beforeunload', { cancelable: true }))"
             self.assertFalse(page.run(leaves))
             page.run(CHOSEN, ["B", "B"])
@@ -168,11 +171,11 @@ class Acts(Case):
                                                  f"POST /con/c1/{form}": [[200, answer]]})
                     self.assertEqual(page.run("return [...element('vacate').elements.holder"
                                               ".options].map((e) => e.textContent)"),
-                                     ["A, place 1: Ana", "A, place 2: Abel"])
+                                     ["", "A, place 1: Ana", "A, place 2: Abel"])
                     page.asked()
                     page.run("const { elements } = element(arguments[0]); "
                              "elements.note.value = 'sum'; office.yes = false; "
-                             "if (elements.holder) elements.holder.selectedIndex = 1", form)
+                             "if (elements.holder) elements.holder.selectedIndex = 2", form)
                     page.send(form)
                     self.assertEqual(page.asked(), [])
                     page.run("office.yes = true")
@@ -184,6 +187,63 @@ class Acts(Case):
                     self.assertEqual(page.run(RECEIPT), [*done, *rows, ["Note", "sum"]][
                         0 if said == "Done." else 0:])
                     self.assertEqual(page.run("return element('receipt').open"), True)
+
+    @needs("chromium")
+    def test_who_is_chosen_as_gone(self):
+        """Nobody, until somebody chooses; and then the same holder, whatever the office answers. In
+        the place of one who is no holder any more nobody is chosen, and nothing is sent."""
+        vacate, lost = "POST /con/c1/vacate", [[502, ""]]
+        held = CERTIFIED | {"holders": [["A", 1, "Ana"], ["A", 2, "Abel"], ["B", 1, "Bea"]]}
+        chosen = ("const { holder, note } = element('vacate').elements; "
+                  "return [holder.selectedOptions[0].textContent, note.value]")
+        missing = "return element('vacate').elements.holder.validationMessage"
+        bea = ["B, place 1: Bea", "resigned"]
+        choose = ("const { holder, note } = element('vacate').elements; note.value = 'resigned'; "
+                  "holder.selectedIndex = arguments[0]")
+        with page_alone() as page:
+            def sends_nothing():
+                page.asked()
+                page.run("office.questions.length = 0")
+                page.send("vacate")
+                self.assertEqual((page.asked(), page.run("return office.questions"),
+                                  page.run(chosen), page.run(missing)),
+                                 ([], [], ["", "resigned"], "Nothing is chosen here."))
+
+            page.open("board", "berta", {VIEW: [[200, held]]})
+            page.run(choose, 0)
+            sends_nothing()
+            page.run(choose, 3)
+            for answer in ([0, ""], [502, ""], [503, {"word": "unavailable"}], [429, ""],
+                           [412, ""], [409, {"word": "not_certified"}]):
+                for view in ([[200, held]], lost):
+                    with self.subTest(answer=answer, view=view):
+                        page.tell({vacate: [answer], VIEW: view})
+                        page.send("vacate")
+                        self.assertEqual(page.run("return office.questions.splice(0)"),
+                                         ["Bea (B) is gone?"])
+                        self.assertEqual(page.run(chosen), bea)
+                        page.tell({VIEW: [[200, held]]})
+                        self.assertEqual(page.does(AGAIN)["forms"], ["vacate", "reopen"])
+                        self.assertEqual(page.run(chosen), bea)
+            # Its answer was lost, and it was done; nobody is chosen in the place of Bea.
+            page.tell({vacate: [[0, ""]],
+                       VIEW: [[200, held | {"holders": held["holders"][:2], "gone": [
+                           ["B", 1, "resigned"]]}]]})
+            page.send("vacate")
+            sends_nothing()
+            # Nor is anybody in another constituency, or once it was sent.
+            page.tell({VIEW: [[200, held]], "GET /now/con/c2/result": [[200, CERTIFIED | {
+                "con": "c2", "lists": [{"votes": 9, "seats": 1}], "holders": [["B", 1, "Bea"]]}]]})
+            page.does(AGAIN)
+            page.run(choose, 3)
+            page.does("element('con').value = 'c2'; element('con').dispatchEvent("
+                      "new Event('change'))")
+            self.assertEqual(page.run(chosen), ["", ""])
+            page.open("board", "berta", {VIEW: [[200, held]], vacate: [[202, {
+                "until": "2026-11-29T21:00:00+00:00", "others": []}]]})
+            page.run(choose, 3)
+            page.send("vacate")
+            self.assertEqual(page.run(chosen), ["", ""])
 
     @needs("chromium")
     def test_a_file(self):
@@ -208,6 +268,18 @@ class Acts(Case):
             self.assertEqual(page.run(shown), [False, "Import this file"])
             self.assertEqual(page.run(TEXTS, "#trial td"), ["1", "2", "3", "1,200", "5"])
             self.assertEqual(page.run(TEXTS, "#trial li"), REASONS)
+            # Another file that was chosen by the same name is tried too, and what was tried is
+            # imported; one that cannot be read is said to be so.
+            page.run(GIVE.replace("input.dispatchEvent", "void"), FILE)
+            page.tell({trial: [[200, TRIAL], [200, TRIAL]]})
+            page.send("import")
+            self.assertEqual(page.asked(), [f"{trial} rows.csv"])
+            page.run("const [file] = document.querySelector('#import [type=file]').files;"
+                     "file.arrayBuffer = () => Promise.reject(new DOMException('gone'));"
+                     "document.querySelector('#import').dispatchEvent(new Event('cancel'));")
+            seen = page.send("import")
+            self.assertEqual((page.asked(), seen["kind"], seen["alert"][:26], page.run(shown)),
+                             ([], "refused", "This file was changed, or ", [True, "Try this file"]))
             # Each thing that was not accepted is to be looked at, of whatever kind.
             for more, said, kind in (
                     ({}, "", "done"), ({"differs": 1, "first": [2, 7]},
@@ -364,7 +436,7 @@ class Acts(Case):
             page.tell({table: [[502, ""]]})
             page.asked()
             seen = page.does(click)
-            self.assertEqual((seen["alert"].startswith(AWAY), page.asked(), len(page.run(
+            self.assertEqual((seen["alert"].startswith(UNSEEN), page.asked(), len(page.run(
                 TEXTS, "#waiting li"))), (True, [table, typed], 5))
             # Of another constituency there is nothing.
             page.tell({"GET /now/con/c2/result": [[200, result(con="c2", lists=[

@@ -102,15 +102,20 @@ class PapersOfASpreadsheet(Case):
 
 class Lots(Case):
     def test_all_papers_where_a_lot_decided_the_returns(self):
-        """By the returns A and B have 100 votes each; one vote of B was counted for A.
-
-        The papers give A the seat that the lot gave it, which confirms no lot.
-        """
+        """By the returns A and B have 100 votes each; one vote was counted for the other. The
+        returns do not say whom the lot gave the seat, so nothing is said of the same seats; nor of
+        a sample, once all are counted."""
         tie = RETURNS.replace("60,20", "40,40")
-        papers = PAPERS.replace("60,20", "41,39")
-        ran = assessed(papers, tie)
-        self.assertEqual((ran.status, ran.err), (1, ""))
-        self.assertTrue(ran.out.endswith("The papers give other seats.\n"), ran.out)
+        none = ("By the returns a lot decides, and by the papers none: the certified seats have to "
+                "be these.\n")
+        same = ("By the returns the same lot decides: the certified seats have to be those of the "
+                "lot that was drawn.\n")
+        for votes, said in (("41,39", none), ("39,41", none), ("40,40", same)):
+            with self.subTest(votes=votes):
+                ran = assessed(PAPERS.replace("60,20", votes), tie)
+                self.assertEqual((ran.status, ran.err), (1, ""))
+                self.assertTrue(ran.out.endswith(said), ran.out)
+                self.assertEqual(ran.out.count("A lot has to decide"), int(said is same))
 
 
 class Rules(Case):

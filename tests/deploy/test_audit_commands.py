@@ -183,7 +183,9 @@ class AuditCommands(Case):
         self.assessed("s1,0,0,0,0,80\ns2,0,0,0,50,30\ns3,0,0,0,10,30\n", 1,
                       "The papers give other seats.")
         self.assessed("s1,0,0,0,40,20\ns2,0,0,0,50,50\ns3,0,0,0,10,30\n", 1,
-                      "No sample can confirm what a lot decided: count all papers.")
+                      "A lot has to decide between A's seat 2 and B's seat 2: the votes of the "
+                      "two are equal.",
+                      "By the returns no such lot decides: correct them, and certify again.")
         # Everybody in s2 voted for B: (2 x 50 - 2 x 30 + 2 x 100) / 80 is its bound.
         self.assessed("s1,2,0,0,60,20\ns2,1,0,0,0,100\n", 1,
                       "       3 s2                   3.000000     3.000000         -  A 50 on "

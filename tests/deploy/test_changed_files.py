@@ -158,7 +158,8 @@ class ChangedFiles(SiteCase):
                     text = re.sub(r'(<time datetime="|"time": "|<updated>)[^"<]+',
                                   rf"\g<1>{moment}", read(name))
                     Path("pages", name).write_text(text, encoding="utf-8")
-                    rounds.mark_old(rounds.Site(), Path("pages", name))
+                    rounds.put(Path("pages"), name,
+                               rounds.aged(rounds.Site(), text, datetime.now(UTC)))
                 press(port, "--setup", "setup.toml")
                 with self.subTest(moment=moment):
                     self.assertEqual({name: says(name) for name in names}, before)

@@ -42,22 +42,23 @@ class OnAComputer(OfSites):
         return list(self.calls), printed.getvalue()
 
     def test_what_is_started(self):
-        """A unit that does not run, and once more one that is older than its files."""
+        """A unit that does not run, and once more one that is older than its files. The rules of
+        the ports are loaded each time."""
         units = [f"{unit}@{ONE}.service" for unit in ("office", "office-reader", "office-recorder",
                                                       "office-press")]
         units += [f"{unit}@{ONE}.timer" for unit in ("office-backup", "office-status")]
         enable = f"enable --quiet office-ports {' '.join(units)} nginx"
-        well = ["daemon-reload", enable, "reload nginx"]
+        begin = ["daemon-reload", "reload-or-restart office-ports", enable]
+        well = [*begin, "reload nginx"]
         self.assertEqual(self.started(), (well, ""))
         self.assertEqual((self.waits, self.ran), ([ONE], [["nginx", "-t"]]))
-        ports, nginx = "reload-or-restart office-ports", "restart nginx"
+        nginx = "restart nginx"
         for older, again, wanted, printed in (
-                ({"office-ports"}, False, ["daemon-reload", ports, enable, "reload nginx"], ""),
-                ({units[0], units[5]}, False, ["daemon-reload", enable, f"restart {units[0]} "
-                                               f"{units[5]}", "reload nginx"],
+                ({units[0], units[5]}, False, [*begin, f"restart {units[0]} {units[5]}",
+                                               "reload nginx"],
                  f"started {units[0]} {units[5]}\n"),
-                ({"nginx"}, False, ["daemon-reload", enable, nginx], "started nginx.service\n"),
-                (set(), True, ["daemon-reload", ports, enable, f"restart {' '.join(units)}", nginx],
+                ({"nginx"}, False, [*begin, nginx], "started nginx.service\n"),
+                (set(), True, [*begin, f"restart {' '.join(units)}", nginx],
                  f"started {' '.join(units)}\nstarted nginx.service\n")):
             with self.subTest(older=older, again=again):
                 self.older = older
@@ -158,8 +159,10 @@ class OnAComputer(OfSites):
         disks["/var/log/office"] = 1
         with contextlib.redirect_stdout(io.StringIO()):
             self.site.own_log_disk(self.machine, False)
-        self.assertEqual(written, [("/etc/fstab", "a", "/var/log/nginx.img /var/log/nginx ext4 "
-                                                       "loop 0 0\n")])
+        # (the computer starts without it, and nginx does not start before it)
+        self.assertEqual(written, [("/etc/fstab", "a", (
+            "/var/log/nginx.img /var/log/nginx ext4 "
+            "loop,nofail,x-systemd.before=nginx.service 0 0\n"))])
         self.assertEqual((done, self.calls), ([0o600, (Place("/var/log/nginx"), "root", "adm")],
                                               ["daemon-reload"]))
         self.fails = {"mkfs.ext4": "no room"}

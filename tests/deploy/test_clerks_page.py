@@ -4,6 +4,7 @@ import base64
 import hashlib
 import json
 import re
+import signal
 import sys
 from pathlib import Path
 
@@ -14,6 +15,8 @@ from tests.support.clerks import (
 from tests.support.office import with_stations
 from tests.support.pages import page_of, press
 from tests.support.proxy import office_and_proxy
+from tests.support.running import until
+from tests.support.safeguards import hash_of_file
 from tests.support.shown import shows_well
 from tests.support.site import BOTH, DEPLOY, LATE, STATIONS, SiteCase, plain, ran
 
@@ -164,7 +167,7 @@ class ClerksPage(SiteCase):
         self.assertEqual([*receipt(it)], ["Constituency", "Order", "By", "At"])
         self.assertFalse(it.visible("#draw"))
         confirmed(it, "#certify button", "Certify Twin Town?", "Done.")
-        it.run("document.querySelector('#vacate select').selectedIndex = 0")
+        it.run("document.querySelector('#vacate select').selectedIndex = 1")
         it.type("#vacate input[name=note]", "moved")
         confirmed(it, "#vacate button", "Ana (A) is gone?", "Done: Abel moves in, place 2.")
         # Somebody else reopens it: what the page shows is no longer so, and its command is refused.
@@ -208,8 +211,12 @@ class ClerksPage(SiteCase):
         name nor to a clerk."""
         with office_and_proxy(with_stations(3)) as (desk, front):
             Path("setup.toml").write_text(with_stations(1), encoding="utf-8")
+            known = {"Office-Setup": hash_of_file(front.folder / "share/setup.json")}
             front.publish_setup("setup.toml")
             front.name("stations", "s2")
+            # (the proxy knows it once it has read its files again)
+            front.process.send_signal(signal.SIGHUP)
+            until(lambda: front.ask("GET", "/now/progress", None, "clara", known).status == 409)
             lodged = '{"slip":"p1","votes":[1,2],"blank":0,"spoiled":0}'
             self.assertEqual(plain(desk.port, "POST", "/station/s3/lodge", lodged).status, 200)
             unknown = "setup.json has no station of this code."

@@ -399,9 +399,9 @@ class Returns(Case):
         file."""
         limit = csv.field_size_limit(131_072)
         try:
-            tool_of_papers = loaded("entries")
+            commands = loaded("record_commands.py")
             text = f"{HEADER},A,B\nt1,{'p' * 200_000},0,0,1,2\nt1,p1,0,0,1,2\n"
-            found = tool_of_papers.rows_of(text, False, tool.cons_of(TWO_TOWNS)[1])
+            found = commands.rows_of(text, False, tool.cons_of(TWO_TOWNS)[1])
             self.assertEqual([(code, slip) for code, (slip, _) in found], [("t1", "p1")])
         finally:
             csv.field_size_limit(limit)
@@ -439,6 +439,7 @@ class Copies(Case):
                 ({"returns": {"t1": (4, (4, figures))}}, [at.format(4)]),
                 ({"returns": {"t1": (3, (4, ("p2", figures[1])))}}, [at.format(3)]),
                 ({"returns": {"t1": (0, (4, figures))}}, [at.format(0)]),
+                ({"returns": {"t1": ("?", (4, figures))}}, [at.format("?")]),
                 ({"notes": {"t1": "14?"}}, [
                     "t1: the office has the note '14?', and this record 'smudged'"]),
                 ({"editions": editions | {"c2": (3, True)}}, [

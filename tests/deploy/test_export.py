@@ -420,7 +420,7 @@ class Seats(OfExport):
                 [contest] = eml("eml-520.xml").iter(f"{EML}Contest")
                 self.assertEqual(elected(contest)[0], ("A", "yes", people))
                 [of_c1] = re.findall("(?s)Id=\"A\">.*Id=\"B\">", read("eml-520.xml", "out"))
-                said = "<!-- Holders of this list have left: those who follow them have their seats"
+                said = "<!-- Candidates of this list have left: those who follow them have the"
                 self.assertEqual((said in of_c1, "have left" in read("eml-520.xml", "out")),
                                  (bool(left), bool(left)))
                 winners = [int(one["@id"].rpartition(".")[2]) for one in
@@ -429,8 +429,8 @@ class Seats(OfExport):
                 self.assertEqual(winners, [place for place, _ in people])
                 readme = " ".join(read("README.txt", "out").split())
                 for text in (nist()["Notes"], readme):
-                    for said in ("Holders have left in these constituencies: c1.",
-                                 "Han causado baja electos en estas circunscripciones: c1."):
+                    for said in ("Candidates have left in these constituencies: c1.",
+                                 "Han causado baja candidatos en estas circunscripciones: c1."):
                         self.assertEqual(said in text, bool(left), text)
                 for said in ("Who is elected is here who holds the seat at that time",
                              "Como electo figura aquí quien ocupa el escaño a esa hora"):

@@ -67,12 +67,22 @@ class Sums(Case):
             ("seats", "B"): 1})
         self.assertEqual((con.total.papers, con_of("c1", closed=0).total.votes), (12, [0, 0]))
         self.assertEqual(con_of("c1").seats, {})
-        self.assertEqual(con.may_be_elected, {
-            ("A", None, None), ("A", 1, "Ana"), ("A", 2, "Abel"), ("B", None, None),
-            ("B", 1, "Bea")})
         self.assertEqual(election_of(con, con_of("c2")).empty, {"c1": {("seats", "A"): 1}})
         cons = [con_of("c1", left="A"), con_of("c2"), con_of("c3", left="B")]
         self.assertEqual(data.vacated(cons), "c1, c3")
+
+    def test_lists_of_which_somebody_has_left(self):
+        """Who was gone before a certificate that gives the list fewer seats is nobody's holder."""
+        def gone(*places):
+            return [{"list": "A", "place": place} for place in places]
+
+        two = [("A", 1, "Ana"), ("A", 2, "Abel")]
+        for of, elected, is_left in (
+                ((), two, False), ((3,), two, False), ((2,), two[:1], False), ((1,), (), False),
+                ((1,), two[1:], True), ((2,), [two[0], ("A", 3, "Ada")], True),
+                ((1, 2), [("A", None, None)], True), ((2,), [("B", 3, "Bea"), two[0]], False)):
+            with self.subTest(gone=of, elected=elected):
+                self.assertEqual(data.lists_left(gone(*of), elected), {"A"} if is_left else set())
 
     def test_the_rows_of_a_constituency(self):
         """Seats are of certified ones alone; each row has the same sums of the whole."""
@@ -117,25 +127,35 @@ class Sums(Case):
                     self.assertRaises(ValueError, data.number, text)
 
     def test_who_is_elected_where_all_are(self):
-        """Each candidate and an empty seat of each list, and nobody else, may be elected."""
-        lists = [{"code": "A", "name": "Alpha", "candidates": ["Ana"]}]
+        """The first candidates who are not gone, as many as the list has seats; where there are no
+        more a seat is empty. Others are of another setup, or of nobody's act."""
+        lists = [{"code": "A", "name": "Alpha", "candidates": ["Ana", "Abel", "Ada"]}]
         state = {"tally": {"name": "Town", "lists": [{"code": "A", "name": "Alpha"}]},
+                 "rule": {"seats": 2},
                  "view": {"certified": True, "edition": 2, "gone": []},
                  "seats": {"seats": {"A": 2}}}
         setup = {"code": "c1", "name": "Town", "seats": 2, "lists": lists,
                  "stations": [{"code": "s1", "electors": 10}]}
         sums = {("closed", ""): 0, ("electors", ""): 10, ("valid", ""): 0, ("blank", ""): 0,
                 ("spoiled", ""): 0, ("votes", "A"): 0, ("seats", "A"): 2}
-        for holder, is_taken in (({"list": "A", "place": None, "name": None}, True),
-                                 ({"list": "A", "place": 2, "name": "Ana"}, False)):
-            with self.subTest(holder=holder):
-                held = [{"list": "A", "place": 1, "name": "Ana"}, holder]
-                pages = SimpleNamespace(last="con-c1.json", json=lambda _, held=held: state | {
-                    "holders": held})
-                row = {"certified": "true", "edition": "2"}
+        self.assertRaises(data.Refused, data.read_con, SimpleNamespace(
+            last="con-c1.json", json=lambda _: state), setup | {"seats": 3}, {
+                "certified": "true", "edition": "2"}, sums)
+        ana, abel, ada, nobody = (1, "Ana"), (2, "Abel"), (3, "Ada"), (None, None)
+        row = {"certified": "true", "edition": "2"}
+        for gone, held, is_taken in (
+                ((), [ana, abel], True), ((2,), [ana, ada], True), ((1, 2), [ada, nobody], True),
+                ((1, 2, 3), [nobody, nobody], True),
+                ((), [ana, ada], False), ((), [abel, ana], False), ((), [ana, nobody], False),
+                ((), [ana, (2, "Ana")], False), ((2,), [ana, abel], False), ((), [ana], False)):
+            with self.subTest(gone=gone, held=held):
+                view = state["view"] | {"gone": [{"list": "A", "place": one} for one in gone]}
+                of = state | {"view": view, "holders": [
+                    {"list": "A", "place": place, "name": name} for place, name in held]}
+                pages = SimpleNamespace(last="con-c1.json", json=lambda _, of=of: of)
                 if is_taken:
-                    found = data.read_con(pages, setup, row, sums).elected
-                    self.assertEqual(found, [("A", 1, "Ana"), ("A", None, None)])
+                    self.assertEqual(data.read_con(pages, setup, row, sums).elected,
+                                     [("A", *who) for who in held])
                 else:
                     self.assertRaises(data.Refused, data.read_con, pages, setup, row, sums)
 

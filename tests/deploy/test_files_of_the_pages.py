@@ -60,6 +60,11 @@ class Written(Case):
             Path("a.html.gz").write_bytes(cut)
             files.repair(HERE)
             self.assertEqual(Path("a.html.gz").read_bytes(), whole)
+        # Without room for it there is none: the proxy gives the file.
+        Path("a.html.gz").write_bytes(files.compressed_of(b"another"))
+        with mock.patch.object(files, "put_bytes", side_effect=FULL):
+            files.repair(HERE)
+        self.assertEqual(there(), ["a.html"])
 
     def test_a_full_disk(self):
         """Nothing that was begun stays, what was there does, and the fault is the disk's."""
@@ -70,6 +75,28 @@ class Written(Case):
                     files.put(HERE, "a.html", "two")
                 self.assertEqual((found.exception.errno, there(), texts("a.html")),
                                  (28, ["a.html", "a.html.gz"], ["one"]))
+
+    def test_a_disk_that_is_full_between_a_file_and_its_compressed_one(self):
+        """Browsers get the compressed one alone, and also where there is no file: none of another
+        moment stays, and it is made again where the file is as it was."""
+        files.put(HERE, "a.html", "one")
+        write = files.put_bytes
+        with mock.patch.object(files, "put_bytes", side_effect=lambda file, data: write(
+                file, data if file.suffix == ".gz" else self.fail_full())):
+            self.assertRaises(OSError, files.put, HERE, "a.html", "two")
+            self.assertRaises(OSError, files.put, HERE, "b.html", "two")
+        self.assertEqual((there(), texts("a.html"), files.changed(HERE)), (
+            ["a.html"], ["one"], []))
+        files.put(HERE, "a.html", "one")
+        self.assertEqual((texts("a.html"), unpacked("a.html.gz")), (["one"], "one"))
+        # Where the compressed one finds no room neither is written.
+        with mock.patch.object(files, "put_bytes", side_effect=FULL):
+            self.assertRaises(OSError, files.put, HERE, "a.html", "two")
+        self.assertEqual((texts("a.html"), unpacked("a.html.gz")), (["one"], "one"))
+
+    @staticmethod
+    def fail_full():
+        raise FULL
 
     def test_links_and_folders_in_the_place_of_a_file(self):
         """A link is replaced, as no reader gets one; a folder is named and stays."""
@@ -209,6 +236,23 @@ class Changed(Case):
             f"failed: stations-c1-{n}.csv: somebody else changed or removed it\n"
             for n in range(2, 8))))
         self.assertFalse(Path("stations-c1-4.csv.gz").exists())
+
+    def test_what_a_certificate_was_made_of_without_room_to_make_it_again(self):
+        """It has the room that was kept. Without that it is removed, and the start goes on; another
+        fault ends it."""
+        files.keep_room(HERE)
+        for fault, wanted in ((FULL, ["manifest.json"]), (PermissionError(13, "denied"), None)):
+            files.put(HERE, "stations-c1-2.csv", "as it was")
+            digest = hashlib.sha256(b"as it was").hexdigest()
+            Path("manifest.json").write_text(json.dumps({"files": {"stations-c1-2.csv": digest}}),
+                                             encoding="utf-8")
+            Path("stations-c1-2.csv").write_text("another's", encoding="utf-8")
+            with mock.patch.object(files, "put_bytes", side_effect=fault):
+                if wanted:
+                    said_by(files.restore, HERE)
+                    self.assertEqual(there(), wanted)
+                else:
+                    self.assertRaises(PermissionError, said_by, files.restore, HERE)
 
     def test_a_manifest_that_is_none(self):
         for text in ("", "[]", "{}", '{"files": []}', '{"files": 3}', "[" * 100_000):

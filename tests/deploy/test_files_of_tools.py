@@ -195,7 +195,7 @@ class MissingFiles(Case):
             ("audit.py", (*plan, "--setup", SETUP), 2, "none.csv"),
             ("recount.py", ("none.db",), 2, "none.db is not there"),
             ("recount.py", ("--setup", "none.toml", "--returns", "."), 2, "none.toml"),
-            ("recount.py", ("--setup", SETUP, "--returns", "none"), 2, "none/montehondo.csv"),
+            ("recount.py", ("--setup", SETUP, "--returns", "none"), 2, "none is no folder"),
             ("replay", ("--check", "--shown", "none.csv"), 2, "none.csv"),
             ("backup", ("none.db", "copies"), 1, "none.db"),
             ("status", ("--config", "none.toml"), 2, "none.toml"),

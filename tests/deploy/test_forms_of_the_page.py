@@ -605,6 +605,13 @@ class Forms(Case):
             page.run(INPUT, "correct", 0)
             self.assertEqual(page.run("return Object.keys(localStorage)[0].split(' ')[4]"),
                              "correct")
+            # It is one of this revision alone: a later query is of other figures.
+            page.run(f"office.fill('correct', ['p1', '20']); {INPUT}", "correct", 0)
+            for rev, brought in ((2, typed), (5, [""] * 6)):
+                page.open(answers={OF_S1: [[200, recorded("queried", rev=rev)]]})
+                page.station("s1")
+                self.assertEqual(page.run("return office.typed('correct')"), brought)
+                self.assertEqual(len(page.run(TEXTS, "#return .look")), int(brought == typed))
             page.run("localStorage.clear()")
             page.open("second", "sara")
             page.station("s1")

@@ -6,6 +6,8 @@ import contextlib
 import fcntl
 import io
 import os
+import re
+import sqlite3
 import sys
 from datetime import datetime, timedelta
 from pathlib import Path
@@ -13,8 +15,9 @@ from types import SimpleNamespace
 from unittest import mock
 
 from tests.support.office import with_stations
+from tests.support.scripts import module
 from tests.support.site import DEPLOY
-from tests.support.sites import SETUP, OfSites
+from tests.support.sites import SETUP, OfSites, made_of, setup_in
 
 ONE, OTHER, THIRD = "a.example", "b.example", "c.example"
 
@@ -102,19 +105,87 @@ class Looked(OfSites):
         self.refused("an office was installed by hand here", check)
 
     def test_the_setup_that_is_to_be(self):
-        """Of a site that has one no other, where it has a database of it."""
+        """Of a site that has a database the one of which that was made, also where the file was
+        changed in its place; line ends after it are no change. Nothing is left beside it."""
         check = lambda file: self.site.check_setup(self.machine, ONE, file)
         self.assertEqual(check("setup.toml"), SETUP.encode())
         self.refused(f"{ONE} has no setup yet: name one", check, None)
         self.refused("none.toml: No such file", check, "none.toml")
         Path("other.toml").write_text("other", encoding="utf-8")
-        self.put(f"etc/office/{ONE}/setup.toml", SETUP)
+        kept = self.put(f"etc/office/{ONE}/setup.toml", SETUP)
         self.assertEqual((check(None), check("other.toml")), (SETUP.encode(), b"other"))
-        self.put(f"var/lib/office/{ONE}/office.db")
+        database = self.put(f"var/lib/office/{ONE}/office.db")
+        self.refused(f"{database}: no setup can be read in it", check, None)
+        database.unlink()
+        made_of("# of the board\r\n" + SETUP.replace("\n", "\r\n"), database)
         self.assertEqual((check(None), check("setup.toml")), (SETUP.encode(),) * 2)
-        self.refused(f"{ONE} has another setup, and a database of it", check, "other.toml")
-        (self.root / f"etc/office/{ONE}/setup.toml").unlink()
-        self.assertEqual(check("other.toml"), b"other")
+        self.refused(f"{database} was made of another setup than other.toml", check, "other.toml")
+        for text in (SETUP.replace("Twin", "Tiny"), SETUP + "[[", SETUP + "x_note = 1\n"):
+            self.assertNotEqual(text, SETUP)
+            kept.write_text(text, encoding="utf-8")
+            self.refused(f"{database} was made of another setup than {kept}", check, None)
+            self.refused(f"{database} was made of another setup than {kept}", check, kept)
+            self.assertEqual(self.site.check_setup(self.machine, ONE, None, True), text.encode())
+        kept.unlink()
+        self.assertEqual(check("setup.toml"), SETUP.encode())
+        self.refused("of another setup than other.toml", check, "other.toml")
+        self.assertEqual([*database.parent.iterdir()], [database])
+
+    def test_a_database_whose_pages_are_being_written(self):
+        """It is looked at again, before it is called one without a setup."""
+        made_of(SETUP, "office.db")
+        checks = module("site_checks")
+        fails = [sqlite3.DatabaseError("malformed")] * (checks.LOOKS - 1)
+        connected = mock.Mock(side_effect=[*fails, sqlite3.connect("office.db")])
+        with mock.patch.object(checks, "sqlite3", mock.Mock(
+                connect=connected, Error=sqlite3.Error)), \
+                mock.patch.object(checks, "time", mock.Mock()):
+            self.assertTrue(checks.is_setup_of("office.db", SETUP.encode()))
+        self.assertEqual(connected.call_count, checks.LOOKS)
+
+    def test_a_copy_of_a_folder_is_no_site(self):
+        for site, desk in ((ONE, 8080), (OTHER, 8081)):
+            self.ports(site, desk)
+        self.site.check_ports(self.machine, ONE)
+        self.ports(f"{ONE}.bak", 8080)
+        self.refused(f"{ONE} and {ONE}.bak have the same ports: one is a copy of the other's "
+                     "folder: move it out of /etc/office; or it is of another computer: remove "
+                     f"/etc/office/{ONE}/ports, and it gets free ones",
+                     self.site.check_ports, self.machine, ONE)
+        self.site.check_ports(self.machine, OTHER)
+        self.site.check_ports(self.machine, THIRD)
+
+    def test_a_site_whose_data_is_not_there(self):
+        """An upgrade and a run without a setup make no empty office: its file systems are perhaps
+        not there. With its setup it is made."""
+        for site in (ONE, OTHER):
+            self.assertEqual(self.did(site, "setup.toml")[0], 0)
+        database = self.root / f"var/lib/office/{ONE}/office.db"
+        database.unlink()
+        for words in (("--again",), (ONE,), (ONE, "--hour", "now")):
+            with self.subTest(words=words):
+                status, printed, said = self.did(*words)
+                self.assertEqual((status, database.exists()), (1, False))
+                self.assertIn(f"{database} is not there: mount its file system, or put it back. "
+                              f"For an empty office name the setup: office-site {ONE} ", said)
+        self.assertEqual(self.did(ONE, "setup.toml")[0], 0)
+        self.assertTrue(database.exists())
+
+    def test_a_log_without_its_database(self):
+        """An empty office is not made beside it: SQLite would take it for that of the new one."""
+        check = lambda again=False: self.site.check_data(self.machine, ONE, again)
+        check()
+        log = self.put(f"var/lib/office/{ONE}/office.db-wal", "a log")
+        self.refused(f"{log} is of a database that is not there: put that back. If it is lost, "
+                     "move this aside", check)
+        self.refused("a database that is not there", check, True)
+        # Of an interrupted --begin-again the log comes to its database.
+        trial = self.put(f"var/lib/office/{ONE}/trial-20261128T120000/office.db")
+        self.refused(f"put that back, or go on with an interrupted office-site --begin-again {ONE}",
+                     check)
+        check(True)
+        trial.rename(f"{self.root}/var/lib/office/{ONE}/office.db")
+        check()
 
     def test_names_of_the_staff(self):
         longest = "a" * 32
@@ -319,14 +390,140 @@ class Made(OfSites):
         self.assertEqual(self.did(ONE, "--name", "clerk:eva")[0], 0)
         self.assertEqual((shared / "staff.conf").read_text(), (own / "staff.conf").read_text())
         # A station of the other one is no name; an upgrade goes on with what is there.
-        setup = self.root / f"etc/office/{OTHER}/setup.toml"
-        setup.write_text(SETUP.replace('"s1"', '"Luz"'), encoding="utf-8")
+        text = SETUP.replace('"s1"', '"Luz"')
+        self.put(f"etc/office/{OTHER}/setup.toml", text)
+        (self.root / f"var/lib/office/{OTHER}/office.db").unlink()
+        made_of(text, self.root / f"var/lib/office/{OTHER}/office.db")
         self.assertIn("luz is called as a station", self.did(ONE, "--name", "clerk:luz")[2])
         with open(own / "staff.conf", "a", encoding="utf-8") as file:
             file.write("luz clerk;\n")
         self.assertEqual(self.did(ONE)[0], 1)
         self.assertEqual(self.did("--again")[0], 0)
         self.assertEqual(self.did(THIRD, "setup.toml", "--passwords-of", ONE)[0], 1)
+
+    def test_files_without_services(self):
+        """Nothing is started, nor asked of nginx."""
+        class Booted(self.site.Machine):
+            def __init__(self, root):
+                super().__init__(root)
+                self.has_services = True
+
+            def is_active(self, unit):
+                return False
+
+        self.site.Machine, ran = Booted, []
+        does = {"run": lambda *words: ran.append(words)}
+        with mock.patch.dict(Booted.systemctl.__globals__, does):
+            self.assertEqual(self.did(ONE, "setup.toml", "--start-nothing")[0], 0)
+            self.assertEqual((ran, [words for words in self.ran if words[0] == "nginx"]), ([], []))
+            self.assertTrue((self.root / f"etc/nginx/office/{ONE}/site.conf").exists())
+            self.site.await_page = lambda _: None
+            self.assertEqual(self.did(ONE)[0], 0)
+            self.assertIn(("systemctl", "daemon-reload"), ran)
+            self.assertIn(["nginx", "-t"], self.ran)
+
+    def test_the_hour_of_a_site_that_gets_another_port(self):
+        """The file of its hour stays, and is of its own port: not that of the site that has the
+        former port now."""
+        def hours():
+            found = {}
+            for site in (ONE, OTHER):
+                text = (self.root / f"etc/nginx/office/{site}/embargo.conf").read_text("utf-8")
+                [desk] = re.findall(r"\$before_the_hour_(\d+)", text)
+                ports = (self.root / f"etc/office/{site}/ports").read_text("utf-8")
+                self.assertIn(f"DESK={desk}\n", ports)
+                found[site] = desk, "2099" in text
+            return found
+
+        for site, hour in ((ONE, "2099-11-29T20:00:00+01:00"), (OTHER, "now")):
+            self.assertEqual(self.did(site, "setup.toml", "--hour", hour)[0], 0)
+        self.assertEqual(hours(), {ONE: ("8080", True), OTHER: ("8081", False)})
+        self.assertEqual(self.did("--remove", "--all")[0], 0)
+        for site, said in ((OTHER, "everything is public at once"), (ONE, "")):
+            self.assertIn(said, self.did(site)[2])
+        self.assertEqual(hours(), {ONE: ("8081", True), OTHER: ("8080", False)})
+        self.assertEqual(self.did("--remove", ONE)[0], 0)
+        self.assertEqual(self.did(ONE, "--port", "8090")[0], 0)
+        self.assertEqual(hours()[ONE], ("8090", True))
+        # So are the looks that nobody has changed, also where the ports alone are gone.
+        looks = self.root / f"etc/office/{ONE}/status.toml"
+        (self.root / f"etc/office/{ONE}/ports").unlink()
+        status, _, said = self.did(ONE, "--port", "8095")
+        self.assertEqual((status, "change it" in said), (0, False))
+        self.assertIn('desk = "127.0.0.1:8095"', looks.read_text(encoding="utf-8"))
+        self.assertEqual(self.did(ONE)[1], "nothing was changed\n")
+        self.assertEqual(self.did(ONE)[1], "nothing was changed\n")
+
+    def test_a_certificate_that_cannot_be_made(self):
+        """The proxy does not name the new site: with one that has none it would start for none."""
+        self.assertEqual(self.did(ONE, "setup.toml")[0], 0)
+        nginx = self.root / "etc/nginx/nginx.conf"
+        before = nginx.read_bytes()
+        self.fails = {"openssl": "no room"}
+        status, _, said = self.did(OTHER, "setup.toml")
+        self.assertEqual((status, said.splitlines()[-1]), (1, "office-site: openssl: no room"))
+        self.assertEqual(nginx.read_bytes(), before)
+        self.fails = {}
+        self.assertEqual(self.did(ONE)[0], 0)
+        self.assertEqual(nginx.read_bytes(), before)
+        self.assertEqual(self.did(OTHER)[0], 0)
+        self.assertIn(f"office/{OTHER}/site.conf", nginx.read_text(encoding="utf-8"))
+
+    def test_a_unit_of_a_boards_own(self):
+        """Each run names it: an upgrade does not renew it."""
+        self.assertEqual(self.did(ONE, "setup.toml")[0], 0)
+        unit = self.put(f"etc/systemd/system/office-recorder@{ONE}.service")
+        said = f"/{unit.relative_to(self.root)} is used in the place of the package's"
+        self.assertIn(said, self.did("--again")[2])
+        unit.unlink()
+        self.assertNotIn(said, self.did("--again")[2])
+
+    def test_the_language_of_a_site_that_is_taken_away(self):
+        """It is said: the next set-up does not know it."""
+        for language, said in (("es", "is not left: --language es"), (None, "")):
+            self.assertEqual(self.did(ONE, "setup.toml", *(("--language", language) if language
+                                                           else ()))[0], 0)
+            printed = self.did("--remove", ONE)[1]
+            self.assertEqual("--language" in printed, bool(said))
+            self.assertIn(said, printed)
+
+    def test_names_that_another_site_has(self):
+        """The folder that is left says whose they are too."""
+        self.assertEqual(self.did(ONE, "setup.toml")[0], 0)
+        self.assertEqual(self.did(OTHER, "setup.toml", "--passwords-of", ONE)[0], 0)
+        said = f"{OTHER} has the names and passwords in /etc/nginx/office/{ONE}: leave them"
+        self.assertIn(said, self.did("--remove", ONE)[1].splitlines())
+        self.assertEqual(self.did(ONE)[0], 0)
+        self.assertNotIn("leave them", self.did("--remove", OTHER)[1])
+
+    def test_files_in_another_encoding(self):
+        """A letter that an administrator wrote keeps no other site from an upgrade, and no site
+        from being taken away; it is named."""
+        for site in (ONE, OTHER):
+            self.assertEqual(self.did(site, "setup.toml")[0], 0)
+        names = self.root / f"etc/nginx/office/{ONE}/staff.conf"
+        with open(names, "ab") as file:
+            file.write("# la señora Muñoz\n".encode("latin-1"))
+        with open(self.root / f"etc/office/{ONE}/status.toml", "ab") as file:
+            file.write("# mañana\n".encode("latin-1"))
+        hours = self.root / f"etc/nginx/office/{OTHER}/embargo.conf"
+        kept = hours.read_bytes()
+        hours.write_bytes(kept + "# mañana\n".encode("latin-1"))
+        status, printed, said = self.did("--begin-again", OTHER)
+        self.assertEqual((status, printed, said), (1, "", f"office-site: {hours}: not UTF-8\n"))
+        hours.write_bytes(kept)
+        conf = self.root / f"etc/nginx/office/{OTHER}/site.conf"
+        conf.write_text("old", encoding="utf-8")
+        status, _, said = self.did("--again")
+        self.assertEqual((status, said.splitlines()[-1]),
+                         (1, f"office-site: {ONE}: {names}: not UTF-8"))
+        self.assertNotEqual(conf.read_text(encoding="utf-8"), "old")
+        status, printed, _ = self.did("--remove", ONE)
+        self.assertEqual((status, self.site.sites_of(self.machine)), (0, [OTHER]))
+        self.assertIn(f"left /etc/office/{ONE}\n", printed)
+        ports = self.put(f"etc/office/{OTHER}/ports", "DESK=8080\n")
+        self.assertEqual(self.did("--list")[::2], (
+            1, f"office-site: {ports} lacks a line DESK=PORT or READ=PORT\n"))
 
     def test_looks_at_a_site(self):
         """They name its ports; those that somebody has changed stay, and it is said where they name
@@ -423,10 +620,11 @@ class Ended(OfSites):
         self.assertEqual(self.did(ONE, "setup.toml")[0], 0)
         pages, data = self.root / f"var/www/office/{ONE}", self.root / f"var/lib/office/{ONE}"
         Path("other.toml").write_text(with_stations(3), encoding="utf-8")
+        aside = set()
         for number, words in enumerate(((), ("other.toml",))):
             with self.subTest(words=words):
-                self.put(f"var/www/office/{ONE}/index.html")
-                self.put(f"var/www/office/{ONE}/es/index.html")
+                for name in (".provisional", "index.html", "es/index.html"):
+                    self.put(f"var/www/office/{ONE}/{name}")
                 (pages / "link").symlink_to(data)
                 self.put(f"var/log/office/{ONE}/commands.log", "a record")
                 self.put(f"var/lib/office/{ONE}/backup/office-1.db")
@@ -441,18 +639,21 @@ class Ended(OfSites):
                 status, printed, said = self.did("--begin-again", ONE, *words)
                 self.assertEqual((status, self.ran[0][0]), (0, "office"), said)
                 moment = f"trial-20261128T12000{number}"
+                aside.add(f".{moment}")
                 self.assertEqual({file.name for file in (data / moment).iterdir()},
                                  {"office.db", "backup"})
                 self.assertEqual((data / moment).stat().st_mode & 0o777, 0o750)
-                self.assertEqual((data / "office.db").read_bytes(), b"a database")
                 record = self.root / f"var/log/office/{ONE}"
                 self.assertEqual((record / moment / "commands.log").read_text(), "a record")
                 self.assertFalse((record / "commands.log").exists() or seen.exists())
-                self.assertEqual([*pages.iterdir()], [])
+                wanted = {"index.html", "es", "link"}
+                self.assertEqual({file.name for file in (pages / f".{moment}").iterdir()}, wanted)
+                self.assertFalse({file.name for file in pages.iterdir()} - aside)
                 setup = self.root / f"etc/office/{ONE}"
                 self.assertEqual((setup / moment / "setup.toml").exists(), bool(words))
                 wanted = with_stations(3) if words else SETUP
                 self.assertEqual((setup / "setup.toml").read_text(encoding="utf-8"), wanted)
+                self.assertEqual(setup_in(data / "office.db"), wanted)
         # One that is wrong puts nothing aside.
         self.fails = {"office": "refused"}
         status, printed, said = self.did("--begin-again", ONE)

@@ -11,12 +11,16 @@ import json
 import os
 import pwd
 import socket
+import ssl
+import subprocess
+import threading
+import time
 from datetime import UTC, datetime
 from pathlib import Path
 from types import SimpleNamespace
 from unittest import mock
 
-from tests.support.case import Case
+from tests.support.case import Case, needs
 from tests.support.record import a_command, chained
 from tests.support.scripts import loaded
 
@@ -269,6 +273,48 @@ class AgesAndRoom(OfStatus):
                 self.assertEqual(found.numbers, {"certificate_days": before / 86_400})
                 self.assertEqual(run.call_args.args[0][-1], "a.pem")
 
+    @needs("openssl")
+    def test_a_certificate_that_the_proxy_shows(self):
+        """The first one of the file, under the name of the site; of another one it is said what to
+        do, and a proxy that does not answer is not well."""
+        for name in ("one", "other"):
+            subprocess.run(["openssl", "req", "-x509", "-newkey", "ec", "-pkeyopt",
+                            "ec_paramgen_curve:prime256v1", "-nodes", "-days", "30", "-subj",
+                            "/CN=a.example", "-keyout", f"{name}.key", "-out", f"{name}.pem"],
+                           check=True, capture_output=True)
+        # (openssl writes a name of the owner above it, in another encoding)
+        chain = "friendlyName: Peña\n" + "".join(
+            Path(f"{name}.pem").read_text(encoding="ascii") for name in ("one", "other"))
+        Path("chain.pem").write_text(chain, encoding="latin-1")
+        context = ssl.SSLContext(ssl.PROTOCOL_TLS_SERVER)
+        context.load_cert_chain("one.pem", "one.key")
+        asked = []
+        context.sni_callback = lambda _, name, __: asked.append(name)
+
+        def show(listener):
+            with contextlib.suppress(OSError):
+                while True:
+                    with context.wrap_socket(listener.accept()[0], server_side=True):
+                        pass
+
+        with socket.create_server(("127.0.0.1", 0)) as listener:
+            threading.Thread(target=show, args=[listener], daemon=True).start()
+            self.looks.PROXY, self.looks.time = listener.getsockname(), time
+            Path("key.pem").write_bytes(Path("one.key").read_bytes() + Path("one.pem").read_bytes())
+            for file, is_shown in (("one.pem", True), ("chain.pem", True), ("key.pem", True),
+                                   ("other.pem", False)):
+                with self.subTest(file=file):
+                    found = self.looks.look_at_certificate(file, 14, "a.example")
+                    self.assertEqual((found.is_well, found.says.partition("; ")[2]), (
+                        is_shown, "" if is_shown else
+                        "the proxy shows another one: nginx -t && systemctl reload nginx"))
+            self.assertTrue(self.looks.look_at_certificate("other.pem", 14).is_well)
+            self.assertEqual(asked, ["a.example"] * 4)
+            listener.shutdown(socket.SHUT_RDWR)
+        found = self.looks.look_at_certificate("one.pem", 14, "a.example")
+        self.assertFalse(found.is_well)
+        self.assertIn("; the proxy does not show it to a.example: ", found.says)
+
     def test_how_long_a_file_may_be(self):
         with open("manifest.json", "wb") as file:
             file.truncate(67_108_864)
@@ -299,6 +345,8 @@ class LastActs(OfStatus):
                 (a_command(FILE), IMPORT, ("/con/c1 import 9", 3, s123)),
                 (semicolon, IMPORT, ("/con/c1 import 9", 3, s123)),
                 (a_command(FILE), IMPORT | {"bad": 1}, ("/con/c1 import 9", 2, s123)),
+                (a_command(FILE + ",,,,,\n" * 5), IMPORT | {"bad": 6},
+                 ("/con/c1 import 9", 2, s123)),
                 (a_command(FILE), IMPORT | {"refused": 2}, ("/con/c1 import 9", 1, s123)),
                 (a_command(FILE), IMPORT | {"bad": 1, "refused": 2},
                  ("/con/c1 import 9", None, s123)),
@@ -316,10 +364,10 @@ class LastActs(OfStatus):
                 (FILE.replace("\ns2", '\n"s2"'), "/con/c1/import")):
             with self.subTest(body=body):
                 command = a_command(body, path)
-                self.assertEqual(self.looks.stations_in(command), ["s1", "s2", "s3"])
+                self.assertEqual(self.looks.led_to(command, IMPORT, 9)[2], ["s1", "s2", "s3"])
                 del command["body"]
                 command["body_base64"] = base64.b64encode(body.encode()).decode()
-                self.assertEqual(self.looks.stations_in(command), ["s1", "s2", "s3"])
+                self.assertEqual(self.looks.led_to(command, IMPORT, 9)[2], ["s1", "s2", "s3"])
         many = a_command("station\n" + "".join(f"s{number}\n" for number in range(2001)))
         target, least, stations = self.looks.led_to(many, IMPORT, 9)
         self.assertEqual((least, len(stations), stations[-1]), (2000, 2000, "s1999"))

@@ -394,6 +394,14 @@ class Functions(Case):
             self.assertEqual(it.run("return [1, 2, 1000000].map((many) => "
                                     "plural(many, { one: 'acta', other: 'actas' }))"),
                              ["acta", "actas", "actas"])
+            # What is missing is a choice, or a text.
+            self.assertEqual(it.run("""
+              return [['vacate', 'holder'], ['import', 'file'], ['vacate', 'note']].map(
+                ([form, name]) => {
+                  const field = element(form).elements[name];
+                  field.reportValidity();
+                  return field.validationMessage; })"""),
+                             [*["Aquí no se ha elegido nada."] * 2, "Este campo está vacío."])
 
     @needs("chromium")
     def test_what_is_asked_for_and_shown(self):
@@ -452,7 +460,7 @@ class Functions(Case):
                                      else (None, ""))
             # Where one of the two is not answered there is no view, and the page says so.
             self.assertTrue(it.run(HIDDEN, "second", "progress")["trouble"].startswith(
-                " The office does not answer now."))
+                " What the office has now is not known: it did not answer."))
 
     @needs("chromium")
     def test_drafts_that_are_forgotten(self):
@@ -511,7 +519,8 @@ class Functions(Case):
                     self.assertEqual(it.run(
                         "const [isHidden, again, typed] = arguments, form = element('lodge'); "
                         "form.reset(); form.elements.slip.value = 'p7'; form.hidden = false; "
-                        "shown.again = false; keepDraft({ currentTarget: form }); form.reset(); "
+                        "shown.again = false; shown.found = {}; "
+                        "keepDraft({ currentTarget: form }); form.reset(); "
                         "form.elements.slip.value = typed; form.hidden = isHidden; "
                         "shown.again = again; bringDraft(); return form.elements.slip.value",
                         is_hidden, again, typed), wanted)

@@ -169,12 +169,11 @@ class Figures(Case):
         """Shares with a former result where all stations are closed, of the valid votes alone."""
         it = site.Site()
         it.former = {"c1": {"valid": 100, "votes": {"A": 60, "B": 40}, "seats": {"A": 2, "B": 1}}}
-        for closed, entry, is_compared in (
-                (3, {"base": "valid"}, True), (3, {"base": "lists"}, False),
-                (2, {"base": "valid"}, False), (3, None, False)):
-            with self.subTest(closed=closed, entry=entry):
-                con = {"tally": {"closed": closed, "stations": 3}}
-                seats, shares = con_pages.former_con(it, "c1", con, entry)
+        for closed, base, is_compared in ((3, "valid", True), (3, "lists", False),
+                                          (2, "valid", False)):
+            with self.subTest(closed=closed, base=base):
+                con = {"tally": {"closed": closed, "stations": 3}, "rule": {"base": base}}
+                seats, shares = con_pages.former_con(it, "c1", con)
                 self.assertEqual((seats, shares is not None), (None, is_compared))
 
     def test_a_change_of_a_number(self):

@@ -301,7 +301,8 @@ class Answered(OfARecorder):
         self.ways.append(name)
         return act()
 
-    def given(self, method, path, body=b"{}", name="clara", role="clerk", allowed="1", two=False):
+    def given(self, method, path, body=b"{}", name="clara", role="clerk", allowed="1", two=False,
+              once=None):
         """The answer to a request, what the office was sent, and what was recorded."""
         self.sent.clear()
         self.ways.clear()
@@ -309,7 +310,7 @@ class Answered(OfARecorder):
         desk = SimpleNamespace(ask=self.ask, files=self, lock=threading.Lock())
         one = self.recorder.Recorder(self.record, desk, 2, self.recorder.Limit(), two)
         fields = {"office-name": name, "office-role": role, "office-address": "192.0.2.1",
-                  "office-allowed": allowed}
+                  "office-allowed": allowed} | ({} if once is None else {"office-once": once})
         found = one.answered(method, path, fields, body)
         lines = [{key: value for key, value in line.items()
                   if key not in ("time", "salt", "before")} for line in self.lines()[before:]]
@@ -353,6 +354,43 @@ class Answered(OfARecorder):
         self.assertEqual((found.status, lines[-2]["body_base64"]), (200, "/g=="))
         self.assertEqual(lines[-1], {"n": 3, "to": 2, "status": 200, "again": True,
                                      "answer_base64": "/w=="})
+
+    def test_a_command_that_a_browser_sends_again(self):
+        """It is recorded and done once, and has the answer of the first, unless nobody knows by
+        that whether it was done. Another name, path, body or text of the page makes another
+        command."""
+        def times(answer, path="/station/s1/lodge", **words):
+            """How often it was done, and how many lines it left, and then a second time."""
+            self.said = answer
+            first, *done = self.given("POST", path, **words)
+            self.said = self.recorder.Answer(200, b"other")
+            again, *more = self.given("POST", path, **words)
+            return first == again, *map(len, [*done, *more])
+
+        accepted, refused = self.said, self.recorder.Answer(409, b'{"word":"stale"}')
+        self.record.add({"path": "/station/s1/lodge"})
+        for answer, words in ((accepted, {}), (accepted, {"once": ""})):
+            self.assertEqual(times(answer, **words), (False, 1, 2, 1, 2))
+        for answer, words in (
+                (accepted, {"once": "1"}), (accepted, {"once": "2"}),
+                (accepted, {"once": "1", "name": "bruno"}), (accepted, {"once": "1", "body": b""}),
+                (accepted, {"once": "1", "path": "/station/s1/close"}),
+                (refused, {"once": "3"})):
+            with self.subTest(words=words, answer=answer):
+                self.assertEqual(times(answer, **words), (True, 1, 2, 0, 0))
+        for status in (None, 502, 503, 504):
+            with self.subTest(status=status):
+                self.assertEqual(times(self.recorder.Answer(status), once="4"), (False, 1, 2, 1, 2))
+                self.record.once.kept.clear()
+        self.assertEqual(times(accepted, once="5", allowed="0"), (True, 0, 1, 0, 0))
+        self.assertEqual(times(accepted, "/con/c1/import", once="6"), (True, 1, 2, 0, 0))
+        # A trial, which is not recorded, is done again.
+        self.assertEqual(times(accepted, "/con/c1/trial", once="6"), (False, 1, 0, 1, 0))
+        # Of the board: the first name does not wait twice, and the second is not a first one then.
+        draw = {"path": "/con/c1/draw", "role": "board", "two": True, "once": "7"}
+        self.assertEqual(times(accepted, name="berta", **draw), (True, 0, 1, 0, 0))
+        self.assertEqual(times(accepted, name="simon", **draw), (True, 1, 2, 0, 0))
+        self.assertEqual(self.record.waiting.requests, {})
 
     def test_other_methods(self):
         for method, path in (("PUT", "/station/s1/lodge"), ("GET", "/station/s1/lodge"),
@@ -498,6 +536,19 @@ class OverASocket(OfARecorder):
         self.exchanged(b"GET /b HTTP/1.0\r\nOffice-Name: bruno\r\n\r\n", answered)
         self.assertEqual(asked, 3 * [("POST", "/a", "clara", b"xyz")]
                          + [("GET", "/b", "bruno", b"")])
+
+    def test_nothing_is_written_after_an_answer_without_a_body(self):
+        """The proxy has all of it, and closes: it was answered, and nothing is said of it."""
+        for body, parts in ((b"", 1), (b"{}", 2)):
+            ours, theirs = socket.socketpair()
+            with ours, theirs:
+                ours.sendall(b"GET /b HTTP/1.0\r\n\r\n")
+                written = []
+                one = SimpleNamespace(makefile=theirs.makefile, settimeout=theirs.settimeout,
+                                      sendall=written.append)
+                self.recorder.Handler(one, ("", 0), SimpleNamespace(
+                    answered=lambda *_: self.recorder.Answer(403, body)))
+                self.assertEqual(len(written), parts)
 
     def test_a_message_that_was_cut(self):
         with self.assertRaisesRegex(OSError, "a message that was cut"):

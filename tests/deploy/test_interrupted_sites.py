@@ -10,7 +10,7 @@ from pathlib import Path
 from unittest import mock
 
 from tests.support.record import LODGED, a_command, chained
-from tests.support.sites import OfSites
+from tests.support.sites import SETUP, OfSites, made_of, setup_in
 
 ONE, OTHER = "a.example", "b.example"
 DATA, RECORD = f"var/lib/office/{ONE}", f"var/log/office/{ONE}/commands.log"
@@ -25,7 +25,10 @@ class Interrupted(OfSites):
         super().setUp()
         self.assertEqual(self.did(ONE, "setup.toml", "--port", "8101")[0], 0)
         self.assertEqual(self.did(OTHER, "setup.toml", "--port", "8102")[0], 0)
-        self.put(f"{DATA}/office.db", "of the trial")
+        # (the line end more marks it)
+        (self.root / DATA / "office.db").unlink()
+        made_of(SETUP + "\n", self.root / DATA / "office.db")
+        self.put(f"var/www/office/{ONE}/index.html", "a page")
         self.put(f"{DATA}/office.db-wal", "beside it")
         self.has_commands()
         moments = (datetime(2026, 11, 28) + timedelta(seconds=more) for more in range(9_999))
@@ -99,12 +102,14 @@ class Interrupted(OfSites):
         for number in self.before_each_change("--begin-again", ONE):
             with self.subTest(before_change=number):
                 self.assertEqual(self.did("--begin-again", ONE)[0], 0)
-                of = {file.read_text(encoding="utf-8"): file.parent.name
-                      for file in (self.root / DATA).rglob("office.db*")}
+                [trial] = [file for file in (self.root / DATA).glob("trial-*/office.db")
+                           if setup_in(file) != SETUP]
+                [log] = (self.root / DATA).rglob("office.db-wal")
                 [record] = (self.root / RECORD).parent.rglob("commands.log")
-                self.assertRegex(of["of the trial"], "^trial-")
-                self.assertEqual((of["beside it"], record.parent.name), (of["of the trial"],) * 2)
-                self.assertEqual((self.root / DATA / "office.db").read_text(), "a database")
+                [page] = (self.root / f"var/www/office/{ONE}").rglob("index.html")
+                self.assertEqual((log.parent, record.parent.name, page.parent.name),
+                                 (trial.parent, trial.parent.name, f".{trial.parent.name}"))
+                self.assertEqual(setup_in(self.root / DATA / "office.db"), SETUP)
         self.assertGreater(number, 5)
 
     def test_after_a_whole_trial(self):
@@ -119,7 +124,7 @@ class Interrupted(OfSites):
                 status, printed, said = self.did(*words)
                 self.assertEqual((status, printed), (1, ""))
                 self.assertIn("office.db is not there: mount its file system, put it back. If it "
-                              "is lost, move the record aside", said)
+                              "is lost, leave the record there", said)
                 self.assertEqual(self.files(), before)
 
     def test_an_upgrade_with_a_fault_of_one_site(self):

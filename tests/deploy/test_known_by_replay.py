@@ -1,6 +1,7 @@
 """The record as it is by now, as `replay` knows it, by hand. Nothing is started."""
 
 import json
+from unittest import mock
 
 from tests.support.case import Case
 from tests.support.record import LODGED
@@ -230,6 +231,25 @@ class Files(Case):
                 self.assertEqual(it.at(OTHER), {(4, "closed", P)} if says else at_s1)
                 self.assertEqual(it.lines, dict.fromkeys(
                     [STATION, (1, "station", "s3")] if says else [STATION, OTHER], 5))
+
+    def test_a_file_without_an_answer_is_read_once(self):
+        """Not before each later command on its stations, nor where the answers to them do not
+        follow; once more where its own answer is there. Each station may have its row or not."""
+        file = command("/con/c1/import", a_file("s1,p1,0,0,1,2", "s2,p1,0,0,1,2"), 1)
+        either = {ABSENT, (1, RECEIVED, P)}
+        for is_setup in (True, False):
+            with self.subTest(is_setup=is_setup), mock.patch.object(
+                    tool, "rows_in", wraps=tool.rows_in) as read:
+                it = tool.Known(CONS, is_setup)
+                for number in range(2, 50):
+                    close = command("/station/s1/close", {"rev": number}, number)
+                    it.take_before(close, [file])
+                    it.catch_up(close, "{}", [file])
+                it.take(file, None)
+                self.assertEqual((read.call_count, it.at(STATION), it.at(OTHER)),
+                                 (1, either, either))
+                it.take(file, json.dumps(answered(2, 0, 0)))
+                self.assertEqual((read.call_count, it.at(STATION)), (2, {(1, RECEIVED, P)}))
 
     def test_how_many_votes_a_row_may_have(self):
         """As many as a station has electors and agents. An office shows no agents: without the
@@ -465,7 +485,7 @@ class Returns(Case):
                 ({"word": "differs", "rev": 1}, LODGED, {(1, RECEIVED, Q)}),
                 ({"word": "differs", "rev": 1}, SECOND, {(1, RECEIVED, P), (None, "closed", P)}),
                 ({"word": "differs", "rev": 2}, SECOND, {(2, "queried", P), (None, "closed", P)}),
-                ({"word": "differs", "rev": 2}, LODGED, states),
+                ({"word": "differs", "rev": 2}, LODGED, {(2, None, UNKNOWN)}),
                 ({"word": "differs", "rev": 1}, {}, {
                     (1, RECEIVED, P), (1, RECEIVED, Q), (None, "closed", P)}),
                 ({"word": "stale", "now": 9}, LODGED, {(None, "closed", P)}),
@@ -484,6 +504,35 @@ class Returns(Case):
             it = known_of(states={STATION: {at, ABSENT}})
             it.refuse(command("/station/s1/lodge", LODGED), '{"word":"differs","rev":1}')
             self.assertEqual(it.at(STATION), {at})
+
+    def test_a_refusal_that_names_what_nobody_knows(self):
+        """Something was done that the record lacks: its revision or edition is known, and no more.
+        An answer that says no number, or of a place that the record lacks, says nothing."""
+        closed = {(2, "closed", P)}
+        for now, wanted in ((5, (5, None, UNKNOWN)), (1, (1, None, UNKNOWN)), (2, None),
+                            (None, None), ("5", None), (True, None)):
+            with self.subTest(now=now):
+                it = known_of(states={STATION: closed})
+                it.refuse(command("/station/s1/query", {"rev": 3}, 7),
+                          json.dumps({"word": "stale", "now": now}))
+                self.assertEqual((it.states, it.lines), (
+                    {STATION: {wanted} if wanted else closed}, {STATION: 7} if wanted else {}))
+        it = known_of(states={CON: {(2, True, (), NOBODY)}})
+        it.refuse(command("/con/c1/reopen", {"edition": 2}), '{"word":"stale","now":4}')
+        self.assertEqual(it.at(CON), {(4, None, UNKNOWN, UNKNOWN)})
+
+    def test_a_refusal_that_shows_what_was_done(self):
+        """A query without an answer came before the close that it names, whose answer is not known
+        either: both were done."""
+        unsure = [command("/station/s1/query", {"rev": 2}, 4), command("/con/c1/draw", {}, 5),
+                  command("/station/s2/query", {"rev": 1}, 6)]
+        it = known_of(states={STATION: {(1, RECEIVED, P), (2, "closed", P)},
+                              OTHER: {(1, RECEIVED, P)}})
+        it.refuse(command("/station/s1/close", {"rev": 1}), '{"word":"stale","now":3}', unsure)
+        self.assertEqual((it.at(STATION), it.at(OTHER)), ({(3, "queried", P)},
+                                                          {(1, RECEIVED, P)}))
+        it.refuse(command("/station/s2/close", {"rev": 3}), '{"word":"stale","now":1}', unsure)
+        self.assertEqual(it.at(OTHER), {(1, RECEIVED, P)})
 
     def test_commands_that_an_answer_shows_to_have_been_done(self):
         """Where it does not follow from what is known, those without an answer may have been done

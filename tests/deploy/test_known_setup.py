@@ -58,8 +58,8 @@ HAS_S1 = {"/progress": "c1 2 2\n", "/station/s1/lodge": "{}",
 class Proxy(Safeguards):
     @needs("nginx", "openssl")
     def test_a_page_that_has_another_setup(self):
-        """Its commands are answered 409, and neither recorded nor done; a program that says nothing
-        of it is served."""
+        """Its commands are answered 409, and neither recorded nor done, and so is what it asks; a
+        program that names no setup is served."""
         Path("setup.toml").write_text(with_stations(2), encoding="utf-8")
         with recording_desk() as (port, messages), site(port) as front:
             known = hash_of_file(front.folder / "share/setup.json")
@@ -80,6 +80,13 @@ class Proxy(Safeguards):
             )
             record = front.record(3)
             self.assertEqual(len(record), 3)
+            # Nor is it shown votes or slips, which it would have under the wrong lists.
+            for target in ("/con/c1", "/con/c1/result", "/con/c1/stations", "/con/c1/returns",
+                           "/con/c1/typed", "/station/s1", "/station/s1/history", "/progress"):
+                with self.subTest(target=target):
+                    self.assertEqual([front.ask("GET", f"/now{target}", None, "clara",
+                                                {"Office-Setup": said}).status
+                                      for said in (known, "", "0" * 64)], [200, 200, 409])
             with open(front.folder / "log/commands.log", encoding="utf-8") as lines:
                 first = json.loads(next(lines))
             self.assertEqual(

@@ -234,7 +234,7 @@ class InAFolder(Case):
               for name in ("default", "include", "logout")),
             (["--begin-again", ONE], 1, f"there is no site {ONE}"),
             *(([name, "setup.toml"], 1, f"/etc/office/{name} is the place of another file")
-              for name in ("ports.nft", "setup.toml", "status.toml", "backup.env")),
+              for name in ("ports.nft", "setup.toml", "status.toml", "backup.env", "recorder.env")),
             (["notes.txt", "setup.toml"], 1, "/var/log/office/notes.txt is the place of another "
              "file: choose another name for the site"),
         )
@@ -297,7 +297,7 @@ class InAFolder(Case):
         Path("other.toml").write_text(with_stations(3), encoding="utf-8")
         before = tree(root)
         status, _, said = office_site(root, ONE, "other.toml")
-        self.assertEqual((status, f"{ONE} has another setup" in said), (1, True), said)
+        self.assertEqual((status, "of another setup than other.toml" in said), (1, True), said)
         status, _, said = office_site(root, "--begin-again", ONE, "wrong.toml")
         self.assertEqual((status, tree(root)), (1, before), said)
         page = root / f"var/www/office/{ONE}/index.html"
@@ -378,7 +378,7 @@ class InAMachine(Case):
         for unit in SERVICES:
             text = it.at(f"/lib/systemd/system/{unit}@.service").read_text()
             text = text.replace("%i", site)
-            line = re.search("^ExecStart=(.*)$", text, re.M)[1]
+            line = re.search("^ExecStart=(.*)$", text, re.M)[1].replace("$RECORDER ", "")
             user = re.search("^User=(.*)$", text, re.M)[1]
             for name in re.findall("^RuntimeDirectory=(.*)$", text, re.M):
                 it.ran("install", "-d", "-o", user, "-g", user, f"/run/{name}")

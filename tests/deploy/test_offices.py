@@ -122,7 +122,7 @@ class PagesOfOffices(SiteCase):
                         what and "failed: /results: not as the setup has it, the constituency c1 "
                         f"({what}); left as they are: 0 pages\n" or "")
                     if what:
-                        self.assertEqual(os.listdir("pages"), [".provisional"])
+                        self.assertEqual(set(os.listdir("pages")), {".provisional", ".reserve"})
                     shutil.rmtree("pages")
 
     def test_a_setup_with_other_stations_or_electors(self):

@@ -6,9 +6,14 @@ import contextlib
 import errno
 import hashlib
 import json
+import os
 import re
+import signal
+import sqlite3
 import sys
 import threading
+import time
+from datetime import UTC, datetime, timedelta
 from pathlib import Path
 from unittest import mock
 
@@ -26,21 +31,33 @@ TOWNS = {code: constituency(code, f"Town {code}", 3, "d0") + LISTS + station(f"{
          for code in ("c1", "c2")}
 OF_ALL = ["elected.csv", "index.csv", "index.json", "results.csv"]
 OF_TWO = ("c1", "c2")
+FULL = OSError(errno.ENOSPC, "No space left on device")
+
+
+def certify(office, code):
+    """Lodges and closes the return of a constituency, and certifies it."""
+    done(office, f"/station/{code}-s1/lodge",
+         {"slip": "p1", "votes": [20, 10], "blank": 0, "spoiled": 0})
+    done(office, f"/station/{code}-s1/close", {"rev": 1})
+    done(office, f"/con/{code}/certify", {"edition": 1})
 
 
 @contextlib.contextmanager
 def certified(code):
     """An office with one constituency that is certified, and its port."""
     with modelled(PROFILE + TOWNS[code]) as (office, port):
-        done(office, f"/station/{code}-s1/lodge",
-             {"slip": "p1", "votes": [20, 10], "blank": 0, "spoiled": 0})
-        done(office, f"/station/{code}-s1/close", {"rev": 1})
-        done(office, f"/con/{code}/certify", {"edition": 1})
+        certify(office, code)
         yield office, port
 
 
 def of_all():
     return sorted(name for name in OF_ALL if Path("pages", name).exists())
+
+
+def without_age(names):
+    """The pages of these names that do not say how old they are."""
+    return sorted(file.name for file in Path("pages").glob(f"{names}.html")
+                  if 'class="old"' not in file.read_text(encoding="utf-8"))
 
 
 def vouched_for():
@@ -104,6 +121,52 @@ class PagesOfOneAway(SiteCase):
             self.a_round(first, free_port(), status=1)
             self.assertEqual(of_all(), [])
 
+    def test_a_database_that_was_published(self):
+        """It stays while its certificates are in force, also over restarts, whatever becomes of
+        other files, and is removed once one is withdrawn, also where it comes after that: whoever
+        counts it again would find it right. So is each of several, and one that is no database
+        stays."""
+        def published(edition):
+            for name in ("office.db", "office-2.db"):
+                Path("pages", name).unlink(missing_ok=True)
+                with contextlib.closing(sqlite3.connect(Path("pages", name))) as it, it:
+                    it.execute("CREATE TABLE cons (con TEXT, edition INTEGER, certified INTEGER)")
+                    it.execute("INSERT INTO cons VALUES ('c1', ?, 1), ('c9', 1, 1)", [edition])
+                os.utime(Path("pages", name), (0, time.time() - press_files.LATELY))
+
+        def there():
+            found = {name for name in vouched_for() if name.startswith("office")}
+            self.assertEqual(found, {file.name for file in Path("pages").glob("office*")})
+            return found - {"office-x.db"}
+
+        both = {"office.db", "office-2.db"}
+        with certified("c1") as (office, port), self.rounds(port, ["c1"]) as a_round:
+            a_round()
+            Path("pages/office-x.db").write_bytes(b"no database")
+            published(2)
+            a_round()
+            a_round.seen = rounds.Seen()
+            Path("pages/index.json").unlink()
+            a_round()
+            self.assertEqual(there(), both)
+            done(office, "/con/c1/reopen", {"edition": 2, "note": "mistake"})
+            for _ in range(2):
+                a_round()
+                self.assertEqual(there(), set())
+                published(2)
+            # One that is put there while a round goes on may be of what that does not know yet.
+            published(2)
+            Path("pages/office.db").touch()
+            a_round()
+            self.assertEqual(there(), {"office.db"})
+            done(office, "/con/c1/certify", {"edition": 3})
+            os.utime("pages/office.db", (0, 0))
+            a_round()
+            self.assertEqual(there(), set())
+            published(4)
+            a_round()
+            self.assertEqual(there(), both)
+
     def test_a_file_that_was_changed_before(self):
         """The manifest does not vouch for it, whichever it is, as long as an office is away; and
         it does for what is as it was."""
@@ -139,21 +202,174 @@ class PagesOfOneAway(SiteCase):
             self.assertEqual(room.st_size, 4 * 1024 * 1024)
             self.assertGreaterEqual(room.st_blocks * 512, room.st_size)
             done(office, "/con/c1/reopen", {"edition": 2, "note": "mistake"})
-            full = OSError(errno.ENOSPC, "No space left on device")
-            with mock.patch.object(rounds, "write_con", side_effect=full), \
+            with mock.patch.object(rounds, "write_con", side_effect=FULL), \
                     self.assertRaises(OSError):
                 a_round()
             a_round.seen.forget()
             pages = [file.name for file in Path("pages").glob("*.html")]
             self.assertIn("con-c1.html", pages)
             self.assertEqual([name for name in pages if 'class="old"' not in read(name)], [])
-            self.assertEqual((reserve.exists(), Path("pages/manifest.json").exists(), of_all()),
-                             (False, False, []))
+            # (the room is kept again, before anybody else takes it)
+            self.assertEqual((reserve.stat().st_blocks, Path("pages/manifest.json").exists(),
+                              of_all()), (room.st_blocks, False, []))
             a_round()
             self.assertEqual((reserve.exists(), of_all()), (True, OF_ALL))
             self.assertEqual([file.name for file in Path("pages").glob("*.html")
                               if 'class="old"' in read(file.name)], [])
             self.assertEqual(set(vouched_for().values()), {True})
+
+    def test_a_disk_without_the_room_that_is_kept(self):
+        """Nothing is written before there is that room: pages go on saying how old they are."""
+        with certified("c1") as (office, port), self.rounds(port, ["c1"]) as a_round:
+            a_round()
+            done(office, "/con/c1/reopen", {"edition": 2, "note": "mistake"})
+            Path("pages/.reserve").unlink()
+            with mock.patch.object(press_files.os, "posix_fallocate", side_effect=FULL):
+                for _ in range(3):
+                    self.assertRaises(OSError, a_round)
+                    a_round.seen.forget()
+                    self.assertEqual((without_age("*"), of_all()), ([], []))
+                    self.assertIn('state-certified"', read("con-c1.html"))
+            a_round()
+            self.assertEqual(without_age("*"), sorted(
+                file.name for file in Path("pages").glob("*.html")))
+            self.assertNotIn('state-certified"', read("con-c1.html"))
+
+    def test_a_disk_without_any_room(self):
+        """A page that cannot say how old it is, and may have a certificate that is withdrawn, is
+        removed; whatever has none stays, and so does one that says how old it is already. All are
+        there again with the first round that has room."""
+        self.enterContext(contextlib.redirect_stderr(None))
+        with modelled(PROFILE + "".join(TOWNS.values())) as (office, port):
+            for code in OF_TWO:
+                certify(office, code)
+            with self.rounds(port, OF_TWO) as a_round:
+                a_round()
+                names = without_age("*")
+                rounds.put(Path("pages"), "list-A.html", rounds.aged(
+                    rounds.Site(), read("list-A.html"), datetime.now(UTC) + timedelta(hours=1)))
+                with mock.patch.object(press_files, "put_bytes", side_effect=FULL):
+                    # As long as nothing is withdrawn all that is there may be read.
+                    self.assertRaises(OSError, a_round)
+                    self.assertEqual(without_age("*"), [
+                        name for name in names if name != "list-A.html"])
+                    done(office, "/con/c1/reopen", {"edition": 2, "note": "mistake"})
+                    for _ in range(2):
+                        self.assertRaises(OSError, a_round)
+                        a_round.seen.forget()
+                        self.assertEqual([file.name for file in Path("pages").glob("*.html")
+                                          if "c2" not in file.name], ["list-A.html"])
+                    self.assertEqual(without_age("*"), [
+                        name for name in names if "c2" in name])
+                done(office, "/con/c1/certify", {"edition": 3})
+                a_round()
+                self.assertEqual(without_age("*"), names)
+
+    def test_a_disk_that_is_full_between_a_table_and_its_json(self):
+        """The table keeps no certificate that is withdrawn in a later round, which finds no room
+        either."""
+        for name in ("con_json", "index_json"):
+            with self.subTest(name=name), certified("c1") as (office, port), \
+                    self.rounds(port, ["c1"]) as a_round:
+                done(office, "/con/c1/reopen", {"edition": 2, "note": "mistake"})
+                a_round()
+                before = read("con-c1.csv")
+                done(office, "/con/c1/certify", {"edition": 3})
+                with mock.patch.object(rounds, name, side_effect=FULL):
+                    self.assertRaises(OSError, a_round)
+                a_round.seen.forget()
+                done(office, "/con/c1/reopen", {"edition": 4, "note": "mistake"})
+                with mock.patch.object(rounds, "write_con", side_effect=FULL):
+                    self.assertRaises(OSError, a_round)
+                table, index = Path("pages/con-c1.csv"), Path("pages/index.csv")
+                self.assertFalse(table.exists() and read("con-c1.csv") != before)
+                self.assertFalse(index.exists() and ",true" in read("index.csv"))
+
+    def test_a_first_certificate_of_a_disk_that_is_full_before_its_json(self):
+        """Its pages, or those of all, are removed once it is withdrawn. What programs read stays
+        meanwhile: it has none, and nothing is left of that once there is room."""
+        for name in ("con_json", "index_json"):
+            with self.subTest(name=name), certified("c1") as (office, port), \
+                    self.rounds(port, ["c1"]) as a_round:
+                done(office, "/con/c1/reopen", {"edition": 2, "note": "mistake"})
+                a_round()
+                done(office, "/con/c1/certify", {"edition": 3})
+                with contextlib.ExitStack() as later:
+                    def fill(*_, later=later):
+                        later.enter_context(
+                            mock.patch.object(press_files, "put_bytes", side_effect=FULL))
+                        raise FULL
+
+                    with mock.patch.object(rounds, name, fill):
+                        self.assertRaises(OSError, a_round)
+                    self.assertTrue(Path("pages/con-c1.json").exists())
+                    self.assertEqual(of_all(), OF_ALL)
+                    done(office, "/con/c1/reopen", {"edition": 4, "note": "mistake"})
+                    for _ in range(2):
+                        a_round.seen.forget()
+                        self.assertRaises(OSError, a_round)
+                        self.assertEqual([page for page in without_age("*")
+                                          if 'state-certified"' in read(page)], [])
+                a_round.seen.forget()
+                a_round()
+                self.assertEqual(sorted(file.name for file in Path("pages").glob(".*")),
+                                 [".provisional", ".reserve"])
+                self.assertNotIn('state-certified"', read("con-c1.html") + read("index.html"))
+
+    def test_what_is_written_before_a_round_on_a_full_disk(self):
+        """The office is asked all the same: nothing keeps a certificate that is withdrawn."""
+        with certified("c1") as (office, port), self.rounds(port, ["c1"]) as a_round:
+            a_round()
+            done(office, "/con/c1/reopen", {"edition": 2, "note": "mistake"})
+            Path("pages/find.json").unlink()
+            with mock.patch.object(rounds, "write_given", side_effect=FULL):
+                for _ in range(2):
+                    self.assertRaises(OSError, a_round)
+                    a_round.seen.forget()
+                    self.assertEqual((without_age("*"), of_all()), ([], []))
+
+    def test_a_start_on_a_full_disk(self):
+        """It leaves the room that is kept to the pages. What finds none is written by a round;
+        another fault ends the start."""
+        Path("site").mkdir()
+        Path("site/site.toml").write_text('languages = ["es"]\n', encoding="utf-8")
+        Path("site/stations.csv").write_text("station,name\nc1-s1,Hall\n", encoding="utf-8")
+        folder, site, given = Path("pages"), rounds.Site(Path("site")), Path("pages/site.json")
+        folder.mkdir()
+        press_files.keep_room(folder)
+        for of, name in ((press_files, "put_bytes"), (Path, "mkdir")):
+            with mock.patch.object(of, name, side_effect=FULL):
+                rounds.begin(folder, site)
+            self.assertEqual((given.exists(), Path("pages/.reserve").exists()), (False, True))
+        rounds.look_for_changes(folder, site, rounds.Seen())
+        self.assertTrue(given.exists() and Path("pages/es").is_dir())
+        with mock.patch.object(rounds, "write_given", side_effect=PermissionError(13, "denied")):
+            self.assertRaises(PermissionError, rounds.begin, folder, site)
+
+    def test_lines_that_find_no_room(self):
+        """As those in a file of the same disk: the program goes on."""
+        self.addCleanup(signal.signal, signal.SIGTERM, signal.getsignal(signal.SIGTERM))
+        with mock.patch.object(rounds, "write_all", return_value=(1, ["one"])), mock.patch(
+                "sys.argv", ["press.py", "http://127.0.0.1:9", "pages"]), mock.patch(
+                "sys.stderr", mock.Mock(write=mock.Mock(side_effect=FULL))):
+            self.assertEqual(rounds.main(), 1)
+
+    def test_a_page_that_was_changed_before_a_disk_was_full(self):
+        """The manifest does not vouch for it in the rounds after that, as long as its office is
+        away."""
+        with certified("c1") as (_, first):
+            with certified("c2") as (_, second), self.rounds(first, OF_TWO, second) as a_round:
+                a_round()
+                press_files.LEFT.clear()
+                a_round.seen.forget()
+                page = Path("pages/con-c2.html")
+                page.write_text(page.read_text(encoding="utf-8").replace("Ana", "Eve"))
+                with mock.patch.object(rounds, "write_con", side_effect=FULL):
+                    self.assertRaises(OSError, a_round)
+            a_round()
+            self.assertIn("Eve", page.read_text(encoding="utf-8"))
+            self.assertNotIn("con-c2.html", vouched_for())
+            self.assertIn("con-c1.html", vouched_for())
 
     def test_a_round_that_is_cut_off(self):
         """Files with a withdrawn certificate are gone before anything is written in their place:
@@ -185,10 +401,7 @@ class PagesOfOneAway(SiteCase):
         stay, and the manifest does not vouch for what was changed before."""
         with modelled(PROFILE + "".join(TOWNS.values())) as (office, port):
             for code in OF_TWO:
-                done(office, f"/station/{code}-s1/lodge",
-                     {"slip": "p1", "votes": [20, 10], "blank": 0, "spoiled": 0})
-                done(office, f"/station/{code}-s1/close", {"rev": 1})
-                done(office, f"/con/{code}/certify", {"edition": 1})
+                certify(office, code)
             with self.rounds(port, OF_TWO) as a_round:
                 a_round()
             press_files.LEFT.clear()
@@ -210,6 +423,28 @@ class PagesOfOneAway(SiteCase):
                 self.assertEqual(json.loads(read("con-c1.json"))["view"]["edition"], 4)
                 self.assertEqual(set(vouched_for().values()), {True})
 
+    def test_a_constituency_whose_json_somebody_removed(self):
+        """Nobody knows what its table says, so that it is removed where it cannot be written."""
+        with certified("c1") as (office, port), self.rounds(port, ["c1"]) as a_round:
+            a_round()
+            Path("pages/con-c1.json").unlink()
+            done(office, "/con/c1/reopen", {"edition": 2, "note": "mistake"})
+            with mock.patch.object(
+                    rounds, "write_returns", side_effect=rounds.NoAnswer("/con/c1/stations: 500")):
+                a_round()
+            self.assertFalse(Path("pages/con-c1.csv").exists())
+
+    def test_a_compressed_file_of_a_former_certificate(self):
+        """It is made again where somebody removes it: the next start makes the other one of it."""
+        with certified("c1") as (office, port), self.rounds(port, ["c1"]) as a_round:
+            a_round()
+            done(office, "/con/c1/reopen", {"edition": 2, "note": "mistake"})
+            a_round()
+            compressed = Path("pages/stations-c1-2.csv.gz")
+            compressed.unlink()
+            a_round()
+            self.assertTrue(compressed.exists())
+
     def test_a_template_without_a_place_for_the_age(self):
         """Its pages are known as those of this program all the same, also by the next one: that of
         the elected of a withdrawn certificate goes."""
@@ -226,12 +461,19 @@ class PagesOfOneAway(SiteCase):
             self.assertFalse(Path("pages/elected-1.html").exists())
 
     def test_room_that_is_not_there(self):
-        """No part of it is left on the disk."""
+        """No part of it is left on the disk, and no round begins. One that cannot be kept for
+        another reason ends none."""
         Path("pages").mkdir()
-        with mock.patch.object(press_files.os, "posix_fallocate",
-                               side_effect=OSError(errno.ENOSPC, "full")):
-            press_files.keep_room(Path("pages"))
-        self.assertEqual(list(Path("pages").iterdir()), [])
+        for error, is_full in ((errno.ENOSPC, True), (errno.EDQUOT, True), (errno.EPERM, False)):
+            with self.subTest(error=error), mock.patch.object(
+                    press_files.os, "posix_fallocate", side_effect=OSError(error, "full")):
+                if is_full:
+                    self.assertRaises(OSError, press_files.keep_room, Path("pages"))
+                else:
+                    press_files.keep_room(Path("pages"))
+                self.assertEqual(list(Path("pages").iterdir()), [])
+        Path("pages/.reserve").mkdir()
+        press_files.keep_room(Path("pages"))
 
 
 class ReadersOfOneAway(Case):

@@ -36,14 +36,17 @@ def draw(*codes):
 
 
 def record_of(con, *acts):
-    """A record in which these were done, each a minute after the one before."""
+    """A record in which these were done, each a minute after the one before; some say what was
+    answered, and one that says None has no answer there."""
     found = data.Record({"constituency": [con.setup]})
-    for n, (name, path, body) in enumerate(acts):
+    found.answered = {2 * n + 1 for n, act in enumerate(acts) if act[3:] != (None,)}
+    for n, (name, path, body, *answer) in enumerate(acts):
         at = f"2026-11-29T20:{n:02}:00+00:00"
         for number, line in ((2 * n + 1, {
                 "name": name, "role": "clerk", "office": 1, "method": "POST", "path": path,
-                "body": json.dumps(body)}), (2 * n + 2, {"to": 2 * n + 1, "status": 200,
-                                                         "answer": "{}"})):
+                "body": json.dumps(body)}), (2 * n + 2, {
+                    "to": 2 * n + 1, "status": 200, "answer": json.dumps(*answer or [{}])})
+                )[:1 if answer == [None] else 2]:
             found.take(number, json.dumps({"n": number, "time": at} | line))
     return found
 
@@ -182,6 +185,20 @@ class Lacks(Case):
         self.assertEqual([record.typed(one)[2] for one in con.returns], [False, True])
         self.assertEqual(record.typed(con.returns[1])[:2], (None, None))
 
+    def test_who_entered_a_return_of_an_office_that_was_put_back(self):
+        """Whoever lodged it last. What was done to it before stays an incident."""
+        con = certified()
+        con.returns[0].note, (clara, closed, *others) = "3 or 8?", FIRST
+        carl = ("carl", *clara[1:], {"ok": "lodged", "rev": 1})
+        query = (*QUERY, {"ok": "moved", "rev": 3})
+        record = record_of(con, clara, closed, query, *others, carl, closed)
+        self.assertEqual((record.left, record.typed(con.returns[0])), (0, (
+            ("carl", "2026-11-29T20:05:00+00:00"), ("bruno", "2026-11-29T20:06:00+00:00"), False)))
+        # The same query led to a revision that it had before.
+        record = record_of(con, clara, closed, query, query)
+        self.assertEqual([len(record.events_of(con, "query")),
+                          len(record.returns["s1"].revisions)], [2, 3])
+
     def test_incidents(self):
         """Those of a constituency and those of its stations, in their order; what is no command of
         this office is none."""
@@ -206,6 +223,15 @@ class Lacks(Case):
         wrong = record_of(con, *[("clara", "/station/s9/query", {"rev": 1, "note": ""})] * 2)
         self.assertEqual((wrong.left, wrong.events), (2, []))
 
+    def test_incidents_that_no_office_has(self):
+        """A query or a reopening without a note that is a text is none, and stops no paper."""
+        con = certified()
+        for body in ({"rev": 2}, {"note": None}, {"note": 5}, {"note": ["x"]}, [], 5, "note"):
+            with self.subTest(body=body):
+                record = record_of(con, *FIRST, (*QUERY[:2], body), (*REOPEN[:2], body))
+                self.assertEqual(forms_of.incidents(forms_of.Forms(None, "en", False), con, record),
+                                 [])
+
     def test_who_is_gone_since_a_certificate(self):
         """By the record, where it has all of the editions and of the vacancies; without it nobody
         knows once a certificate was withdrawn."""
@@ -220,6 +246,17 @@ class Lacks(Case):
         self.assertEqual(data.gone_since(first, None), {(1, 1), (2, 1)})
         none = certified(edition=4, past=past)
         self.assertEqual(data.gone_since(none, None), set())
+
+    def test_who_is_gone_by_an_act_whose_answer_was_lost(self):
+        """The copy says that he is gone, and nobody whether that was before the certificate: he is
+        not named as elected."""
+        lost = (*vacate("A", 1), None)
+        con = certified(edition=4, gone={(1, 1): "died"}, past={2: GIVEN}, note="recount")
+        for acts, wanted in (((lost, REOPEN, AGAIN), None), ((REOPEN, AGAIN, lost), {(1, 1)})):
+            with self.subTest(acts=acts):
+                record = record_of(con, *FIRST, CERTIFY, *acts)
+                record.meet(con)
+                self.assertEqual(data.gone_since(con, record), wanted)
 
     def test_a_setup_that_has_each_constituency_of_a_copy(self):
         cons = [{"code": code, "name": f"Town {code}", "entry": "double"} for code in "abc"]
@@ -246,12 +283,18 @@ class Said(Case):
         return forms_of.Forms(None, "en", False)
 
     def test_when_a_lot_was_recorded(self):
-        """The last one of the record, where it is that of the copy: each act is a minute later."""
-        for acts, minute in (
-                ([draw("B", "A")], "20:04"), ([draw("A", "B"), draw("B", "A")], "20:05"),
-                ([draw("B", "A"), draw("A", "B")], None), ([], None)):
-            with self.subTest(acts=acts):
-                con = tie(lot=[2, 1])
+        """The last one of the record, where it is that of the copy: each act is a minute later.
+        Where a return was queried and an edition came past the record, the same order may have been
+        drawn again, and nobody knows when; a query or an edition alone draws nothing."""
+        for acts, edition, revision, minute in (
+                ([draw("B", "A")], 2, 2, "20:04"),
+                ([draw("A", "B"), draw("B", "A")], 2, 2, "20:05"),
+                ([draw("B", "A"), draw("A", "B")], 2, 2, None), ([], 2, 2, None),
+                ([draw("B", "A")], 3, 2, "20:04"), ([draw("B", "A")], 2, 5, "20:04"),
+                ([draw("B", "A")], 3, 5, None)):
+            with self.subTest(acts=acts, edition=edition, revision=revision):
+                con = tie(lot=[2, 1], edition=edition)
+                con.returns[0].revision = revision
                 drawn, *when = forms_of.lot(self.forms(), con, record_of(con, *TIED, *acts))
                 self.assertTrue(drawn.endswith("1. B, 2. A."), drawn)
                 self.assertEqual(when, [f"The lot was recorded on 29 November 2026, {minute} "

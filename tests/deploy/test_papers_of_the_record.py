@@ -126,16 +126,20 @@ class OfTheRecord(OfPapers):
                       "commands", paper("out", "doubles-*").text)
 
     def test_the_moment_of_a_lot(self):
-        """That of the record, where it has the lot of the copy: another one was drawn past it, as
-        the copy's last edition was."""
+        """That of the record, where it has the lot of the copy. Where a return was queried past it
+        and an edition came past it, the lot may have been drawn again."""
         draws = [done("berta", "/con/montehondo/draw", {"edition": 1, "order": order})
                  for order in (["ENCINA", "ROBLE"], ["ROBLE", "ENCINA"])]
-        copy_of(*DRAWN, "UPDATE cons SET edition = 6",
-                "UPDATE returns SET rev = 5 WHERE station = '01-001-A'")
+        edition = "UPDATE cons SET edition = 6"
+        revision = "UPDATE returns SET rev = 5 WHERE station = '01-001-A'"
         query = done("clara", "/station/01-001-A/query", {"rev": 2, "note": "120?"})
-        for also, wanted in ((draws[:1], True), (draws[1:], False), (draws[::-1], True),
-                             (draws, False), ([draws[0], query], False), ([], False)):
-            with self.subTest(also=also):
+        for past, also, wanted in (
+                ([edition], draws[:1], True), ([edition], draws[1:], False),
+                ([edition], draws[::-1], True), ([edition], draws, False), ([edition], [], False),
+                ([edition, revision], draws[:1], False),
+                ([edition, revision], [draws[0], query], False)):
+            with self.subTest(past=past, also=also):
+                copy_of(*DRAWN, *past)
                 recorded(also=also)
                 papers("count", COPY, "out", "--record", "commands.log")
                 found = paper("out", "act-count-*").text

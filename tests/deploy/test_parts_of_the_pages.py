@@ -445,11 +445,14 @@ class Stations(Case):
 
     def test_the_pages_of_places(self):
         """In each the lists are in the order of their votes there. Before anything is counted they
-        are in that of the setup."""
-        for text, heads, rows in (
+        are in that of the setup. Above their table are the stations of its rows, which the results
+        of the constituency may have had in another moment."""
+        for text, heads, rows, counted in (
                 (self.RETURNS, [["B", "A"], ["A", "B"]],
-                 [["50", "60", "2", "1"], ["1,000", "20", "4", "3"], ["–"] * 4]),
-                ("", [["A", "B"], ["A", "B"]], [["–"] * 4] * 3)):
+                 [["50", "60", "2", "1"], ["1,000", "20", "4", "3"], ["–"] * 4],
+                 "66.67% of the polling stations are counted, 2 of 3."),
+                ("", [["A", "B"], ["A", "B"]], [["–"] * 4] * 3,
+                 "No polling station is counted yet.")):
             with self.subTest(text=text):
                 of_each, of_table, found = self.places(text)
                 self.assertEqual([place.name for place in found], ["North", "South"])
@@ -457,7 +460,8 @@ class Stations(Case):
                           for one in of_each]
                 self.assertEqual([table[0][2:4] for table in tables], heads)
                 self.assertEqual([row[2:] for table in tables for row in table[1:]], rows)
-                self.assertEqual(len(of_table), 1)
+                [page] = of_table
+                self.assertIn(counted, shown_text(page(NOW)))
         it = site.Site()
         self.assertEqual(stations.places_pages(it, "c1", self.con(), self.ENTRY, self.RETURNS),
                          ([], [], []))

@@ -186,7 +186,7 @@ class PressPages(SiteCase):
         # 9 of 209 are 4.306.. per cent; and 9 of 200 + 9 is no share of the votes for lists.
         for words, result, row in (
                 (("--setup", "setup.toml"), some, ["9", "4.31%", "–"]),
-                ((), some, ["9", "4.30%", "–"]),
+                ((), some, ["9", "4.31%", "–"]),
                 (("--setup", "lists.toml"), some | {"base": "lists"}, ["9", "–", "–"]),
                 ((), some | {"base": "lists"}, ["9", "–", "–"]),
                 (("--setup", "setup.toml"), none, None)):
@@ -208,23 +208,25 @@ class PressPages(SiteCase):
         """It says that it is one, and which certificate before it is withdrawn."""
         past = [{"edition": 3, "seats": [2, 1]}, {"edition": 6, "seats": [3, 0]}]
         for many, said in (
-                (0, ("Certified in edition 9: 3 seats.", "Proclamados 3 escaños (versión 9).")),
-                (1, ("Certified in edition 9: 3 seats. Reopened and certified again: the "
-                     "certificate of edition 3 is withdrawn.",
-                     "Proclamados 3 escaños (versión 9). Se reabrió el escrutinio y se proclamó de "
-                     "nuevo: la proclamación anterior (versión 3) está anulada.")),
-                (2, ("Certified in edition 9: 3 seats. Reopened 2 times and certified again: the "
-                     "certificate before this one, of edition 6, is withdrawn.",
-                     "Proclamados 3 escaños (versión 9). Se reabrió el escrutinio 2 veces y se "
-                     "proclamó de nuevo: la proclamación anterior (versión 6) está anulada."))):
+                (0, ("", "")),
+                (1, (" Reopened and certified again: the certificate of edition 3 is withdrawn.",
+                     " Se reabrió el escrutinio y se proclamó de nuevo: la proclamación anterior "
+                     "(versión 3) está anulada.")),
+                (2, (" Reopened 2 times and certified again: the certificate before this one, of "
+                     "edition 6, is withdrawn.",
+                     " Se reabrió el escrutinio 2 veces y se proclamó de nuevo: la proclamación "
+                     "anterior (versión 6) está anulada."))):
             with self.subTest(many=many):
                 result = RESULT | {"edition": 9, "past": past[:many]}
                 with answering_desk(TWIN | results_of(result)) as (port, _):
                     press(port, *site_folder(site=BOTH))
                 pages = [shown_text(read(name)) for name in ("con-c1.html", "es/con-c1.html")]
-                for page, words, again in zip(pages, said, ("certified again", "de nuevo")):
+                for page, begin, words, again in zip(
+                        pages, ("Certified in edition 9: 3 seats by D’Hondt’s rule.",
+                                "Proclamados 3 escaños según el método D’Hondt (versión 9)."),
+                        said, ("certified again", "de nuevo")):
                     self.assertEqual(again in page, many > 0)
-                    self.assertIn(words, page)
+                    self.assertIn(begin + words, page)
 
     def test_what_the_width_of_a_bar_is(self):
         """Half of the votes, or all of them where a list has more."""
@@ -332,7 +334,7 @@ class PressPages(SiteCase):
         self.assertTrue(all('class="old"' in read(name)
                             for name in ("index.html", "count.html", "con-c1.html")))
         press(port, folder="others", status=1)
-        self.assertEqual(os.listdir("others"), [".provisional"])
+        self.assertEqual(sorted(os.listdir("others")), [".provisional", ".reserve"])
 
     def test_a_disk_without_room(self):
         """A round that cannot write ends with a line that says so, and the next one after that

@@ -1,14 +1,20 @@
 """A whole office that somebody put back to an earlier moment: `status` sees it on the computer of
-the office, and `entries` in a copy whose name says how many lines the record had."""
+the office, and `entries` in a copy whose name says how many lines the record had, or in what the
+record itself says."""
 
+import contextlib
+import io
 import json
 import shutil
+import sqlite3
 from pathlib import Path
 
+from tests.deploy.test_returns_past_the_record import reading_of
 from tests.deploy.test_two_of_the_board import answer, board
 from tests.support import tools
+from tests.support.case import Case
 from tests.support.desks import answering_desk
-from tests.support.office import LISTS, PROFILE, constituency, station, with_stations
+from tests.support.office import DOUBLE, LISTS, PROFILE, constituency, station, with_stations
 from tests.support.record import a_command, chained
 from tests.support.recorder import recorder_alone
 from tests.support.running import PATIENCE
@@ -213,6 +219,125 @@ class Status(Safeguards):
                 self.assertEqual([well for well, _ in said_by_status("--forget")], [True, True])
                 configured(two, one)
                 self.assertEqual([well for well, _ in said_by_status("--forget")], [False, False])
+
+
+class OfTheRecord(Case):
+    """A record whose answers say that the office came to a revision that it had before."""
+
+    def reading(self, *acts):
+        """A record of acts on s1, or of files, each a name, the act, the body and what the answer
+        says; and the lines that `entries` prints of an office that was put back."""
+        said = io.StringIO()
+        with contextlib.redirect_stdout(said):
+            it = reading_of(*((name, f"/{'con/c1' if act == 'import' else 'station/s1'}/{act}",
+                               body, {"answer": json.dumps(led)}) for name, act, body, led in acts))
+        lines = said.getvalue().splitlines()
+        self.assertEqual(it.left, len(lines))
+        ends = ", which this record has already: the office was put back to an earlier moment"
+        return it, [line.removesuffix(ends) for line in lines]
+
+    LODGED, SAME = {"ok": "lodged", "rev": 1}, {"ok": "same", "rev": 1}
+
+    def lodged(self, name, votes, led):
+        return name, "lodge", SLIP | {"votes": votes}, led
+
+    def moved(self, name, act, rev, votes=None):
+        """One of the acts that lead to the next revision."""
+        body = {"rev": rev, "note": "120?"} if act == "query" else {"rev": rev}
+        return name, act, body | (SLIP | {"votes": votes} if votes else {}), {
+            "ok": "moved", "rev": rev + 1}
+
+    def test_who_entered_a_return_that_was_gone(self):
+        """Whoever lodged it last, or whoever had corrected it by the revision to which it was put
+        back: what was done afterwards is not in that office."""
+        one, other = [120, 71], [71, 120]
+        lodge = self.lodged("anna", one, self.LODGED)
+        confirm = self.moved("carl", "confirm", 1, one)
+        changed = [self.moved("bea", "query", 1), self.moved("carl", "correct", 2, other),
+                   self.moved("bea", "query", 3), self.moved("anna", "correct", 4, one)]
+        to_1, to_2 = (f"s1: {act} by carl (2026-11-26T22:14:{second:02}.000+00:00) led to revision "
+                      for act, second in (("lodge", 3), ("confirm", 11)))
+        for why, acts, said, first, revisions in (
+                ("lodged", [lodge, confirm], [], "anna", 2),
+                ("again", [lodge, self.lodged("carl", other, self.LODGED)], [f"{to_1}1"], "carl",
+                 1),
+                ("again, the same", [lodge, self.lodged("carl", one, self.LODGED), confirm],
+                 [f"{to_1}1"], "carl", 2),
+                ("it was there", [lodge, self.lodged("carl", one, self.SAME), confirm], [], "anna",
+                 2),
+                ("past the record", [lodge, self.moved("carl", "confirm", 5, one)], [], "anna", 2),
+                ("corrected", [lodge, *changed], [], "anna", 5),
+                ("before both", [lodge, *changed, confirm], [f"{to_2}2"], "anna", 2),
+                ("between both", [lodge, *changed, self.moved("carl", "confirm", 3, other)],
+                 [f"{to_2}4"], "carl", 4),
+                ("an answer without a number", [lodge, (*lodge[:3], {"ok": "lodged"})], [], "anna",
+                 1)):
+            with self.subTest(why=why):
+                it, lines = self.reading(*acts)
+                found = it.returns["s1"]
+                self.assertEqual((lines, found.first[0], len(found.revisions), len(found.moments),
+                                  len(found.notes)), (said, first, *[revisions] * 3))
+                if acts[-1][1] == "confirm":
+                    fault = it.fault("s1")
+                    self.assertEqual(bool(fault) and fault.split(" (")[0],
+                                     first == "carl" and "both entries are by carl", fault)
+
+    def imported(self, name, number):
+        """A file with the same row for each station, of which the office lodged this many."""
+        rows = "".join(f"s{n},p1,2,1,120,71\n" for n in (1, 2, 3))
+        led = imported(1, lodged=number, same=3 - number)["answer"]
+        return name, "import", f"station,slip,blank,spoiled,A,B\n{rows}", json.loads(led)
+
+    def test_who_imported_what_was_gone(self):
+        """A file of which all rows were lodged is its clerk's; where only some were nobody knows
+        which, nor who entered a return that was put back to its first revision afterwards."""
+        figures = [120, 71]
+        lodge = self.lodged("anna", figures, self.LODGED)
+        confirm, all_three = self.moved("carl", "confirm", 1, figures), self.imported("anna", 3)
+        of_file = ("c1: line {}: an import lodged {}, also returns that this record has already: "
+                   "the office was put back to an earlier moment")
+        again = "s1: confirm by carl (2026-11-26T22:14:07.000+00:00) led to revision 2"
+        for before, number, after, said, firsts in (
+                ([lodge], 2, [], [], ["anna", "carl", "carl"]),
+                ([lodge], 3, [], [of_file.format(4, 3)], ["carl"] * 3),
+                ([lodge, confirm], 3, [confirm], [of_file.format(6, 3)], ["carl"] * 3),
+                ([all_three], 0, [], [], ["anna"] * 3),
+                ([all_three], 2, [], [of_file.format(4, 2)], [None] * 3),
+                ([all_three, confirm], 1, [], [of_file.format(6, 1)], ["anna", None, None]),
+                ([all_three, confirm], 1, [confirm], [of_file.format(6, 1), again], [None] * 3)):
+            with self.subTest(before=before, number=number, after=after):
+                it, lines = self.reading(*before, self.imported("carl", number), *after)
+                found = [it.returns[code] for code in ("s1", "s2", "s3")]
+                self.assertEqual((lines, [one.first and one.first[0] for one in found]),
+                                 (said, firsts))
+
+
+class BorneOut(SiteCase):
+    def test_a_confirmation_that_the_copy_alone_bears_out(self):
+        """Its answer was lost. Both entries are one name's all the same, also where the board has
+        certified."""
+        town = constituency("c1", "Town", 2, "d0")
+        new(PROFILE + town + DOUBLE + LISTS + station("s1"))
+        slip = {"slip": "p1", "votes": [10, 20], "blank": 0, "spoiled": 0}
+        lodge, confirm, certify = (a_command(json.dumps(body), f"/{path}") | {"name": name}
+                                   for body, path, name in (
+                                       (slip, "station/s1/lodge", "zoe"),
+                                       (slip | {"rev": 1}, "station/s1/confirm", "zoe"),
+                                       ({"edition": 1}, "con/c1/certify", "berta")))
+        done = {"to": 1, "status": 200, "answer": '{"ok":"lodged","rev":1}'}
+        for certified, lines in ((0, [lodge, done, confirm]), (1, [lodge, done, confirm, certify])):
+            with contextlib.closing(sqlite3.connect("office.db")) as it, it:
+                it.execute("REPLACE INTO returns VALUES ('s1', 'c1', 2, 'p1', 4, '')")
+                it.executemany("REPLACE INTO counts VALUES ('s1', ?, ?)",
+                               [(0, 0), (1, 10), (2, 20), (61, 0)])
+                it.execute("UPDATE cons SET edition = ?, certified = ?", (1 + certified, certified))
+            ran = tools.run([DEPLOY / "entries", "setup.toml", "--office", "office.db"],
+                            input=chained(*lines).decode(), capture_output=True, text=True,
+                            timeout=PATIENCE, check=False)
+            with self.subTest(certified=certified):
+                self.assertIn("\ns1: both entries are by zoe (", ran.stdout)
+                self.assertIn("closed 1, ", ran.stdout)
+                self.assertEqual("\nc1: certified by berta (" in ran.stdout, bool(certified))
 
 
 class Put(SiteCase):

@@ -100,6 +100,45 @@ class Recorder(SiteCase):
         salts = {line["salt"] for line in lines}
         self.assertEqual([len(salts), {len(bytes.fromhex(salt)) for salt in salts}], [4, {16}])
 
+    def test_a_command_that_is_sent_again_while_it_is_under_way(self):
+        """Its answer is waited for. Where that ended without one it is done again."""
+        for ends in (False, True):
+            with self.subTest(ends=ends):
+                once, done, given, go_on = loaded("turns.py").Once(), [], [], threading.Event()
+
+                def act():
+                    done.append(0)
+                    go_on.wait(PATIENCE)
+                    if ends and len(done) == 1:
+                        raise OSError
+                    return len(done)
+
+                def ask():
+                    with contextlib.suppress(OSError):
+                        given.append(once.passed("clara", "a command", act))
+
+                threads = [threading.Thread(target=ask) for _ in range(3)]
+                for thread in threads:
+                    thread.start()
+                # Another command, or that of another name, waits for none.
+                self.assertEqual(once.passed("clara", "another", lambda: "done"), "done")
+                self.assertEqual(once.passed("bruno", "a command", lambda: "done"), "done")
+                self.assertEqual((len(done), given), (1, []))
+                go_on.set()
+                for thread in threads:
+                    thread.join(PATIENCE)
+                self.assertEqual((len(done), given), (2, [2, 2]) if ends else (1, [1, 1, 1]))
+
+    def test_how_many_answers_are_kept(self):
+        """The last eight of each name."""
+        once, done = loaded("turns.py").Once(), []
+        claras = [("clara", number) for number in range(9)]
+        for one in (*claras, ("bruno", 0), *claras[1:], ("bruno", 0), ("clara", 0)):
+            once.passed(*one, lambda: done.append(one))
+        self.assertEqual(done, [*claras, ("bruno", 0), ("clara", 0)])
+        self.assertEqual((once.under_way, {name: len(kept) for name, kept in once.kept.items()}),
+                         (set(), {"clara": 8, "bruno": 1}))
+
     def test_what_a_station_may_give(self):
         """Twenty commands at once, and one more each fifteen seconds; every station has its own,
         and staff are not limited."""
@@ -323,6 +362,21 @@ class Recorder(SiteCase):
                 self.assertEqual(process.wait(timeout=PATIENCE), 1)
             self.assertIn("failed: record.csv: ", Path("said").read_text())
             self.assertFalse(Path("recorder/head").exists())
+
+    def test_a_recorder_that_is_to_end(self):
+        """A command that is under way has its answer and its line; no other is taken meanwhile."""
+        with recording_desk(wait=1.5) as (port, messages), recorder_alone(port) as process, \
+                concurrent.futures.ThreadPoolExecutor(1) as pool:
+            first = pool.submit(command, "/station/s1/close")
+            until(lambda: messages)
+            process.terminate()
+            time.sleep(0.3)
+            self.assertEqual(command("/station/s2/close"), 503)
+            self.assertEqual((first.result(), process.wait(timeout=PATIENCE)), (200, 0))
+        lines = [json.loads(line) for line in Path("commands.log").read_text().splitlines()]
+        self.assertEqual([(line.get("path"), line.get("status")) for line in lines],
+                         [("/station/s1/close", None), (None, 200)])
+        self.assertEqual(len(messages), 1)
 
     def test_answers_that_are_no_http(self):
         """As of another program that has the port of the office: each command is without an answer,

@@ -7,7 +7,8 @@ from tests.deploy.test_shown_pages import web_server
 from tests.support import browser
 from tests.support.case import needs
 from tests.support.countries import four
-from tests.support.desks import done
+from tests.support.desks import done, modelled
+from tests.support.office import with_stations
 from tests.support.pages import press, site_folder
 from tests.support.site import SiteCase
 
@@ -81,6 +82,57 @@ class RenewedPages(SiteCase):
             # The site is gone. (What the page asked for before may come later than this.)
             it.wait(f"document.dispatchEvent(new Event('visibilitychange')); {SAID}",
                     "The site was not reached")
+
+    @needs("chromium")
+    def test_a_page_that_is_taken_away(self):
+        """Its title stays, with the way to all results, and nothing else: its certificate may be
+        withdrawn. Once the page is there again it is shown."""
+        Path("setup.toml").write_text(with_stations(1), encoding="utf-8")
+        with modelled(with_stations(1)) as (office, port), browser.tab() as it, \
+                web_server(Path.cwd()) as site:
+            done(office, "/station/s1/lodge",
+                 {"slip": "p1", "votes": [20, 10], "blank": 0, "spoiled": 0})
+            done(office, "/station/s1/close", {"rev": 1})
+            done(office, "/con/c1/certify", {"edition": 1})
+            press(port, "--setup", "setup.toml")
+            it.open(f"{site}/pages/elected-1.html")
+            self.assertIn("Final", it.text("header .state"))
+            done(office, "/con/c1/reopen", {"edition": 2, "note": "mistake"})
+            press(port, "--setup", "setup.toml")
+            it.run("document.dispatchEvent(new Event('visibilitychange'))")
+            it.wait(SAID, "no longer there")
+            self.assertEqual(it.text("header").split("\n"), ["All results", "The elected"])
+            self.assertEqual(it.text("main"), "")
+            done(office, "/con/c1/certify", {"edition": 3})
+            press(port, "--setup", "setup.toml")
+            it.run("document.dispatchEvent(new Event('visibilitychange'))")
+            it.wait(SAID, "Something changed")
+            self.assertIn("Final", it.text("header .state"))
+            self.assertNotEqual(it.text("main"), "")
+
+    @needs("chromium")
+    def test_a_first_page_that_is_taken_away(self):
+        """Also under the address of its folder, for which the site answers 403. The page stays
+        where an answer is not about it: who asks has to wait, or the site is broken."""
+        Path("setup.toml").write_text(with_stations(1), encoding="utf-8")
+        with modelled(with_stations(1)) as (_, port), browser.tab() as it, \
+                web_server(Path.cwd()) as site:
+            press(port, "--setup", "setup.toml")
+            it.open(f"{site}/pages/")
+            renew = "document.dispatchEvent(new Event('visibilitychange'))"
+            for status in (401, 429, 500, 503):
+                with self.subTest(status=status):
+                    it.run("document.querySelector('.renew output').textContent = ''; window.fetch "
+                           f"= async () => new Response('<p>busy</p>', {{status: {status}}})")
+                    it.run(renew)
+                    it.wait(SAID, "The site was not reached")
+                    self.assertIn("Not final", it.text("header"))
+            it.open(f"{site}/pages/")
+            Path("pages/index.html").unlink()
+            it.run(renew)
+            it.wait(SAID, "no longer there")
+            self.assertNotIn("Not final", it.text("header"))
+            self.assertEqual(it.text("main"), "")
 
     @needs("chromium")
     def test_a_browser_that_a_test_used_before(self):

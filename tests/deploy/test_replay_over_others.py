@@ -278,6 +278,23 @@ class OverOthers(Case):
             with self.subTest(more=more, own=own):
                 self.assertEqual(self.over(*own, after=len(self.lines))[0], said)
 
+    def test_a_refusal_that_names_a_return_past_the_record(self):
+        """A query was refused as stale, since the return was corrected past the recorder: another
+        return was certified, so that nothing is certified over the one that the record has."""
+        self.recorded(*certified())
+        answers = [a_command('{"rev":2,"note":"5?"}', "/station/s1/query"),
+                   {"to": 14, "status": 409, "answer": '{"now":5,"refused":11,"word":"stale"}'}]
+        certificate = [self.lines[13], self.lines[14] | {"to": 16}]
+        self.lines = [*self.lines[:13], *answers, *certificate]
+        for after, own in ((1, ()), (15, certified()[:6])):
+            with self.subTest(after=after):
+                said, office = self.over(*own, after=after)
+                self.assertEqual(said, [
+                    ("line 16", "the office has something else than line 14"),
+                    ("con c1", "the office has something else than line 16 left"),
+                    ("con c1", "the record does not say all of s1")])
+                self.assertIsNone(office.cons["c1"].certified)
+
     def test_a_number_with_more_digits_than_python_reads(self):
         """The office ignores its key, and takes the rest."""
         self.recorded(*closed("s1", 1, 2), is_named=False)

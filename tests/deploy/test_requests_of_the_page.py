@@ -12,7 +12,7 @@ from tests.support.page_alone import (
 )
 
 NO_ANSWER = "There was no answer. It may have been done."
-AWAY = "The office does not answer now. It may have been done."
+UNSEEN = "What the office has now is not known: it did not answer. Ask it again."
 MAY_NOT = "Your name may not do this."
 UNKNOWN = "The file setup.json has no station of this code."
 # What is asked at the beginning, and what is seen by then.
@@ -72,6 +72,9 @@ class Requests(Case):
                     self.assertEqual((page.run(FIRST), seen["said"], seen["focus"]),
                                      (wanted, NOW, focus))
                     station = wanted[4]
+                    # (whose page it is, is not known before)
+                    self.assertEqual(page.run("return office.asked.map((one) => one[4])"),
+                                     [None] * 3 + [name] * (2 if wanted[4] else 1))
                     self.assertEqual(page.asked(), [
                         *FILES, f"GET /now/con/{wanted[3]}/result",
                         *([f"GET /now/station/{station}"] if station else [])])
@@ -99,6 +102,25 @@ class Requests(Case):
                     self.assertTrue(page.open(**more)["alert"].startswith(words))
                     self.assertEqual(page.asked(), FILES)
             self.assertEqual(page.run("return element('station').value"), "s9")
+            # Without what says whose the page is, or what is elected, it does nothing.
+            for asked in FILES[:2]:
+                for answer in ([0], [429, ""], [502, ""]):
+                    with self.subTest(asked=asked, answer=answer):
+                        seen = page.open("second", "sara", {asked: [answer]})
+                        self.assertEqual(
+                            (seen["alert"], seen["forms"], page.run(
+                                "return element('person').textContent")),
+                            ("The page did not get all that it needs. Load it again.", [], ""))
+                        self.assertEqual(page.asked(), FILES)
+                        # No button is there but the log out, which forgets what each name typed
+                        # where it is not known whose the page is.
+                        self.assertEqual(page.run(
+                            "localStorage.setItem('office h clara s1 lodge', JSON.stringify({ "
+                            "time: Date.now() })); return [[...document.querySelectorAll('button')]"
+                            ".filter((one) => one.getClientRects().length).map(({ id }) => id), "
+                            "(dropDrafts(person.name), localStorage.length)]"),
+                            [["logout"], 0])
+                        page.run("localStorage.clear()")
 
     @needs("chromium")
     def test_what_goes_wrong_when_it_looks(self):
@@ -108,14 +130,14 @@ class Requests(Case):
             # Before the results are public a station sees its own return alone, which is no fault.
             for role, answers, said in (
                     ("station", {result_of: [[403, ""]]}, NOW),
-                    ("station", {result_of: [[502, ""]]}, AWAY),
-                    ("station", {"GET /now/station/s1": [[502, ""]]}, AWAY),
+                    ("station", {result_of: [[502, ""]]}, UNSEEN),
+                    ("station", {"GET /now/station/s1": [[502, ""]]}, UNSEEN),
                     ("clerk", {result_of: [[403, ""]]}, MAY_NOT),
-                    ("clerk", {result_of: [[0]]}, NO_ANSWER),
+                    ("clerk", {result_of: [[0]]}, UNSEEN),
                     # (of a type that is JSON, and without a text)
                     ("clerk", {result_of: [[403, "", {"Content-Type": "application/json"}]]},
                      MAY_NOT),
-                    ("second", {result_of: [[502, ""]]}, AWAY),
+                    ("second", {result_of: [[502, ""]]}, UNSEEN),
                     ("second", {result_of: [[404, {"word": "no_constituency"}]]},
                      "The office has no constituency of this code.")):
                 with self.subTest(role=role, answers=answers):
@@ -130,7 +152,7 @@ class Requests(Case):
                     ("s1", [200, recorded()], NOW, ["close", "query", "import"]),
                     ("s1", [404, {"word": "no_station"}],
                      "The office has no station of this code.", ["import"]),
-                    ("s1", [502, ""], AWAY, ["import"]),
+                    ("s1", [502, ""], UNSEEN, ["import"]),
                     ("s9", known, UNKNOWN, ["import"]), ("s9", NO_RETURN, UNKNOWN, ["import"]),
                     ("s9", [404, {"word": "no_station"}],
                      "The office has no station of this code.", ["import"])):
@@ -144,7 +166,7 @@ class Requests(Case):
             page.open(answers={"GET /now/station/s9": [known]})
             page.tell({result_of: [[502, ""]]})
             alert = page.station("s9")["alert"].strip()
-            self.assertTrue(alert.startswith(AWAY) and UNKNOWN in alert, alert)
+            self.assertTrue(alert.startswith(UNSEEN) and UNKNOWN in alert, alert)
 
     @needs("chromium")
     def test_a_first_entry(self):
@@ -208,10 +230,85 @@ class Requests(Case):
             self.assertEqual([row[:2] for row in page.run(RECEIPT)][:-1], [
                 ["Station", "s1"], ["Constituency", "Twin Town (c1)"], ["Done", "Lodged."],
                 ["Slip", "p1"], ["By", "clara, clerk"]])
-            # A command has the SHA-256 of the setup that the page has, and a question has not.
+            # All that is asked has the SHA-256 of the setup that the page has, and the name that it
+            # shows.
             asked = page.run("return office.asked")
             wanted = hashlib.sha256(json.dumps(SETUP, separators=(",", ":")).encode()).hexdigest()
-            self.assertEqual([one[3] for one in asked], [wanted, None, None])
+            self.assertEqual([one[3:5] for one in asked],
+                             [[wanted, "clara"]] * 3)
+            # And a command has numbers that no other one has.
+            page.run("element('query').elements.note.value = 'x'")
+            page.does("element('query').requestSubmit()")
+            onces = [one[5] for one in page.run("return office.asked")]
+            self.assertEqual(onces[1:3] + onces[4:], [None] * 4)
+            self.assertNotEqual(onces[0], onces[3])
+            for once in onces[::3]:
+                self.assertRegex(once, r"\A\d{1,10}(-\d{1,10}){3}\Z")
+            # What was recorded already was sent twice: nobody has compared anything.
+            page.open(answers={lodge: [[200, {"ok": "same", "rev": 1}]],
+                               again: [NO_RETURN, [200, recorded()]]})
+            page.station("s1")
+            self.assertEqual([page.send("lodge", *TYPED)[key] for key in ("said", "kind")],
+                             ["The same was recorded already.", "done"])
+            self.assertIn(["Done", "The same was recorded already."], page.run(RECEIPT))
+
+    @needs("chromium")
+    def test_a_page_that_is_old(self):
+        """Of another name, or of another setup: it says so once, and a draft stays."""
+        lodge, draft = "POST /station/s1/lodge", "return Object.values(localStorage)"
+        with page_alone() as page:
+            page.open(answers={lodge: [[412, ""]]})
+            page.station("s1")
+            page.run("office.fill('lodge', arguments[0]); office.fields('lodge')[0].dispatchEvent("
+                     "new Event('input', { bubbles: true }))", TYPED)
+            before = page.run(draft)
+            seen = page.send("lodge", *TYPED)
+            self.assertTrue(seen["alert"].startswith(
+                "Nothing was done: this page was loaded under another name"), seen)
+            self.assertEqual((page.run("return office.typed('lodge')"), page.run(draft),
+                              page.run("return element('receipt').hidden")),
+                             (TYPED, before, True))
+            self.assertEqual(len(before), 1)
+            # Nothing is shown of an office whose lists may be in another order.
+            old = [[409, ""]]
+            page.tell({lodge: old, "GET /now/con/c1/result": old, "GET /now/station/s1": old})
+            for seen, begins in ((page.send("lodge", *TYPED), "Nothing was done: the"),
+                                 (page.does("element('again').click()"), "The")):
+                self.assertEqual(seen["alert"].strip(), (
+                    f"{begins} setup is another one since this page was loaded. Load the page "
+                    "again; lists may be in another order."))
+                self.assertEqual((seen["forms"], page.run(
+                    "return ['view', 'return'].map((id) => element(id).textContent)")),
+                    ([], ["", ""]))
+
+    @needs("chromium")
+    def test_a_look_that_was_lost_after_a_command(self):
+        """It is said of the look, and not that what was done or refused may have been done; of a
+        command whose answer was lost it is said once."""
+        lodge, looks = "POST /station/s1/lodge", ("GET /now/con/c1/result", "GET /now/station/s1")
+        with page_alone() as page:
+            for answer, said in (([200, {"ok": "lodged", "rev": 1}], f"Lodged. {UNSEEN}"),
+                                 ([429, ""], "Too many requests came from here in a short time. "
+                                  f"Wait a moment, and do it again. {UNSEEN}"),
+                                 ([0, ""], f"{NO_ANSWER} Look at what is shown once the office "
+                                  "answers, or send it again: nothing is done twice.")):
+                for lost in ([0, ""], [502, ""], [504, ""]):
+                    with self.subTest(answer=answer, lost=lost):
+                        page.open(answers={lodge: [answer]})
+                        page.station("s1")
+                        page.tell({look: [lost] for look in looks})
+                        seen = page.send("lodge", *TYPED)
+                        self.assertEqual(seen["said"] or seen["alert"], said)
+                        self.assertEqual(page.does("element('again').click()")["alert"].strip(),
+                                         UNSEEN)
+            # A slip that is typed to be compared waits for a look too.
+            page.open(answers={looks[1]: [[200, recorded()]]})
+            page.station("s1")
+            page.does("element('compare').click()")
+            page.tell({looks[1]: [[0, ""]]})
+            self.assertNotIn("lodge", page.does("element('again').click()")["forms"])
+            page.tell({looks[1]: [[200, recorded()]]})
+            self.assertIn("lodge", page.does("element('again').click()")["forms"])
 
     @needs("chromium")
     def test_a_slip_that_is_typed_again(self):
@@ -232,6 +329,28 @@ class Requests(Case):
             seen = page.send("lodge", *TYPED)
             self.assertEqual((seen["said"], seen["forms"], page.run(shown)),
                              ("Both entries are the same.", ["close", "query", "import"], 6))
+
+    @needs("chromium")
+    def test_a_slip_whose_answer_was_lost(self):
+        """Once it is known to be recorded the form is empty: it is neither compared nor sent."""
+        at, lodge, lost = "GET /now/station/s1", "POST /station/s1/lodge", [[0]]
+        typed, compare = "return office.typed('lodge')", "element('compare').click()"
+        with page_alone() as page:
+            for now, left in ((recorded(), [""] * 6), (recorded(slip="p2"), TYPED)):
+                with self.subTest(now=now):
+                    page.open(answers={"GET /now/station/s2": [NO_RETURN]})
+                    page.station("s1")
+                    page.tell({lodge: lost, at: lost, "GET /now/con/c1/result": lost})
+                    page.send("lodge", *TYPED)
+                    self.assertEqual(page.run(typed), TYPED)
+                    page.tell({at: [[200, now]], "GET /now/con/c1/result": [[200, result()]]})
+                    page.does("element('again').click()")
+                    self.assertEqual(page.run(typed), left)
+                    # Who compares looks at the paper again, whatever was typed before.
+                    self.assertIn("lodge", page.does(compare)["forms"])
+                    self.assertEqual(page.run(typed), [""] * 6)
+                    page.station("s2")
+                    self.assertEqual(page.run("return office.questions"), [])
 
     @needs("chromium")
     def test_a_second_entry(self):

@@ -140,6 +140,104 @@ class Roles(SiteCase):
                 json.loads(front.ask("GET", "/now/station/s1", name="clara").body)["votes"], [1, 2])
 
     @needs("nginx", "openssl")
+    def test_a_page_that_shows_another_name(self):
+        """Its commands are answered 412, and neither recorded nor done; a program that says no name
+        is served. Who has no password is asked for it first."""
+        long = "Z_-9" * 4
+        with recording_desk() as (port, messages), with_a_second(port) as front:
+            for code in ("s1", "a", long):
+                front.name("stations", code)
+            for name, target, said, wanted in (
+                    ("clara", "/station/s1/lodge", "clara", 200),
+                    ("clara", "/station/s1/lodge", "", 200),
+                    ("clara", "/station/s1/lodge", None, 200),
+                    ("s1", "/station/s1/lodge", "s1", 200), ("a", "/station/a/lodge", "a", 200),
+                    (long, f"/station/{long}/lodge", long, 200),
+                    ("clara", "/station/s1/lodge", "sara", 412),
+                    ("sara", "/station/s1/confirm", "clara", 412),
+                    ("berta", "/con/c1/certify", "clara", 412),
+                    ("clara", "/con/c1/import", "bruno", 412),
+                    ("clara", "/con/c1/trial/semicolon", "bruno", 412),
+                    ("s1", "/station/s1/lodge", "S1", 412), ("a", "/station/a/lodge", "aa", 412),
+                    ("a", "/station/a/lodge", "a:a", 412),
+                    (long, f"/station/{long}/lodge", long[:-1], 412),
+                    *(("clara", "/station/s1/lodge", said, 412)
+                      for said in ("Clara", "clar", "claraa", "clara:clara", "clara clara",
+                                   "x" * 4000)),
+                    # What the role may not do either.
+                    ("sara", "/station/s1/lodge", "sara", 403),
+                    ("sara", "/station/s1/lodge", "clara", 412)):
+                with self.subTest(name=name, target=target, said=said):
+                    before = len(messages)
+                    found = front.ask("POST", target, {}, name,
+                                      None if said is None else {"Office-By": said})
+                    self.assertEqual((found.status, len(messages) - before),
+                                     (wanted, int(wanted == 200)))
+            # Without the right password it is not even compared, as after a log out.
+            for name, password in ((None, None), ("clara", "x"), ("logout", "logout"),
+                                   ("no name", "x")):
+                with self.subTest(name=name):
+                    self.assertEqual(front.ask("POST", "/station/s1/lodge", {}, name, {
+                        "Office-By": "bruno"}, password=password).status, 401)
+            self.assertEqual([(line["name"], line["status"]) for line in front.record(7)], [
+                *[("clara", 200)] * 3, ("s1", 200), ("a", 200), (long, 200), ("sara", 403)])
+
+    @needs("nginx", "openssl")
+    def test_what_a_page_that_shows_another_name_reads(self):
+        """Nothing that a name is needed for, as it would show it to whoever has that page: it is
+        answered 412, which is kept for nobody. Who has no password is asked for it first."""
+        with recording_desk() as (port, _), with_a_second(port) as front:
+            front.name("stations", "s1")
+
+            def statuses(name, *saids, target="/now/con/c1", password=None):
+                return [front.ask("GET", target, None, name,
+                                  None if said is None else {"Office-By": said},
+                                  password=password).status for said in saids]
+
+            for target in ("/now/station/s1/history", "/now/con/c1/typed", "/now/station/s1",
+                           "/now/progress", "/now/results", "/now/con/c1/result",
+                           "/now/con/c1/stations", "/now/con/c1/returns", *OF_SLIPS):
+                with self.subTest(target=target):
+                    self.assertEqual(
+                        statuses("clara", "sara", "clara", "sara", "Clara", "", None,
+                                 target=target), [412, 200, 412, 412, 200, 200])
+                    self.assertEqual(front.ask("GET", target, None, "clara", {
+                        "Office-By": "sara"}).head["Cache-Control"], "no-store")
+                    self.assertEqual([statuses(name, "bruno", target=target, password=password)
+                                      for name, password in ((None, None), ("clara", "x"),
+                                                             ("logout", "logout"))], [[401]] * 3)
+            self.assertEqual(statuses("s1", "s1", "s2", "S1", target="/now/station/s1"),
+                             [200, 412, 412])
+            # What the role may not see either; and what is for everybody is for this page too.
+            self.assertEqual(statuses("sara", "sara", "clara", target="/now/station/s1"),
+                             [403, 412])
+            self.assertEqual([statuses("clara", "sara", target=target) for target in (
+                "/progress", "/con/c1", "/con/c1/result", "/clerk.html")], [[200]] * 4)
+
+    @needs("nginx", "openssl")
+    def test_a_command_that_is_sent_again(self):
+        """By the text that a page gives each command, where that is one: done and recorded once for
+        each name. No field of a client is more to the recorder than that."""
+        with recording_desk() as (port, messages), with_a_second(port) as front:
+            def times(*texts, name="clara"):
+                before = len(messages)
+                for text in texts:
+                    found = front.ask("POST", "/station/s1/query", {}, name, text and {
+                        "Office-Once": text})
+                    self.assertEqual((found.status, found.body), (200, b'{"ok":"lodged","rev":1}'))
+                return len(messages) - before
+
+            for texts, wanted in ((("1-22-3", "1-22-3"), 1), (("x" * 64, "x" * 64), 1),
+                                  (("1", "2", "1"), 2), ((None, None), 2), (("", ""), 2),
+                                  (("x" * 65, "x" * 65), 2), (("a b", "a b"), 2),
+                                  (("é", "é"), 2), (("a\x85Office-Name: x",) * 2, 2)):
+                with self.subTest(texts=texts):
+                    self.assertEqual(times(*texts), wanted)
+            self.assertEqual([times("1", "1", name="bruno"), times("1", "1", name="sara")], [1, 1])
+            self.assertEqual([(line["name"], line["status"]) for line in front.record(18)],
+                             [*[("clara", 200)] * 16, ("bruno", 200), ("sara", 200)])
+
+    @needs("nginx", "openssl")
     def test_who_may_enter_a_second_time(self):
         """The role `second` may confirm and query, read past the cache and load the page; every
         other command is refused to it, and a second entry to every other role."""

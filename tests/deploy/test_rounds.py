@@ -353,7 +353,7 @@ class Pages(Case):
         files_of(*(f"p-{n}.html" for n in (1, 2, 3, 4, 11, "x")), "pp-9.html",
                  text=f"before {OURS}")
         files_of("p-2019.html", text="the board's")
-        press.write_parts(Path(), "p", [None, "two", lambda moment: "three"])
+        press.write_parts(Path(), "p", [None, "two", lambda moment: "three"], NOON)
         self.assertEqual([Path(f"p-{n}.html").read_text(encoding="utf-8") for n in (1, 2, 3)],
                          [f"before {OURS}", "two", "three"])
         self.assertEqual(left(), ["p-1.html", "p-2.html", "p-2019.html", "p-3.html", "p-x.html",
@@ -470,7 +470,7 @@ class Pages(Case):
     def test_when_something_changed_last(self):
         """The latest moment of a constituency, on the page of the country."""
         clock, rounds = Clock(self), Rounds(towns(3), about='timezone = "UTC"\n')
-        for n, minutes in enumerate((0, 7, 3)):
+        for n, minutes in enumerate((0, 3, 7)):
             clock.now = 1000 + 60 * minutes
             if n:
                 rounds.close(f"s{n}", 30, 10)

@@ -32,17 +32,46 @@ def press_keys(it, *keys):
 class SecondEntry(SiteCase):
     @needs("chromium", "nginx", "openssl")
     def test_a_page_whose_browser_has_another_name_by_now(self):
-        """It was opened by a clerk, and the browser gives the password of a second. The recorder
-        refuses the lodge, by an answer without a text: nothing was done, and the page says so."""
+        """It was opened by a clerk, and the browser gives the password of a second: nothing is
+        done, what was typed stays, and the page says so. Of a page that sends no name, as an older
+        one, the recorder refuses the lodge, by an answer without a text."""
         with office_with_a_second(TWICE) as (_, front), clerks_browser(front, "bruno") as it:
             choose_station(it, "s1")
             it.command("Network.setExtraHTTPHeaders",
                        headers={"Authorization": front.authorization("sara")})
             enter(it, "lodge", SLIP)
+            said(it, "this page was loaded under another name")
+            self.assertEqual(it.run("return [element('lodge').elements.slip.value, "
+                                    "Object.keys(localStorage).length]"), ["p1", 1])
+            self.assertEqual(front.lines(), [])
+            it.run("person.name = ''; shown.found = { station: 's1', status: 'none' }; "
+                   "showReturn()")
+            it.click("#lodge button")
             said(it, "Your name may not do this.")
             self.assertNotIn("may have been done", it.text("#said"))
             self.assertEqual([(line["name"], line["status"]) for line in front.record(1)],
                              [("sara", 403)])
+
+    @needs("chromium", "nginx", "openssl")
+    def test_a_page_of_a_second_whose_browser_is_a_clerks_by_now(self):
+        """Nothing of the first entry is shown on it: not who did what to the station, nor what
+        waits."""
+        with office_with_a_second(TWICE) as (_, front), clerks_browser(front, "sara") as it:
+            self.assertEqual(front.ask("POST", "/station/s1/lodge", SLIP, "clara").status, 200)
+            choose_station(it, "s1")
+            it.click("#who")
+            said(it, "The history of station s1 is shown.")
+            self.assertNotIn("p1", it.text("#history"))
+            it.run("element('history').replaceChildren()")
+            it.command("Network.setExtraHTTPHeaders",
+                       headers={"Authorization": front.authorization("clara")})
+            for button in ("who", "find", "again"):
+                with self.subTest(button=button):
+                    it.run("say('')")
+                    it.click(f"#{button}")
+                    said(it, "his page was loaded under another name")
+                    self.assertEqual([it.text(f"#{one}") for one in (
+                        "history", "waiting", "return", "view", "open-stations")], [""] * 5)
 
     @needs("chromium", "nginx", "openssl")
     def test_a_second_entry(self):
@@ -254,10 +283,9 @@ class SecondEntry(SiteCase):
             front.end_recorder()
             front.end_reader()
             it.click("#find")
-            said(it, "The office does not answer now.")
-            self.assertEqual(
-                (it.run(OPEN), it.text("#alert").startswith("The office does not answer now.")),
-                ([], True))
+            unknown = "What the office has now is not known: it did not answer."
+            said(it, unknown)
+            self.assertEqual((it.run(OPEN), it.text("#alert").startswith(unknown)), ([], True))
 
     @needs("nginx", "openssl")
     def test_which_stations_wait_and_not_what_their_slips_say(self):

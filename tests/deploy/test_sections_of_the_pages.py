@@ -80,17 +80,16 @@ class Sections(Case):
                 self.assertEqual((found[0], text(found[1])), (key, said))
 
     def test_what_a_certificate_says(self):
-        for entry, past, said in (
-                (ENTRY, [], "Certified in edition 7: 3 seats by D’Hondt’s rule."),
-                (None, [], "Certified in edition 7: 3 seats."),
-                (None, PAST[:1], "Certified in edition 7: 3 seats. Reopened and certified again: "
-                                 "the certificate of edition 3 is withdrawn."),
-                (None, PAST, "Certified in edition 7: 3 seats. Reopened 2 times and certified "
-                             "again: the certificate before this one, of edition 5, is "
-                             "withdrawn.")):
-            with self.subTest(entry=entry, past=past):
+        begin = "Certified in edition 7: 3 seats by D’Hondt’s rule."
+        for past, said in (
+                ([], ""),
+                (PAST[:1], " Reopened and certified again: the certificate of edition 3 is "
+                           "withdrawn."),
+                (PAST, " Reopened 2 times and certified again: the certificate before this one, "
+                       "of edition 5, is withdrawn.")):
+            with self.subTest(past=past):
                 self.assertEqual(text(con_pages.certified_said(
-                    self.site, certified(edition=7, past=past), entry)), said)
+                    self.site, certified(edition=7, past=past))), begin + said)
 
     def test_where_the_order_of_a_lot_is_turned_round(self):
         """Where the rule says so, and by quotients alone."""
@@ -99,11 +98,10 @@ class Sections(Case):
                 ("alternating", "hare", ["B", "A"], False), ("fixed", "dhondt", ["B", "A"], False),
                 ("alternating", "dhondt", [], False)):
             with self.subTest(lot=lot, method=method):
-                found = con_pages.seats_sections(
-                    self.site, "c1", certified(lot=drawn), certified()["progress"],
-                    ENTRY | {"lot": lot, "method": method}, 9_000)
+                con = certified(lot=drawn, lot_rule=lot, method=method)
+                found = con_pages.seats_sections(self.site, "c1", con, 9_000)
                 self.assertEqual("this order is turned round" in text(found), wanted)
-        found = con_pages.seats_sections(self.site, "c1", certified(), {}, None, 9_000)
+        found = con_pages.seats_sections(self.site, "c1", certified(), 9_000)
         self.assertNotIn("turned round", text(found))
         self.assertEqual(tables(found)["Seats of each list"][1:],
                          [["A Alpha", "1"], ["B Beta", "2"], ["Total", "3"]])
@@ -178,47 +176,42 @@ class Sections(Case):
                     self.assertEqual(shown, rows)
 
     def test_votes_and_shares(self):
-        """Dashes before anything is counted. A share is of the rule's votes; without the rule it is
-        the office's, which is rounded down."""
-        con = counting(blank=8, base="lists")
-        self.assertEqual(con_pages.share_of(con, None, con["tally"]["lists"][0]), 7000)
-        for entry, base in ((None, 108), ({"base": "valid"}, 108), ({"base": "lists"}, 100)):
-            self.assertEqual(con_pages.base_of(con, entry), base)
-        for base, entry, wanted in (("lists", ENTRY, None), ("valid", ENTRY, 741),
-                                    ("valid", None, 740)):
-            self.assertEqual(con_pages.blank_share(counting(blank=8, base=base), entry), wanted)
-        for more, entry, rows in (
-                ({"blank": 8}, ENTRY, [["A Alpha", "70", "64.81%", "yes"],
-                                       ["B Beta", "30", "27.78%", "yes"],
-                                       ["Blank votes", "8", "7.41%", "–"]]),
-                ({"closed": 0, "received": 4}, ENTRY, [["A Alpha", "–", "–", "–"],
-                                                       ["B Beta", "–", "–", "–"]]),
-                ({"blank": 8}, None, [["A Alpha", "70", "64.81%", "yes"],
-                                      ["B Beta", "30", "27.77%", "yes"],
-                                      ["Blank votes", "8", "7.40%", "–"]])):
-            with self.subTest(more=more, entry=entry):
-                found = con_pages.votes_sections(self.site, "c1", counting(**more), entry, 9_000)
+        """Dashes before anything is counted. A share is of the rule's votes, rounded half up."""
+        for base, wanted in (("lists", None), ("valid", 741)):
+            self.assertEqual(con_pages.blank_share(counting(blank=8, base=base)), wanted)
+        for more, rows in (
+                ({"blank": 8}, [["A Alpha", "70", "64.81%", "yes"],
+                                ["B Beta", "30", "27.78%", "yes"],
+                                ["Blank votes", "8", "7.41%", "–"]]),
+                ({"blank": 8, "base": "lists"}, [["A Alpha", "70", "70.00%", "yes"],
+                                                 ["B Beta", "30", "30.00%", "yes"],
+                                                 ["Blank votes", "8", "–", "–"]]),
+                ({"closed": 0, "received": 4}, [["A Alpha", "–", "–", "–"],
+                                                ["B Beta", "–", "–", "–"]])):
+            with self.subTest(more=more):
+                found = con_pages.votes_sections(self.site, "c1", counting(**more), 9_000)
                 [shown] = tables(found).values()
                 self.assertEqual(shown[1:], rows)
         for more, wanted in (({}, False), ({"closed": 4, "past": PAST}, True),
                              ({"closed": 4}, False)):
-            found = con_pages.votes_sections(self.site, "c1", counting(**more), ENTRY, 9_000)
+            found = con_pages.votes_sections(self.site, "c1", counting(**more), 9_000)
             self.assertEqual(self.site.say("may_change") in text(found), wanted)
-        for entry in (None, ENTRY, ENTRY | {"threshold": 300}):
-            found = "".join(con_pages.votes_sections(self.site, "c1", counting(), entry, 9_000))
-            is_drawn = bool(entry and entry["threshold"])
+        for threshold in (0, 300):
+            found = "".join(con_pages.votes_sections(
+                self.site, "c1", counting(threshold=threshold), 9_000))
+            is_drawn = threshold > 0
             self.assertEqual(["3.00%" in found, 'class="threshold"' in found], [is_drawn] * 2)
         for former, wanted in (({}, False), ({"c1": {"seats": {}, "votes": {"A": 1}, "valid": 2}},
                                              True)):
             self.site.former = former
-            found = con_pages.votes_sections(self.site, "c1", counting(closed=4), ENTRY, 9_000)
+            found = con_pages.votes_sections(self.site, "c1", counting(closed=4), 9_000)
             self.assertEqual(self.site.say("change_shares") in text(found), wanted)
 
     def test_the_lines_under_the_title(self):
-        self.assertEqual(con_pages.con_head(self.site, certified(), ENTRY, None)["headline"],
+        self.assertEqual(con_pages.con_head(self.site, certified(), None)["headline"],
                          "\u2068Beta\u2069 has won 2 of 3\u00a0seats.")
         for closed, words in ((1, "leads with 70.00%"), (4, "has the most votes")):
-            found = con_pages.con_head(self.site, counting(closed=closed, spoiled=20), ENTRY, 240)
+            found = con_pages.con_head(self.site, counting(closed=closed, spoiled=20), 240)
             self.assertIn("\u2068Alpha\u2069", found["headline"])
             self.assertEqual("leads" in found["headline"], closed == 1)
             # 120 papers of 240 electors
@@ -519,9 +512,13 @@ class Places(Case):
             self.assertIn("32.86", found["counted_line"]["turnout"])
         found = places.place_head(self.site, ENTRY, self.place(closed=1), named)["headline"]
         self.assertEqual(("leads" in found, "63.16" in found), (True, True))
-        found = places.place_head(self.site, ENTRY, self.place(votes={"A": 30, "B": 30}), named)
-        self.assertEqual(found["headline"], self.site.say(
-            "place_level", first="\u2068Alpha\u2069", second="\u2068Beta\u2069", share="46.15"))
+        for votes, who, share in (
+                ({"A": 30, "B": 30}, "\u2068Alpha\u2069 and \u2068Beta\u2069", "46.15"),
+                ({"A": 30, "B": 30, "C": 30, "D": 3},
+                 "\u2068Alpha\u2069, \u2068Beta\u2069 and \u2068Gamma\u2069", "30.61")):
+            found = places.place_head(self.site, ENTRY, self.place(votes=votes), named | {
+                "C": "Gamma", "D": "Delta"})
+            self.assertEqual(found["headline"], f"{who} have as many votes here, {share}% each.")
         self.assertIsNone(places.place_head(self.site, ENTRY, self.place(
             votes={"A": 0, "B": 0}), named)["headline"])
 
@@ -581,7 +578,7 @@ class Places(Case):
         sums = [self.place("South 10"), self.place("South 2", votes={"A": 30, "B": 30}, closed=1),
                 self.place("East", votes={"A": 0, "B": 0}, closed=0),
                 self.place("West", votes={"A": 10, "B": 80})]
-        [page] = places.table_pages(self.site, "c1", self.CON, self.ENTRY, sums)
+        [page] = places.table_pages(self.site, "c1", self.CON, self.ENTRY, sums, 2)
         written = page(NOON)
         [rows] = Page(written).tables.values()
         self.assertEqual(rows[1:], [
@@ -591,10 +588,10 @@ class Places(Case):
                          [f"place-c1-{n}.html" for n in (3, 2, 1, 4)])
         # Also where the two after it have as many votes, and where there is but one list.
         [page] = places.table_pages(self.site, "c1", self.CON, self.ENTRY, [
-            self.place("East", votes={"A": 55, "B": 20, "C": 20})])
+            self.place("East", votes={"A": 55, "B": 20, "C": 20})], 3)
         self.assertEqual(Page(page(NOON)).tables.popitem()[1][1][1], "A 55.00%")
         [page] = places.table_pages(self.site, "c1", self.CON, self.ENTRY, [
-            self.place("East", votes={"A": 10})])
+            self.place("East", votes={"A": 10})], 3)
         self.assertEqual(Page(page(NOON)).tables.popitem()[1][1][1], "A 66.67%")
 
     def test_what_the_first_screen_finds(self):

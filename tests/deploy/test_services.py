@@ -18,7 +18,7 @@ from tests.support.office import SETUP, with_stations
 from tests.support.proxy import proxy
 from tests.support.record import LODGED, a_command, chained
 from tests.support.running import PATIENCE, free_port, until
-from tests.support.scripts import PROGRAMS
+from tests.support.scripts import PROGRAMS, module
 from tests.support.site import DEPLOY, SiteCase, backup, new, plain, ran, rows, serving
 
 # The rights that systemd finds of each service: all may use the network, have the system's
@@ -55,6 +55,8 @@ BOOTED = {
     "office-recorder.service": {"WantedBy": "multi-user.target", "Restart": "always",
                                 "RestartSec": "100ms", "StartLimitIntervalSec": "0",
                                 "SupplementaryGroups": "www-data",
+                                "Environment": "RECORDER=",
+                                "EnvironmentFile": "-/etc/office/recorder.env",
                                 "RuntimeDirectory": "office-recorder", "LogsDirectory": "office",
                                 "LogsDirectoryMode": "0750", "UMask": "0027",
                                 "LogRateLimitIntervalSec": "0", "OOMScoreAdjust": "-500",
@@ -86,7 +88,8 @@ BOOTED = {
 @contextlib.contextmanager
 def started(unit, places):
     """The process that a unit starts, with other places in its line."""
-    process = subprocess.Popen(shlex.split(placed(lines_of(unit)["ExecStart"][0], places)),
+    line = placed(lines_of(unit)["ExecStart"][0], {"$RECORDER": "", **places})
+    process = subprocess.Popen(shlex.split(line),
                                stdout=subprocess.PIPE, stderr=subprocess.STDOUT, text=True)
     try:
         yield process
@@ -181,6 +184,38 @@ class Services(SiteCase):
         self.assertIn(f"\nuser {lines_of('office-recorder.service')['SupplementaryGroups'][0]};\n",
                       (DEPLOY / "nginx.conf").read_text(encoding="utf-8"))
 
+    def test_what_a_board_adds_to_the_words_of_the_recorder(self):
+        """It is kept in /etc/office, so an upgrade leaves it, and another computer has it with the
+        archive; an absent file adds no word."""
+        page = (DEPLOY / "README.md").read_text(encoding="utf-8")
+        [(word, file)] = re.findall(r"^    echo RECORDER=(\S+) > (\S+)$", page, re.M)
+        name, text = module("site_places").template_of("office-recorder.service", (
+            DEPLOY / "office-recorder.service").read_text(encoding="utf-8"))
+        self.assertEqual((word, name), ("--two-of-board", "office-recorder@.service"))
+        self.assertIn(f"\nEnvironmentFile=-{file.replace('NAME', '%i')}\n", text)
+        self.assertRegex(text, r"\nExecStart=\S+ \S+/recorder\.py \$RECORDER /run/")
+        [kept] = re.findall(r"^    .* tar -C / -czf office-\$site.tar.gz (.*)$", page, re.M)
+        self.assertIn(str(Path(file.replace("NAME", "$site")).parent).lstrip("/"), kept.split())
+        own = {"office-alarm@.service.d", "office-recorder@results.example.org.service"}
+        for name in (*own, "multi-user.target.wants", "multi-user.target.wants/office-a@b.service"):
+            Path("etc/systemd/system", name).mkdir(parents=True, exist_ok=True)
+        found = re.search(r"\$\(cd / && (.*?)\)", kept)[1]
+        self.assertEqual({*ran("sh", "-c", found).split()},
+                         {f"etc/systemd/system/{name}" for name in own})
+
+    def test_the_programs_that_are_installed_by_hand(self):
+        """Each has beside it whatever of this folder it imports."""
+        page = (DEPLOY / "BY_HAND.md").read_text(encoding="utf-8")
+        lines = re.findall("^    install -m [67][45][45] (.*) /usr/local/lib/office/$", page, re.M)
+        files = [file for word in " ".join(lines).split() for file in DEPLOY.parent.glob(word)]
+        self.assertGreater(len(files), 40)
+        there, ours = {file.stem for file in files}, {file.stem for file in DEPLOY.glob("*.py")}
+        for file in files:
+            if file.suffix in ("", ".py"):
+                with self.subTest(file=file.name):
+                    found = re.findall(r"^\s*(?:from|import) (\w+)", file.read_text("utf-8"), re.M)
+                    self.assertEqual({*found} & ours - there, set())
+
     def test_the_names_that_the_proxy_comes_with(self):
         """BY_HAND.md gives each a password, and each has a role that may do something."""
         names = re.findall(r"^(\S+) (\w+);$",
@@ -230,10 +265,115 @@ class Services(SiteCase):
                         (copying.stdout.read().splitlines()[-1], copying.wait(timeout=PATIENCE)),
                         ("c1 agrees", 0))
 
+    def test_a_lost_machine_by_the_lines_of_the_package(self):
+        """Only the desk is started before the record is sent again; the record that is there stays,
+        and what is left of a database is put aside. Nothing is removed."""
+        page = (DEPLOY / "README.md").read_text(encoding="utf-8").split(
+            "\n**When the machine is lost**")[1].split("\n## ")[0]
+        self.assertEqual(re.findall(r"\brm\b|-delete|stop nginx", page), [])
+        first, last = re.findall(r"(?:^    .*\n)+", page, re.M)
+        self.assertEqual(last, "    office-site results.example.org\n")
+        for place in ("/var/", "/etc/office"):
+            first = first.replace(place, f"$PWD/computer{place}")
+        first = first.replace("/usr/lib/office/replay", "replay").replace("-C / ", "-C computer ")
+        first = first.replace("ls -l", "ls >&2").replace("/$setup", "computer/$setup")
+        first = first.replace("/etc/nginx", "computer/etc/nginx")
+        Path("bin").mkdir()
+        for name, does in (
+                ("systemctl", ""), ("curl", ""), ("replay", "cat"),
+                ("install", 'eval last=\\${$#}; case "$1" in -d) mkdir -p "$last";; *) '
+                            'eval from=\\${$(($# - 1))}; cp "$from" "$last";; esac'),
+                ("office-site", "mkdir -p computer/var/log/office/$1 "
+                                "computer/etc/nginx/office/$1; "
+                                "echo DESK=8080 >> computer/etc/office/$1/ports; "
+                                "echo for everybody: now > "
+                                "computer/etc/nginx/office/$1/embargo.conf")):
+            file = Path("bin", name)
+            file.write_text(f'#!/bin/sh\necho "{name} $*" >> calls\n{does}\n', encoding="utf-8")
+            file.chmod(0o755)
+        site = "results.example.org"
+        Path(f"old/etc/office/{site}").mkdir(parents=True)
+        Path(f"old/etc/office/{site}/setup.toml").write_text("of the archive", encoding="utf-8")
+        Path(f"old/etc/office/{site}/ports").write_text("of another computer", encoding="utf-8")
+        Path(f"old/etc/office/{site}/names").write_text("of the archive", encoding="utf-8")
+        subprocess.run(["tar", "-C", "old", "-czf", f"office-{site}.tar.gz", "etc"], check=True)
+        Path("commands.log").write_text("of HOST", encoding="utf-8")
+        Path("office-20261126T221400Z-00001234.db").write_text("the copy", encoding="utf-8")
+        data, record = (Path(f"computer/var/{place}/office/{site}") for place in ("lib", "log"))
+        kept = Path(f"computer/etc/office/{site}/setup.toml")
+        for is_there in (False, True):
+            with self.subTest(is_there=is_there):
+                shutil.rmtree("computer", ignore_errors=True)
+                Path("computer").mkdir()
+                if is_there:
+                    for file, text in ((data / "office.db-wal", "a log"), (
+                            record / "commands.log", "of this computer"), (
+                            kept, "newer than the archive")):
+                        file.parent.mkdir(parents=True)
+                        file.write_text(text, encoding="utf-8")
+                Path("calls").unlink(missing_ok=True)
+                done = subprocess.run(["sh", "-c", first], text=True, capture_output=True, env={
+                    **os.environ, "PATH": f"{Path.cwd()}/bin:{os.environ['PATH']}"})
+                self.assertEqual((done.returncode, done.stderr),
+                                 (0, "office-20261126T221400Z-00001234.db\n"))
+                *said, hour, sent = done.stdout.split("\n")
+                self.assertEqual(hour, "for everybody: now")
+                self.assertEqual([line.split(":")[0] for line in said], [
+                    "nothing is unpacked", "of two records this one is used"] if is_there else [])
+                self.assertEqual(sent, (record / "commands.log").read_text())
+                self.assertEqual(sent, "of this computer" if is_there else "of HOST")
+                self.assertEqual((data / "office.db").read_text(), "the copy")
+                self.assertEqual(kept.read_text(),
+                                 "newer than the archive" if is_there else "of the archive")
+                # (those of another computer may be another site's here)
+                self.assertEqual(kept.with_name("ports").read_text(), "DESK=8080\n")
+                self.assertEqual([file.read_text() for file in data.glob("before-*/office.db-wal")],
+                                 ["a log"] * is_there)
+                self.assertFalse((data / "office.db-wal").exists())
+                calls = [line for line in Path("calls").read_text().splitlines()
+                         if "install" not in line and "curl" not in line]
+                Path("calls").unlink()
+                self.assertEqual([calls[0], *calls[2:5]], [
+                    "systemctl daemon-reload", f"office-site {site} --start-nothing",
+                    "systemctl reload-or-restart office-ports", f"systemctl start office@{site}"])
+                self.assertRegex(calls[1], f"^systemctl disable --now office-press@{site} ")
+                self.assertRegex(calls[5], "^replay --after 00001234 ")
+                self.assertEqual(len(calls), 6)
+        # An archive that is cut is unpacked again: the setup goes last.
+        shutil.rmtree("computer")
+        Path("computer").mkdir()
+        archive = Path(f"office-{site}.tar.gz")
+        whole = archive.read_bytes()
+        for data_of, is_unpacked in ((whole[:-len(whole) // 2], False), (whole, True)):
+            archive.write_bytes(data_of)
+            done = subprocess.run(["sh", "-c", first], capture_output=True, env={
+                **os.environ, "PATH": f"{Path.cwd()}/bin:{os.environ['PATH']}"})
+            self.assertEqual((done.returncode == 0, kept.exists()), (is_unpacked,) * 2)
+        self.assertEqual(kept.with_name("names").read_text(), "of the archive")
+        Path("calls").unlink()
+        # Wherever the lines end before the copy is in its place, the record is: office-site then
+        # makes no empty office beside it.
+        for place in ("", "bin/mv"):
+            with self.subTest(place=place):
+                shutil.rmtree("computer")
+                (data / "office.db").parent.mkdir(parents=True)
+                (data / "office.db").touch()
+                if place:
+                    Path(place).write_text("#!/bin/sh\nexit 1\n", encoding="utf-8")
+                    Path(place).chmod(0o755)
+                done = subprocess.run(
+                    ["sh", "-c", first if place else first.replace("copy=", "copy=not-")],
+                    text=True, capture_output=True, env={
+                        **os.environ, "PATH": f"{Path.cwd()}/bin:{os.environ['PATH']}"})
+                self.assertNotEqual(done.returncode, 0)
+                self.assertEqual((record / "commands.log").exists(), bool(place))
+                self.assertEqual(Path("calls").exists(), bool(place))
+                self.assertEqual((data / "office.db").read_text(), "")
+
     def test_another_machine_in_the_place_of_a_lost_one(self):
-        """BY_HAND.md's steps for it, over an office that step 3 has made: nothing is written into
-        while it runs, what the copy lacks is sent once the office listens, and the names and
-        passwords are those that step 5 has kept."""
+        """BY_HAND.md's steps for it, also over an office that step 3 has made: nothing is written
+        into while it runs, what the copy lacks is sent once the office listens, and the names and
+        passwords are those that step 5 has kept. Who has looked starts the rest."""
         page = (DEPLOY / "BY_HAND.md").read_text(encoding="utf-8")
         [keep] = re.findall("^    (.* tar -C / -c.*)$", page, re.M)
         steps = re.findall("^    (.*)$",
@@ -258,7 +398,7 @@ class Services(SiteCase):
                 if name == "s1":
                     self.assertEqual(backup("office.db", ".")[::2], (0, ""))
         [copy] = Path().glob("office-*.db")
-        copy.rename("office-20261126T221400Z-00001234.db")
+        copy.rename("office-20261126T221400Z-00000002.db")
         # The second one's time is before that of the copy: the clock was put back.
         lines = [entry for name in bodies for entry in (
             a_command(bodies[name], f"/station/{name}/lodge"),
@@ -268,15 +408,14 @@ class Services(SiteCase):
                 lines[2], lines[3] | {"to": 3})))
         Path("commands.log").write_bytes(record)
 
-        Path("www/record.csv").touch()
         shutil.copy(SYSTEMCTL, "bin")
         with serving(with_stations(2), "lib/office.db") as fresh:
-            places = {"8080": fresh.port, "-o office -g office ": "", "--after 1234": "--after 2",
-                      "-o office-recorder -g office-recorder ": "", "tar -C /": "tar -C new",
+            places = {"8080": fresh.port, "-o office -g office ": "",
+                      "-00001234.db": "-00000002.db", "tar -C /": "tar -C new",
+                      "-o office-recorder -g office-recorder ": "",
                       "/usr/local/lib/office/": f"{DEPLOY}/", "/var/lib/office": "lib",
                       "/var/log/office": "log", "/etc/office/setup.toml": "setup.toml",
-                      "/usr/local/share/office": ".", "/etc/nginx/office": ".",
-                      "/var/www/office": "www"}
+                      "/usr/local/share/office": ".", "/etc/nginx/office": "."}
             its = {"PATH": f"{Path.cwd()}/bin:{os.environ['PATH']}",
                    "OFFICE": str(fresh.process.pid), "PROGRAM": str(PROGRAM),
                    "PORT": str(fresh.port)}
@@ -295,14 +434,17 @@ class Services(SiteCase):
         self.assertEqual({file: Path("new", file).read_text(encoding="utf-8") for file in kept},
                          kept)
         self.assertEqual(Path("log/commands.log").read_bytes(), record)
-        # Pages that showed the record of a trial of it would be another record to the recorder.
-        self.assertEqual(os.listdir("www"), [])
-        first, *then = [line.split()
-                        for line in Path("said").read_text(encoding="utf-8").splitlines()]
-        self.assertEqual((first[0], [words[0] for words in then]),
-                         (":stop", [":start", "commands.log:start"]))
-        self.assertEqual(set(first[1:]),
-                         {unit for words in then for unit in words[1:]} | {"office-backup"})
+        self.assertEqual(len([*Path("lib").glob("before-*/office.db")]), 1)
+        first, stop, reload, *then = [
+            line.split() for line in Path("said").read_text(encoding="utf-8").splitlines()]
+        self.assertEqual((first[0], *stop, reload[0], [words[0] for words in then]),
+                         (":disable", ":stop", "office-backup", ":daemon-reload",
+                          ["commands.log:start", "commands.log:enable"]))
+        self.assertEqual({*first[1:]}, {unit for words in then for unit in words[1:]})
+        alone, rest = page.split("\n## When the machine is lost\n")[1].split("    )\n")
+        self.assertEqual(re.findall("^    systemctl (start|enable|restart) (.*)$", alone, re.M),
+                         [("start", "office")])
+        self.assertIn("systemctl enable --now ", rest)
 
     def test_where_several_offices_send_their_copies(self):
         """Each with a key that BY_HAND.md makes, to a folder of its own: none is refused where all

@@ -250,7 +250,7 @@ class OddNames(Case):
         """Those of one word; digits and signs are of none."""
         for text, words in (("Alpha", []), ("Альфа", []), ("Alpha Альфа", []), ("Aльфа", ["Aльфа"]),
                             ("Ωmega one", ["Ωmega"]), ("Α1-b2", []), ("Α1b2 x", ["Α1b2"]),
-                            ("שaם", [])):
+                            ("שaם", []), ("Տol", ["Տol"]), ("Ꮪol", ["Ꮪol"]), ("Mª 2º", [])):
             with self.subTest(text=text):
                 self.assertEqual(odd_names.mixed(text), words)
 
@@ -258,7 +258,9 @@ class OddNames(Case):
         """Controls, and what turns a text round or breaks a line; spaces are none."""
         for text, codes in (("a b\u00a0c\u3000d", []), ("a\tb", ["U+0009"]),
                             ("\u202ea\u200b\u202e", ["U+200B", "U+202E"]), ("a\u2028b", ["U+2028"]),
-                            ("a\u2029b", ["U+2029"]), ("a\U000e0041", ["U+E0041"])):
+                            ("a\u2029b", ["U+2029"]), ("a\U000e0041", ["U+E0041"]),
+                            ("Sol\u3164\u115f", ["U+115F", "U+3164"]), ("\u2800", ["U+2800"]),
+                            ("\u1160\uffa0", ["U+1160", "U+FFA0"]), ("So\u034fl", ["U+034F"])):
             with self.subTest(text=text):
                 self.assertEqual(odd_names.unseen(text), codes)
 

@@ -5,6 +5,7 @@
 
 import os
 import re
+import shutil
 import tomllib
 import unittest
 from unittest import mock
@@ -37,6 +38,8 @@ Town,3 => Town,3,4 => 2 => this row has 4 cells
 seats => places => 1 => no column seats for seats
 code,name => name,name => 1 => the column name comes twice
 Twin Town => Twin\u200bTown => 2 => invisible character, U+200B
+Twin Town => Twin\u3164Town => 2 => invisible character, U+3164
+seats => seats\u200b => 1 => invisible character, U+200B
 Twin Town => Twin\ufffdTown => 2 => name has U+FFFD
 Twin Town => EspaÃ±a => 2 => read in a wrong encoding
 Twin Town => "Twin" Town => 2 => this is not CSV
@@ -121,6 +124,7 @@ ESCAPES = {
     r"\n": "\n",
     r"\0": "\0",
     r"\u200b": "\u200b",
+    r"\u3164": "\u3164",
     r"\ufffd": "\ufffd",
     "LONG": "x" * 81,
     "WIDE": "Ñ" * 41,
@@ -140,6 +144,23 @@ def cases():
         *other, row = place.split(" ")
         at = other[0] if other else file
         yield file, old, new, f"{at}, row {row}: " if row else f"{at}: ", said
+
+
+# Names of persons, parties and places as they are.
+NAMES = """
+José Núñez Íñiguez|ÁNGELA MUÑOZ ÜRQUIZA|Mª Ángeles Ibáñez|M.ª del Mar 2.º|Nº 1, 3ª planta, 5 °
+Begoña Agüero–Etxeberria|Iñaki Ñandú Goñi|Itziar Aldecoa-Ibarra|Marcel·lí Pallarès i Òdena
+L’Hospitalet d’Òrrius|l'Àngels Vilà|Parcel•la dels Països|COL·LEGI D´ENGINYERS|Xoán Míguez “O Rei”
+¡TERUEL EXISTE!|¿Y TÚ? ¡SÍ!|¡EXISTE¡|Unión «Más» País|Juntos… ¡sí!|Sí…, 50 %, y 5 €|€UROPA & Eur€
+João Conceição D’Ávila|Antônio Brandão–Corrêa|Lourenço de Sá à Beira|Ça ira, Français
+L’Haÿ-les-Roses|SACRÉ-CŒUR — L’ŒUVRE|Sœur Hélène Noël|Bœuf d’Aÿ|Île-d’Yeu|Jürgen Groß|Käthe Öztürk
+„Grüne Liste“|‚Die Grünen‘|‹Freie Wähler›|»Bürger«|Partei “Bürger”liste|Å. Ærø-Østergård|Šime Žižek
+Nåden Mäki|Pîrvu Ștefan Š.|Partido® y Marca™|© Unión|½ hora|£5 y ¥5 y 5¢|5 ¤, § 12|µm|Ana†|Ana‡
+LISTA ŠIBENIK|MILOŠ ŽUŽA|Mañana, José y CÍA|CAÑAMERO Y PÉREZ|Ruiz-Gámez, José María|LÓPEZ Y GÓMEZ
+Ana\xa0María|José\xa0Ángel|Virgen\xa0de\xa0la\xa0Peña
+""".replace("Ștefan Š.", "Stefan Š.").strip().replace("\n", "|").split("|")
+# Names with letters that show what has written them, if it is not Windows-1252.
+OTHERS = ["Damián Inés", "Ramón Pérez", "José Peral", "Inés Añón", "Jesús Belén Martínez Muñoz"]
 
 
 class Faults(Case):
@@ -218,7 +239,8 @@ class Faults(Case):
         self.assertEqual(*names)
         sources = "".join(
             (ROOT / "deploy" / name).read_text(encoding="utf-8")
-            for name in ("setup-from-tables", "setup_tables.py", "setup_made.py")
+            for name in (
+                "setup-from-tables", "setup_lists.py", "setup_made.py", "setup_tables.py")
         )
         unused = [
             key
@@ -366,6 +388,72 @@ class Files(Case):
             [station["code"] for con in cons for station in con["station"]],
             ["01007-001-A", "01007-012-A", "02007-001-B"],
         )
+
+    def test_zeros_that_the_table_of_constituencies_lost(self):
+        """The line that is said, once it is written, is all that is needed."""
+        tables = {name: text.replace("c1,", "01,").replace("c2,", "02,")
+                  for name, text in TABLES.items()}
+        lost = tables["constituencies.csv"].replace("01,", "1,").replace("02,", "2,")
+        self.write(tables | {"constituencies.csv": lost})
+        advice = 'code = { column = "code", digits = 2 }'
+        self.assertIn(f"lists.csv, row 2: constituencies.csv has no constituency 01, but 1: write "
+                      f"{advice} below [constituencies] in columns.toml", self.refused())
+        self.write(tables | {"constituencies.csv": lost}, f"{COLUMNS}[constituencies]\n{advice}\n")
+        self.assertEqual(self.made(), SETUP.replace('"c1"', '"01"').replace('"c2"', '"02"'))
+        # (of a code of two columns nothing is advised)
+        parts = tables["constituencies.csv"].replace("01,", "0,1,").replace("02,", "0,2,")
+        self.write(tables | {"constituencies.csv": parts.replace("code,", "a,b,"),
+                             "lists.csv": tables["lists.csv"].replace("01,", "001,")},
+                   COLUMNS + '[constituencies]\ncode = ["a", "b"]\n')
+        said = "lists.csv, row 2: constituencies.csv has no constituency 001"
+        self.assertIn(said, self.refused())
+
+    def test_names_in_what_was_a_guess(self):
+        """Names of nine languages in Windows-1252 are taken, with the signs that they have. Of
+        those in what MS-DOS or an old Macintosh wrote each table is refused, unless it is named."""
+        text = TABLES["candidates.csv"].strip().replace(",", ";")
+        rows = [line.rpartition(";")[2] for line in text.split("\n")[1:]]
+        for encoding, names in (("cp1252", NAMES), *((one, OTHERS) for one in (
+                "cp850", "cp437", "mac_roman"))):
+            for name in names:
+                with self.subTest(encoding=encoding, name=name):
+                    self.write()
+                    data = text.replace(rows[0], name).encode(encoding)
+                    (self.folder / "candidates.csv").write_bytes(data)
+                    if encoding == "cp1252":
+                        made = self.made()
+                    else:
+                        self.assertIn("candidates.csv, row 2: name looks as if it was read in a "
+                                      "wrong encoding: ", "\n".join(self.refused()))
+                        made = self.made("--encoding", encoding)
+                    self.assertEqual(made, SETUP.replace(rows[0], " ".join(name.split())))
+
+    def test_the_example_as_others_save_it(self):
+        """As "CSV (MS-DOS)" and "CSV (Macintosh)"."""
+        for name in TABLES:
+            shutil.copy(ROOT / "examples/tables" / name, self.folder)
+        shutil.copy(ROOT / "examples/tables/columns.toml", self.folder)
+        text = (self.folder / "candidates.csv").read_text(encoding="utf-8")
+        for encoding in ("cp850", "mac_roman"):
+            (self.folder / "candidates.csv").write_bytes(text.encode(encoding))
+            self.assertIn("read in a wrong encoding: In", "\n".join(self.refused()))
+
+    def test_rows_within_a_cell(self):
+        """A quote that opens a cell and another that closes one, some rows further down: the rows
+        between are no text of this cell. In few columns it may be a text, unless it is a code."""
+        for columns, old, new, said in (
+                ("", "s1,300,2\nc1,s2,400,\n", '"s1,300,2\nc1,s2",400,\n', "row 2: code has a cell "
+                 "of 2 lines, with as many separators as rows have"),
+                (",hall", "300,2\nc1,s2,400,\nc2,s3,500,0\n",
+                 '300,2,"East\nc1,s2,400,,Hall\nc2,s3,500,0,West"\n',
+                 "row 2: hall has a cell of 3 lines, with as many separators as rows have")):
+            with self.subTest(new=new):
+                stations = TABLES["stations.csv"].replace("agents", f"agents{columns}")
+                self.assertIn(old, stations)
+                for ends in ("\n", "\r\n", "\r"):
+                    found = stations.replace(old, new).replace("\n", ends)
+                    self.write(TABLES | {"stations.csv": found.strip()})
+                    self.assertIn(f"stations.csv, {said}", "\n".join(self.refused()))
 
     def test_a_table_that_is_missing(self):
         for name in TABLES:

@@ -313,6 +313,10 @@ class Codes(OfTables):
                 ("¡!", "PB", '"+" = "one"', ["X", "PB"])):
             with self.subTest(codes=codes):
                 self.assertEqual(self.lists(party, other, codes), wanted)
+        self.edited(("lists.csv", "PC,", "PB+,"), ("candidates.csv", ",PC,", ",PB+,"),
+                    columns=COLUMNS + '[codes]\n"PB-" = "one"\n')
+        self.assertIn("\nPB+ and PB have one code, one: their votes are summed together; ",
+                      self.said())
 
     def test_a_code_that_is_the_party_of_another_list(self):
         """Rows of candidates with it are of the list of this code, which is noted once."""
@@ -333,6 +337,89 @@ class Codes(OfTables):
                     f" rows of candidates with {code} are of {name}"
                     for code, name, other in (("PA", "Party B", "Party A"),
                                               ("PB", "Party A", "Party B")) if noted])
+
+    def test_a_list_that_another_constituency_has(self):
+        """Its candidates are of no list that is alike, in letters, in name or by a code that was
+        made; the fault names the row that has it."""
+        for party, name, text, said in (
+                ("PB+", "Party B+", "PB", "no list PB, and lists.csv, row 3, has"),
+                ("PB.", "Party B+", "pb", "no list pb, and lists.csv, row 3, has"),
+                ("PX", "PB", "PB", "no list PB, and lists.csv, row 3, has"),
+                ("PX", "PX", "PB", "no list PB, and lists.csv, row 3, has"),
+                ("PX", "PX", "PY", "no list PY")):
+            with self.subTest(party=party, name=name, text=text):
+                self.edited(("lists.csv", "PC,Party C", f"{party},{name}"),
+                            ("candidates.csv", "c2,PC", f"c2,{text}"))
+                found = [line for line in self.faults() if " no list " in line]
+                more = " it in another constituency" if "lists.csv" in said else ""
+                said = f"the constituency c2 has {said}{more}"
+                self.assertEqual(found, [f"candidates.csv, row {row}: {said}"
+                                         for row in (13, 14, 15)])
+
+    def test_a_code_that_was_made_is_no_party(self):
+        """P+ gets the code P-2, and candidates of the party P-2 are not its own."""
+        lists = "constituency,order,party,name\nc1,1,P,A\nc1,2,P-2,B\nc2,1,P,A\nc2,2,P+,C\n"
+        candidates = TABLES["candidates.csv"].replace(",PA,", ",P,").replace(",PB,", ",P-2,")
+        for text, row in (("P+", None), ("P-2", 3)):
+            with self.subTest(text=text):
+                self.write(TABLES | {"lists.csv": lists,
+                                     "candidates.csv": candidates.replace(",PC,", f",{text},")})
+                if row:
+                    said = ("candidates.csv, row 13: the constituency c2 has no list P-2, and "
+                            "lists.csv, row 3, has it in another constituency")
+                    self.assertIn(said, self.refused())
+                else:
+                    cons = tomllib.loads(self.made())["constituency"]
+                    self.assertEqual([one["code"] for con in cons for one in con["list"]],
+                                     ["P", "P-2-2", "P", "P-2"])
+
+    def test_a_code_that_is_made_is_of_no_other_party(self):
+        """Of none that another has in the table: a second one of a name, without parties."""
+        lists = "constituency,order,code,name\nc1,1,X,PA\nc1,2,,PB\nc2,1,PB,PA\nc2,2,,PC\n"
+        self.write(TABLES | {"lists.csv": lists})
+        text, said = self.run_tool("--rule", "loreg", self.folder)
+        cons = tomllib.loads(text)["constituency"]
+        self.assertEqual([one["code"] for con in cons for one in con["list"]],
+                         ["X", "PB-2", "PB", "PC"])
+        self.assertIn("\nPB would have the code PB of PA, and gets PB-2; ", said)
+
+    def test_two_lists_of_candidates_that_would_be_one(self):
+        """One is missing in the table of lists, or rows of one list are written in two ways."""
+        candidates = re.sub(r",\d,", ",", TABLES["candidates.csv"]).replace(",order", "")
+        for first, second, is_taken in (("PB+", "PB", False), ("PB", "PB+", False),
+                                        ("PB-", "PB+", False), ("PB", "pb", True),
+                                        ("PB", "Party B", True), ("Party B", "PB+", False)):
+            with self.subTest(first=first, second=second):
+                found = candidates.replace(",PB,", f",{second},")
+                found = found.replace(f"{second},T,Bea", f"{first},T,Bea")
+                self.write(TABLES | {"candidates.csv": found})
+                self.taken(is_taken, f"candidates.csv, row 7: {second} here and {first} in row 6 "
+                                     "would both be the list PB: if these are two lists, one is")
+
+    def test_a_code_of_columns_toml_that_another_party_has_in_the_table(self):
+        """Two parties have one code only where columns.toml gives it to both; without a column of
+        parties it is noted. The code is then of all its rows, in the table's own too."""
+        for header, code, columns, said in (
+                ("party,code", "X", '"PB" = "X"', "row 5: the code X stands for two parties: PC "
+                 "here, and PB in row 3, of which one has it from [codes] in columns.toml; if th"),
+                ("party,code", "X", '"PB" = "x"', "row 5: the code X stands for two parties: PC "),
+                ("party,code", "X", '"PB" = "X"\n"PC" = "X"', None),
+                ("party,code", "Y", '"PB" = "X"', None),
+                ("party,code", "", '"PB" = "X"\n"PC" = "X"', None)):
+            with self.subTest(code=code, columns=columns):
+                lists = TABLES["lists.csv"].replace("party,", f"{header},")
+                for one, own in (("PA", ""), ("PB", ""), ("PC", code)):
+                    lists = lists.replace(f",{one},", f",{one},{own},")
+                self.write(TABLES | {"lists.csv": lists}, f"{COLUMNS}[codes]\n{columns}\n")
+                self.taken(said is None, f"lists.csv, {said}")
+                if said is None:
+                    cons = tomllib.loads(self.made())["constituency"]
+                    self.assertEqual([one["code"] for con in cons for one in con["list"]],
+                                     ["PA", "X", "PA", code or "X"])
+        lists = "constituency,order,code,name\nc1,1,PA,PA\nc1,2,,PB\nc2,1,PA,PA\nc2,2,X,PC\n"
+        self.write(TABLES | {"lists.csv": lists}, COLUMNS + '[codes]\n"PB" = "X"\n')
+        self.assertIn("\nPC and PB have one code, X: their votes are summed together; if",
+                      self.said())
 
     def test_the_codes_that_were_made_as_a_table(self):
         self.edited(("lists.csv", ",PB,", ",Union of all,"),
@@ -366,6 +453,11 @@ class Published(OfTables):
                       "row 4: constituencies.csv has no constituency c8",
                       "row 5: seats: 3 published, 2 in the tables"):
             self.assertIn(f"published.csv, {words}\n", said)
+
+    def test_a_remark_on_the_table_itself(self):
+        """It is beside those on the others."""
+        said = self.compared('constituency,seats,source\nc1,3,"The\nGazette, p. 3"\nc2,2,\n')
+        self.assertIn("\npublished.csv, row 2: source has a line break and a separator after", said)
 
     def test_a_code_of_two_columns(self):
         """They are read as a code, without a space; a row of all has one of them."""

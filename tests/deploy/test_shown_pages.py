@@ -40,6 +40,10 @@ def web_server(folder):
             del self.headers["If-Modified-Since"]
             return super().send_head()
 
+        def list_directory(self, path):
+            # (as the proxy answers for a folder without its first page)
+            self.send_error(403)
+
     with http.server.ThreadingHTTPServer(("127.0.0.1", 0),
                                          functools.partial(Quiet, directory=folder)) as server:
         threading.Thread(target=server.serve_forever, daemon=True).start()

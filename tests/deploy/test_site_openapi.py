@@ -163,6 +163,7 @@ class SiteOpenapi(SiteCase):
         ask(right, password="x")
         ask("no name")
         ask(right, headers={"Transfer-Encoding": "chunked"})
+        ask(right, headers={"Office-By": "another"})
         ask(right,
             body=b"x"
             * (2 if method == "GET" and target not in ("/clerk.html", "/logout") else 1_048_577))

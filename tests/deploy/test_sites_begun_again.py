@@ -44,8 +44,8 @@ class OfOneSite(Case):
         os.rename(root / DATA, "elsewhere")
         before = tree(root)
         wanted = (1, "", f"office-site: {root / RECORD} has commands, and {root / DATA}/office.db "
-                  "is not there: mount its file system, put it back. If it is lost, move the "
-                  "record aside, and do what /usr/share/doc/office/deploy/README.md says of a "
+                  "is not there: mount its file system, put it back. If it is lost, leave the "
+                  "record there, and do what /usr/share/doc/office/deploy/README.md says of a "
                   "machine that is lost\n")
         for words in ((ONE,), (ONE, "setup.toml"), ("--again",), ("--begin-again", ONE)):
             with self.subTest(words=words):
@@ -56,7 +56,8 @@ class OfOneSite(Case):
         self.assertEqual(office_site(root, ONE)[:2], (0, "nothing was changed\n"))
         shutil.rmtree(root / DATA)
         (root / RECORD).write_bytes(chained(self.first))
-        self.assertEqual(office_site(root, ONE)[0], 0)
+        self.assertIn("office.db is not there", office_site(root, ONE)[2])
+        self.assertEqual(office_site(root, ONE, "setup.toml")[0], 0)
         self.assertTrue((root / DATA / "office.db").exists())
 
     @needs("dpkg-deb", "git", "openssl")
@@ -82,8 +83,8 @@ class OfOneSite(Case):
                 contextlib.redirect_stderr(io.StringIO()):
             tool.act(tool.Machine(root), tool.read_words())
         [aside] = (root / DATA).iterdir()
-        self.assertEqual(([file.name for file in aside.iterdir()], [*pages.iterdir()]),
-                         (["office.db"], []))
+        self.assertEqual([file.name for file in aside.iterdir()], ["office.db"])
+        self.assertEqual([*pages.iterdir()], [pages / f".{aside.name}"])
         # One that cannot tidy up leaves the folder in which it made the new office.
         (root / "var/lib/office/.new-killed/data").mkdir(parents=True)
         before, record = tree(root), (root / RECORD).read_bytes()

@@ -479,6 +479,7 @@ class Slips(SiteCase):
                           "Done.", town | {
                               "Station": None, "A Alpha": "120 votes, 2 seats",
                               "B Beta": "71 votes, 1 seat", "By": "berta, board"})
+                it.run("document.querySelector('#vacate select').selectedIndex = 1")
                 it.type("#vacate input[name=note]", "moved")
                 self.acts(it, "#vacate button", "Ana (A) is gone?",
                           "Done: nobody moves in, the seat is empty.",

@@ -3,6 +3,7 @@
 import concurrent.futures
 import contextlib
 import json
+import os
 import signal
 import socket
 import threading
@@ -12,9 +13,10 @@ from pathlib import Path
 
 from tests.support import model, tools
 from tests.support.case import needs
-from tests.support.clerks import clerks_browser, confirmed, said
+from tests.support.clerks import clerks_browser, confirmed, receipt, said
 from tests.support.desks import answer_of, commanded, desk_with, done, recording_desk
 from tests.support.office import SETUP
+from tests.support.proxy import children
 from tests.support.record import LODGED, a_command, chained, replayed
 from tests.support.recorder import recorder_alone, recorder_at
 from tests.support.running import PATIENCE
@@ -523,13 +525,15 @@ def site_of_board(port):
 
 
 @contextlib.contextmanager
-def counted():
+def counted(before=lambda: None):
     """In place of the office its model, in which every return is closed: A and B have as many
-    votes. Its port."""
+    votes. Its port. Before each answer to a command something may be done."""
     office = model.Office(tomllib.loads(SETUP))
 
     def answered(head, body):
         method, target = head.decode().split(" ")[:2]
+        if method == "POST":
+            before()
         return answer_of(office.ask(method, target, body.decode()))
 
     done(office, "/station/s1/lodge", {"slip": "p1", "votes": [60, 60], "blank": 0, "spoiled": 0})
@@ -592,3 +596,62 @@ class Site(Safeguards):
                 ("berta", "certify", 202), ("simon", "certify", 409), ("simon", "draw", 202),
                 ("berta", "certify", 202), ("berta", "draw", 200), ("berta", "certify", 202),
                 ("simon", "certify", 200)])
+
+    @needs("chromium", "nginx", "openssl")
+    def test_a_request_that_the_browser_sends_again(self):
+        """By itself, since the proxy ended its connection without an answer: the page says what was
+        done, and the second name does not wait once more."""
+        Path("setup.toml").write_text(SETUP, encoding="utf-8")
+        ended = []
+
+        def end():
+            """Kills the processes that serve, in whose place the proxy starts others."""
+            ended.extend(map(int, children(front)))
+            for process in ended:
+                os.kill(process, signal.SIGKILL)
+
+        with counted(end) as port, site_of_board(port) as front:
+            self.assertEqual(front.ask("POST", "/con/c1/draw", '{"edition":1,"order":["B","A"]}',
+                                       "berta").status, 202)
+            with clerks_browser(front, "simon") as it:
+                it.run("document.querySelectorAll('#order select').forEach((e, n) => {"
+                       "e.value = ['B', 'A'][n]; })")
+                it.click("#draw button")
+                it.wait("return !document.getElementById('again').disabled")
+                self.assertEqual(it.text("#said"), "Done.")
+                it.run("document.getElementById('receipt').open = true")
+                self.assertEqual(receipt(it)["By"], "simon, board")
+            self.assertTrue(ended)
+            self.assertEqual([(line["name"], line["status"]) for line in front.record(2)],
+                             [("berta", 202), ("simon", 200)])
+
+    @needs("chromium", "nginx", "openssl")
+    def test_a_page_that_another_name_loaded(self):
+        """In another window of its browser somebody logged in under another name: what is pressed
+        is done under neither, and no receipt has a name that the record has not."""
+        Path("setup.toml").write_text(SETUP, encoding="utf-8")
+        with counted() as port, site_of_board(port) as front:
+            with clerks_browser(front, "berta") as it:
+                def draw(words):
+                    it.run("document.querySelectorAll('#order select').forEach((e, n) => {"
+                           "e.value = ['B', 'A'][n]; })")
+                    it.click("#draw button")
+                    said(it, words)
+
+                draw("it waits until")
+                it.command("Network.setExtraHTTPHeaders",
+                           headers={"Authorization": front.authorization("simon")})
+                draw("this page was loaded under another name")
+                self.assertEqual((it.text("#person"), it.text("#receipt summary")),
+                                 ("berta, board", ""))
+                # What was chosen stays, until the page is loaded again.
+                self.assertEqual(it.run("return [...document.querySelectorAll('#order select')]"
+                                        ".map((e) => e.value)"), ["B", "A"])
+                it.run("document.forms.draw.reset(); location.reload()")
+                it.wait("return document.getElementById('person').textContent === 'simon, board'")
+                said(it, "This is what the office has now.")
+                draw("Done.")
+                it.run("document.getElementById('receipt').open = true")
+                self.assertEqual(receipt(it)["By"], "simon, board")
+            self.assertEqual([(line["name"], line["status"]) for line in front.record(2)],
+                             [("berta", 202), ("simon", 200)])

@@ -192,7 +192,7 @@ class Texts(Case):
 
     def test_what_a_correction_changed(self):
         def figures(slip, votes, blank, spoiled):
-            return slip, data.entries.items(votes, blank, spoiled)
+            return slip, data.items(votes, blank, spoiled)
 
         before = figures("p1", [3, 2], 0, 1)
         for after, wanted in (

@@ -78,7 +78,8 @@ office_room_bytes{part="room",of="/var/ñ"} 7
             '[[room]]\nfolder = "/"\n[[office]]\nname = "1"\n[[office]]\nname = "2"\nseconds = 0\n'
             ), {
                 "seen": "s", "record": {"file": "r", "head": ""},
-                "pages": {"folder": "p", "seconds": 120}, "certificate": {"file": "c", "days": 14},
+                "pages": {"folder": "p", "seconds": 120},
+                "certificate": {"file": "c", "days": 14, "site": ""},
                 "room": [{"folder": "/", "megabytes": 512}],
                 "office": [{"name": name, "desk": "", "closed_to": "", "rules": "", "reader": "",
                             "reader_port": "", "recorder": "", "backups": "", "seconds": seconds}
@@ -129,15 +130,18 @@ office_room_bytes{part="room",of="/var/ñ"} 7
             f"look_at_{part}": found(part)
             for part in ("desk", "recorder", "record", "pages", "room", "certificate", "acts")}))
         config = self.configured(
-            '[record]\nfile = "r"\n[pages]\nfolder = "p"\n[certificate]\nfile = "c"\n[[room]]\n'
-            'folder = "/"\n[[room]]\nfolder = "/var"\n[[office]]\nname = "1"\ndesk = "d"\n'
-            'recorder = "/run/1.sock"\n[[office]]\nname = "2"\nrecorder = "/run/2.sock"\n'
+            '[record]\nfile = "r"\n[pages]\nfolder = "p"\n'
+            '[certificate]\nfile = "c"\nsite = "s"\n'
+            '[[room]]\nfolder = "/"\n[[room]]\nfolder = "/var"\n'
+            '[[office]]\nname = "1"\ndesk = "d"\nrecorder = "/run/1.sock"\n'
+            '[[office]]\nname = "2"\nrecorder = "/run/2.sock"\n'
             '[[office]]\nname = "3"\ndesk = "e"\nrecorder = "/run/3.sock"\n')
         seen["acts"] = {"1": {"/station/s1": [1, 2]}, "2": {"/station/t1": [1, 2]}}
         parts = self.status.look(config, seen)
         self.assertEqual([one.part for one in parts], [
             "desk", "recorder", "recorder", "desk", "recorder", "record", "acts", "pages", "room",
             "room", "certificate"])
+        self.assertEqual(parts[-1].numbers, ("c", 14, "s"))
         # Of an office whose desk is named, and that has acts.
         self.assertEqual(parts[6].numbers[:2], ("d", "1"))
         self.assertEqual(seen["acts"], {"1": {"/station/s1": [1, 2]},

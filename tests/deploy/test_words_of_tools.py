@@ -95,6 +95,8 @@ class Names(Safeguards):
             ("Al\u200bpha", "Alpha"): ["has U+200B, which no reader sees", "look alike"],
             ("Unión", "UNION"): ["look alike"],
             ("A\x9bB", "Beta"): ["has U+009B, which no reader sees"],
+            ("Sol", "Sol\u3164"): ["Sol\\u3164 has U+3164, which no reader sees"],
+            ("\u054fol", "Beta"): ["has letters of two alphabets in \\u054fol"],
         }
         for names, wanted in rows.items():
             with self.subTest(names=names):

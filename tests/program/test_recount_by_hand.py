@@ -6,6 +6,7 @@ import io
 import itertools
 import re
 import sqlite3
+import subprocess
 import sys
 from contextlib import redirect_stderr, redirect_stdout
 from fractions import Fraction
@@ -232,6 +233,25 @@ class OfReturns(Case):
             Path(f"returns/{code}.csv").write_text(text, encoding="utf-8")
         files = ("--setup", "setup.toml", "--returns", "returns", "--lots", "lots")
         return counted(*files)
+
+    def test_a_constituency_without_returns(self):
+        """As one that is not certified yet: the others are counted."""
+        given = self.given(profile("d0") + town() + town("c2"), "", c2=(
+            "AB", "c2-1,p1,0,0,100,50", "c2-2,p2,0,0,10,50"))
+        self.assertEqual(given, Ran(1, "c1 has no returns\nc2 A 2 B 1 (2 of 2 stations)\n", ""))
+
+    def test_the_setup_that_a_site_publishes(self):
+        """It has each rule in its constituency, and the agents of each station."""
+        setup = (profile("d0") + profile("w5", "hare", 500, "lists") + town()
+                 + town("c2", rule="w5"))
+        rows = ("AB", "{}-1,p1,0,0,100,50", "{}-2,p2,9,0,0,50")
+        given = {code: [row.format(code) for row in rows] for code in ("c1", "c2")}
+        by_office = self.given(setup, "c1 B A\nc2 A B\n", **given)
+        self.assertEqual(by_office.status, 0)
+        subprocess.run([ROOT / "deploy/setup-json", "setup.toml", ".", "codes.conf"], check=True,
+                       capture_output=True)
+        files = ("--returns", "returns", "--lots", "lots")
+        self.assertEqual(counted("--setup", "setup.json", *files), by_office)
 
     def test_lots(self):
         """A and B have 100 votes each, C has 10, and the third of three seats is A's or B's."""

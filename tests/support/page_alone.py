@@ -93,7 +93,7 @@ class Page:
         """The requests since the last call: method, target, and what was sent."""
         found = self.run("return office.asked.splice(0)")
         return [f"{method} {target}" if sent is None else f"{method} {target} {sent}"
-                for method, target, sent, _ in found]
+                for method, target, sent, *_ in found]
 
 
 @contextlib.contextmanager

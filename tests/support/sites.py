@@ -4,6 +4,7 @@ import contextlib
 import fcntl
 import io
 import os
+import sqlite3
 import sys
 from pathlib import Path
 from types import SimpleNamespace
@@ -16,6 +17,19 @@ from tests.support.site import DEPLOY
 
 Fault = module("site_machine").Fault
 SETUP = with_stations(2)
+
+
+def made_of(setup, file):
+    """Makes a database that has a setup, and no more."""
+    with contextlib.closing(sqlite3.connect(file)) as it, it:
+        it.execute("CREATE TABLE setup (id INTEGER PRIMARY KEY, version INTEGER, text TEXT)")
+        it.execute("INSERT INTO setup VALUES (1, 1, ?)", (setup,))
+
+
+def setup_in(file):
+    """The setup of such a database, as a file that nobody changes: what is beside it stays."""
+    with contextlib.closing(sqlite3.connect(f"file:{file}?immutable=1", uri=True)) as it:
+        return it.execute("SELECT text FROM setup").fetchone()[0]
 
 
 class OfSites(Case):
@@ -60,7 +74,8 @@ class OfSites(Case):
             fault.said = self.fails[name]
             raise fault
         if name == "office":
-            Path(words[words.index("--db") + 1]).write_bytes(b"a database")
+            made_of(Path(words[words.index("--setup") + 1]).read_bytes().decode(),
+                    words[words.index("--db") + 1])
         elif name == "setup-json":
             (Path(words[2]) / "setup.json").write_text(words[1][-10:], encoding="utf-8")
             Path(words[3]).write_text("# codes\n", encoding="utf-8")

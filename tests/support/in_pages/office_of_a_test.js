@@ -16,7 +16,8 @@ window.confirm = (text) => {
 };
 window.fetch = async (target, { method, body, headers }) => {
   const sent = body instanceof File ? body.name : body ?? null;
-  office.asked.push([method, target, sent, headers["Office-Setup"] ?? null]);
+  const { "Office-Setup": hash = null, "Office-By": name = null, "Office-Once": once = null } = headers;
+  office.asked.push([method, target, sent, hash, name, once]);
   office.underWay += 1;
   try {
     while (office.isHeld) await new Promise((done) => setTimeout(done));
