@@ -498,8 +498,12 @@ def count_of_all(audit, of_papers):
     print_outcome(of_papers)
     if of_papers.lots or audit.lots:
         print_lots(of_papers, "A lot has to decide")
-        if {it.words for it in of_papers.lots} == {it.words for it in audit.lots}:
+        is_same_lot = {it.words for it in of_papers.lots} == {it.words for it in audit.lots}
+        if is_same_lot and of_papers.seats == audit.seats:
             print("By the returns the same lot decides: the certified seats have to be those of the lot that was drawn.")
+        elif is_same_lot:
+            # (the seats of the lot are in the order of the setup in both: others differ)
+            print("The papers give other seats: correct the returns, and certify again.")
         elif of_papers.lots:
             print("By the returns no such lot decides: correct them, and certify again.")
         else:

@@ -268,10 +268,11 @@ class Record(entries.Reading):
 
     def __init__(self, setup):
         super().__init__(setup)
-        self.number, self.closers, self.events = 0, {}, []
+        # (the events by their moments)
+        self.number, self.closers, self.events = 0, {}, {}
         # Of each correction, by its line, the figures before it and after it; and who was gone at
         # the last certificate of a constituency.
-        self.corrections, self.gone_before = {}, {}
+        self.corrections, self.gone_before, self.before = {}, {}, None
 
     def look(self, said):
         """Counts a line that the reader of entries would print: what a paper says of it is looked for there."""
@@ -280,17 +281,28 @@ class Record(entries.Reading):
     def put_back(self, said):
         """An office that was put back has its acts since then: entries names it."""
 
+    def back_before(self, command, led):
+        """Of an office that was put back these are the figures before this correction."""
+        super().back_before(command, led)
+        self.before = self.figures_before(command)
+
     def done(self, command, entry):
-        left, before = self.left, self.figures_before(command)
+        left = self.left
         super().done(command, entry)
         if self.left == left and (command.what in ("correct", "draw") or note_of(command)):
-            self.events.append(command)
+            self.events[self.moment] = command
         if command.what == "correct":
-            self.corrections[command.number] = before, self.figures_of(command.code)
+            self.corrections[command.number] = self.before, self.figures_of(command.code)
         if command.what == "certify":
             self.gone_before[command.code] = set(self.gone)
         if command.what == "close":
             self.closers[command.code] = command.name, command.time
+
+    def undo(self, station, revision=0):
+        """Leaves out the events of a return after this revision: the office has them no more."""
+        for moment in self.returns[station].moments[revision:]:
+            self.events.pop(moment, None)
+        super().undo(station, revision)
 
     def figures_before(self, command):
         """The slip and the numbers of a return before this correction; None where the record lacks
@@ -393,7 +405,7 @@ class Record(entries.Reading):
         """The commands done to a constituency or its stations, in order."""
         codes = {con.code} if what in ("reopen", "draw") else {
             station["code"] for station in con.stations}
-        return [one for one in self.events if one.what == what and one.code in codes]
+        return [one for one in self.events.values() if one.what == what and one.code in codes]
 
 
 def of_whole(file, cons):

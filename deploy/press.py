@@ -29,7 +29,6 @@ cannot be used. Python 3.11 or later.
 import argparse
 import contextlib
 import csv
-import json
 import math
 import re
 import signal
@@ -40,22 +39,22 @@ from datetime import datetime
 from functools import partial
 from pathlib import Path
 
-from press_data import (OPEN, STATION, acts_of, adds_up, con_csv, con_json, datapackage, feed, goes_on, index_csv, index_json,
-                        json_text, manifest, record_csv, results_csv, returns_csv, returns_in, said_before, schemas, shown_heads)
+from press_data import (OPEN, STATION, acts_of, adds_up, con_csv, con_json, datapackage, feed, index_csv, index_json, json_text,
+                        manifest, put_head, results_csv, returns_csv, returns_in, said_before, schemas)
 from press_country import together
 from press_embed import con_embedded, country_embedded, withdrawn_embedded
 from press_files import (allow_provisional, are_withdrawn, begun, changed, forget, is_folder, is_known, keep_room, make_folder,
-                         moment_in, published, put, put_bytes, remove, remove_folder, repair, restore, text_of, text_of_another,
-                         unless_full, use_room, withdraw_of_all, withdraw_of_con)
+                         moment_in, on_disk, published, put, put_bytes, remove, remove_folder, repair, restore, text_of, unless_full,
+                         use_room, withdraw_holders, withdraw_of_all, withdraw_of_con)
 from press_image import shared_image
 from press_lists import elected_csv, elected_pages, list_pages
 from press_offices import Office, OtherSetup, compare_stations, results_of
 from press_pages import aged, con_bodies, con_page, count_pages, details_page, index_pages, unaged, withdrawn_page
 from press_parts import AGE
 from press_places import find_json, places_csv
-from press_results import NoAnswer, read_stations, without_provisional
-from press_site import LANGUAGES, Site, Wrong, fault_of, read_setup
-from press_stations import places_pages, stations_pages
+from press_results import NoAnswer, certificate_of, read_stations, without_provisional
+from press_site import LANGUAGES, Site, Wrong, fault_of, read_setup, without_folder
+from press_stations import electors_counted, left_as_they_are, places_pages, stations_pages
 from press_templates import TemplateError
 
 # The files and the routes of the site, for programs.
@@ -89,27 +88,6 @@ def put_dated(folder, name, write, moment):
         since, text = moment, write(moment)
     put(folder, name, text)
     return since
-
-
-def put_head(folder, file, failures):
-    """Adds the head of the record of commands to those that were shown; the head, or None where there is none. What is wrong with
-    either is one of the failures."""
-    shown = folder / "record.csv"
-    try:
-        head = json.loads(text_of_another(file))
-        before, wrong = shown_heads(shown.read_bytes() if shown.exists() else b"")
-        text = record_csv(before, head)
-        if wrong:
-            failures.append(f"{shown}: {wrong} of its lines are no heads of a record, and are left out")
-        # A recorder that found another record than was shown says so in its head.
-        head["whole"] = goes_on(before, head) and not head.get("fault")
-        if not head["whole"]:
-            failures.append(f"{file}: line {head['n']} is the last of the record, and {shown} has more, or another")
-    except (OSError, ValueError, KeyError, TypeError, AttributeError, RecursionError) as error:
-        failures.append(f"{getattr(error, 'filename', None) or file}: {error!r}")
-        return None
-    put(folder, "record.csv", text)
-    return head
 
 
 def con_of(page):
@@ -227,7 +205,7 @@ def write_returns(office, folder, code, con, entry, seen, may_ask):
             files[edition], seen.compared[code] = name, edition
         elif edition not in files:
             remove(folder, name)
-    files = {of: name for of, name in files.items() if (folder / name).is_file()}
+    files = {of: name for of, name in files.items() if on_disk(folder / name)}
     for name in files.values():
         if not (is_known(folder / name) and is_known(folder / f"{name}.gz")) and (text := text_of(folder / name)):
             put(folder, name, text)
@@ -251,7 +229,7 @@ def write_open(office, folder, site, code, con, entry, seen, may_ask):
     if not entry or not has_open(row):
         seen.stations.pop(code, None)
         return {}
-    before, since, text = seen.stations[code] if code in seen.stations and (folder / name).is_file() else (None, 0, None)
+    before, since, text = seen.stations[code] if code in seen.stations and on_disk(folder / name) else (None, 0, None)
     if may_ask and (before != key or now - since > AGAIN):
         # (pages of the table have these numbers too: it is read where they alone are others)
         text, stations, closed = stations_of(office, code, text if before == key else None, entry)
@@ -259,11 +237,11 @@ def write_open(office, folder, site, code, con, entry, seen, may_ask):
             put(folder, name, closed)
             seen.written.pop(code, None)
             seen.lists.pop(code, None)
-        if stations and (folder / name).is_file():
+        if stations and on_disk(folder / name):
             states = {station: found[0] if found else "missing" for station, found in stations.items()}
             write_stations(folder, site, code, con, entry, seen, name, states)
         seen.stations[code] = key, now, text
-    return {OPEN: name} if (folder / name).is_file() else {}
+    return {OPEN: name} if on_disk(folder / name) else {}
 
 
 def write_stations(folder, site, code, con, entry, seen, file, states=None):
@@ -280,16 +258,6 @@ def write_stations(folder, site, code, con, entry, seen, file, states=None):
         put(folder, f"places-{code}.csv", places_csv(con, places))
     else:
         remove(folder, f"places-{code}.csv")
-
-
-def left_as_they_are(folder, name, pages, before):
-    """These pages, with None in the place of each that shows what it showed when it was made last. `before` keeps what each shows."""
-    found = []
-    for place, (shows, written) in enumerate(pages, 1):
-        file = folder / f"{name}-{place}.html"
-        found.append(None if before.get(file) == shows and file.exists() else written)
-        before[file] = shows
-    return found
 
 
 def write_parts(folder, name, pages, moment):
@@ -340,17 +308,6 @@ class Seen:
             known.clear()
 
 
-def electors_counted(folder, con, entry, returns):
-    """The electors of the stations that are counted, by the setup and the file of closed returns; None where they are not known, or
-    that file is of another moment."""
-    tally = con["tally"]
-    if not entry or tally["closed"] == tally["stations"] or not tally["closed"]:
-        return sum(station["electors"] for station in entry["stations"]) if entry and tally["closed"] else None
-    text = text_of(folder / returns[OPEN]) if OPEN in returns else ""
-    closed = {row[0] for row in returns_in(text)[1]} if adds_up(text, con["view"]) else None
-    return closed and sum(station["electors"] for station in entry["stations"] if station["code"] in closed)
-
-
 def write_con(folder, site, code, con, entry, returns, seen):
     """Writes the files of a constituency, where something of it has changed."""
     if seen.written.get(code) == returns and con is seen.cons.get(code):
@@ -362,7 +319,7 @@ def write_con(folder, site, code, con, entry, returns, seen):
         if file or not con["tally"]["closed"] or not entry:
             write_stations(folder, site, code, con, entry, seen, file)
         remove(folder, open_file(code))
-    has_places = (folder / f"places-{code}-1.html").exists()
+    has_places = bool(on_disk(folder / f"places-{code}-1.html"))
     moments = []
     for one, into in site.editions(folder):
         body, *more = con_bodies(one, code, con, row, entry, returns, electors, has_places)
@@ -444,23 +401,27 @@ class Round:
     """One round over the constituencies, after what was seen in the ones before. Stations are asked for until the answers took this
     many seconds."""
 
-    def __init__(self, offices, folder, site, setup, seen, seconds):
+    def __init__(self, folder, site, setup, seen, seconds):
         self.folder, self.site, self.setup, self.seen, self.seconds = folder, site, setup, seen, seconds
-        before, seen.asked = seen.asked, datetime.now().astimezone()
-        if before and before > seen.asked:
-            # The clock was ahead, and is right by now: what is dated after this is made again.
-            seen.forget()
-            seen.moments.clear()
-        found, self.failures = results_of(offices, setup)
-        self.whole = not self.failures
         # By constituency its office, what it is, and the files of returns that are there.
+        self.offices, self.cons, self.files = {}, {}, {}
+        self.failures, self.failed, self.later, self.whole = [], set(), set(), False
+
+    def ask(self, offices):
+        """Asks the offices for the results of all constituencies."""
+        before, self.seen.asked = self.seen.asked, datetime.now().astimezone()
+        if before and before > self.seen.asked:
+            # The clock was ahead, and is right by now: what is dated after this is made again.
+            self.seen.forget()
+            self.seen.moments.clear()
+        found, self.failures = results_of(offices, self.setup)
+        self.whole = not self.failures
         self.offices = {code: office for code, (office, _) in found.items()}
-        if not site.provisional:
+        if not self.site.provisional:
             found = {code: (office, without_provisional(con)) for code, (office, con) in found.items()}
         self.cons = {code: self.as_before(code, con) for code, (_, con) in found.items()}
-        self.files, self.failed, self.later = {}, set(), set()
         for con in self.cons.values():
-            site.meet(row["code"] for row in con["tally"]["lists"])
+            self.site.meet(row["code"] for row in con["tally"]["lists"])
 
     def as_before(self, code, con):
         """A constituency as it is: the object of before, where it is equal."""
@@ -490,6 +451,12 @@ class Round:
             known.pop(con_of(page.name), None)
         self.seen.lists.clear()
 
+    def mark_con(self, code):
+        """Says on each page of a constituency how old it is."""
+        for site, page in self.pages():
+            if con_of(page.name) == code:
+                self.mark_old(site, page)
+
     def each(self, act, order=None):
         """Does this for each constituency that has not failed."""
         for code in sorted(self.cons, key=order) if order else self.cons:
@@ -498,9 +465,7 @@ class Round:
             try:
                 act(code, self.cons[code])
             except NoAnswer as error:
-                for site, page in self.pages():
-                    if con_of(page.name) == code:
-                        self.mark_old(site, page)
+                self.mark_con(code)
                 self.failed.add(code)
                 self.failures.append(str(error))
                 self.offices[code].compared.discard(code)
@@ -508,8 +473,15 @@ class Round:
                     self.leave_as_it_is()
 
     def waits(self, code):
-        """The order in which stations are asked for: first those of a certificate, and then those that waited longest."""
-        return not self.cons[code]["view"]["certified"], self.seen.stations.get(code, (None, 0))[1]
+        """The order in which stations are asked for: first where pages are of a certificate that is withdrawn, then those of a
+        certificate, and then those that waited longest."""
+        row = self.cons[code]["progress"]
+        is_behind = has_open(row) and self.has_stations(code) and not on_disk(self.folder / open_file(code))
+        return not is_behind, not row["certified"], self.seen.stations.get(code, (None, 0))[1]
+
+    def has_stations(self, code):
+        """Whether there are pages of the stations of a constituency, of this certificate or of another one."""
+        return bool(on_disk(self.folder / f"stations-{code}-1.html"))
 
     def write_returns(self, code, con):
         office, entry, may_ask = self.offices[code], self.setup.get(code), self.seconds > 0
@@ -519,9 +491,17 @@ class Round:
                 raise OtherSetup(office.other[code])
             if entry and may_ask and code not in office.compared and not has_open(con["progress"]):
                 compare_stations(office, code, entry, office.text(f"/con/{code}/stations"))
+            own = f"stations-{code}-{con['view']['edition']}.csv"
+            had_own = on_disk(self.folder / own)
             files = write_returns(office, self.folder, code, con, entry, self.seen, may_ask)
             files |= write_open(office, self.folder, self.site, code, con, entry, self.seen, may_ask)
+            is_read = own in files.values() or not (con["past"] or had_own) if con["view"]["certified"] else OPEN in files
+            if not is_read and self.has_stations(code):
+                self.mark_con(code)  # (those of stations and places are of a certificate that is withdrawn)
+                remove(self.folder, f"places-{code}.csv")
             if con["view"]["certified"]:
+                if not is_read:
+                    remove(self.folder, own)  # (of before: a copy from before took the office's place)
                 files["acts"] = acts_of(self.folder, code, con["view"]["edition"], files)
             row, seen = con["progress"], self.seen
             if entry and (code not in seen.stations if has_open(row) else row["certified"] and seen.compared.get(code) != row["edition"]):
@@ -533,7 +513,7 @@ class Round:
 
     def write_con(self, code, con):
         if self.seen.cons.get(code) is not con:
-            withdraw_of_con(self.folder, code, con["view"]["edition"] if con["view"]["certified"] else None, are_next=True)
+            withdraw_of_con(self.folder, code, certificate_of(con), are_next=True)
         write_con(self.folder, self.site, code, con, self.setup.get(code), self.files[code], self.seen)
 
     def write_rest(self, head):
@@ -554,29 +534,31 @@ class Round:
             write_about(self.folder, self.site, cons, codes, self.setup, self.seen, shown, self.whole and not self.failed | self.later)
 
     def withdraw(self, are_next=False):
-        """Removes the files for programs that say of a constituency that it is certified as it is no more: of all constituencies,
-        and of one that is not written now. Of one that did not answer nobody knows better, unless it is none of the setup. The pages of
-        all may be written next."""
+        """Removes the files for programs that say of a constituency that it is certified as it is no more, or who holds its seats as it
+        is no more: of all constituencies, and of one that is not written now. Of one that did not answer nobody knows better, unless it
+        is none of the setup. The pages of all may be written next."""
         now = {code: con["view"]["edition"] if con["view"]["certified"] else None for code, con in self.cons.items()}
         withdraw_of_all(self.folder, now, self.setup or None, are_next)
+        withdraw_holders(self.folder, elected_csv(self.cons))
         for code, con in self.cons.items():
             if self.seen.cons.get(code) is not con:
-                withdraw_of_con(self.folder, code, now[code])
+                withdraw_of_con(self.folder, code, certificate_of(con))
 
-    def leave_on_full_disk(self):
-        """Says on each page how old it is, by the room that was kept for it, and keeps it again. One that cannot say so is removed where
-        it may have a certificate that is withdrawn. Nothing vouches for them until a round is whole."""
+    def leave_unfinished(self):
+        """Whatever ended the round, such as a full disk, no certificate that is withdrawn stays without its age. Says on each page how
+        old it is, by the room that was kept for it, and keeps it again. One that cannot say so is removed where it may have such a
+        certificate. Nothing vouches for them until a round is whole."""
         use_room(self.folder)
         with contextlib.suppress(OSError):
             remove(self.folder, "manifest.json")
+        with contextlib.suppress(Exception):
             self.withdraw()
         for site, page in self.pages():
-            try:
+            with contextlib.suppress(Exception):
                 self.mark_old(site, page)
-            except OSError:
+            with contextlib.suppress(OSError):
                 if are_withdrawn(self.folder, con_of(page.name)) and text_of(page) == unaged(text_of(page)):
-                    with contextlib.suppress(OSError):
-                        remove(page.parent, page.name)
+                    remove(page.parent, page.name)
         with contextlib.suppress(OSError):
             keep_room(self.folder)
 
@@ -616,8 +598,9 @@ def write_given(folder, site):
 
 def write_all(offices, folder, site, setup, seen, head=None, seconds=math.inf):
     """One round; how many pages of constituencies and of the country were written, and what failed."""
-    it = Round(offices, folder, site, setup, seen, seconds)
+    it = Round(folder, site, setup, seen, seconds)
     try:
+        it.ask(offices)
         look_for_changes(folder, site, seen)
         keep_room(folder)
         if it.failures:
@@ -628,8 +611,8 @@ def write_all(offices, folder, site, setup, seen, head=None, seconds=math.inf):
         if it.whole and it.cons:
             withdraw(folder, site, {*it.cons, *setup})
         it.write_rest(head)
-    except OSError:
-        it.leave_on_full_disk()
+    except Exception:
+        it.leave_unfinished()
         raise
     return len(it.cons) - len(it.failed) + it.whole, it.failures
 
@@ -645,6 +628,20 @@ def begin(folder, site):
         repair(into)
 
 
+def end_before_rounds(offices, folder, site):
+    """Where the settings or the folder cannot be used: pages say how old they are, in their language and without the folder of the site
+    if that is at fault."""
+    if not site:
+        # Nobody knows whether seats may be shown before they are certified.
+        allow_provisional(folder, False)
+        language = re.search(r'\blang="([^"]+)"', text_of(folder / "index.html"))
+        site = without_folder(language and language[1])
+    it = Round(folder, site, {}, Seen(), 0)
+    with contextlib.suppress(Exception):
+        it.ask(offices)
+    it.leave_unfinished()
+
+
 def main():
     command = argparse.ArgumentParser(description=__doc__.splitlines()[0])
     command.add_argument("office", nargs="+", help="the address of the office, such as http://127.0.0.1:8080")
@@ -655,21 +652,21 @@ def main():
     command.add_argument("--site", type=Path, metavar="FOLDER", help="what the pages are called, and in which language; colours, names, a map")
     given = command.parse_args()
     given.folder.mkdir(parents=True, exist_ok=True)
+    offices, seen, asked, site = [Office(address) for address in given.office], Seen(), 0, None
     try:
         setup = read_setup(given.setup) if given.setup else []
         site = Site(given.site)
-    except (Wrong, OSError) as error:
-        # Nobody knows whether seats may be shown before they are certified.
-        allow_provisional(given.folder, False)
-        sys.exit(f"failed: {error}")
-    site.meet(row["code"] for entry in setup for row in entry["lists"])
-    entries = {entry["code"]: entry for entry in setup}
-    try:
+        site.meet(row["code"] for entry in setup for row in entry["lists"])
         begin(given.folder, site)
-    except OSError as error:
-        sys.exit(f"failed: {error.filename or given.folder}: {error.strerror}")
+    except Exception as error:
+        end_before_rounds(offices, given.folder, site)
+        if isinstance(error, Wrong):
+            sys.exit(f"failed: {error}")
+        if isinstance(error, OSError):
+            sys.exit(f"failed: {error.filename or given.folder}: {error.strerror}")
+        raise
+    entries = {entry["code"]: entry for entry in setup}
     signal.signal(signal.SIGTERM, lambda *_: sys.exit(0))
-    offices, seen, asked = [Office(address) for address in given.office], Seen(), 0
     while True:
         before, began = asked, time.monotonic()
         try:

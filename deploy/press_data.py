@@ -11,7 +11,7 @@ import unicodedata
 import uuid
 import xml.etree.ElementTree as ET
 
-from press_files import moment_in, vouched
+from press_files import moment_in, put, text_of_another, vouched
 from press_names import isolated
 from press_results import counted_share, provisional_seats
 
@@ -352,6 +352,27 @@ def goes_on(before, head):
     """Whether a head of the record can follow on those that were shown: it has more lines than each, or is the same."""
     shown = csv.DictReader(io.StringIO(before, newline=""))
     return all(int(row["lines"]) < head["n"] or (int(row["lines"]), row["sha256"]) == (head["n"], head["hash"]) for row in shown)
+
+
+def put_head(folder, file, failures):
+    """Adds the head of the record of commands to those that were shown; the head, or None where there is none. What is wrong with
+    either is one of the failures."""
+    shown = folder / "record.csv"
+    try:
+        head = json.loads(text_of_another(file))
+        before, wrong = shown_heads(shown.read_bytes() if shown.exists() else b"")
+        text = record_csv(before, head)
+        if wrong:
+            failures.append(f"{shown}: {wrong} of its lines are no heads of a record, and are left out")
+        # A recorder that found another record than was shown says so in its head.
+        head["whole"] = goes_on(before, head) and not head.get("fault")
+        if not head["whole"]:
+            failures.append(f"{file}: line {head['n']} is the last of the record, and {shown} has more, or another")
+    except (OSError, ValueError, KeyError, TypeError, AttributeError, RecursionError) as error:
+        failures.append(f"{getattr(error, 'filename', None) or file}: {error!r}")
+        return None
+    put(folder, "record.csv", text)
+    return head
 
 
 def returns_csv(lists, returns):

@@ -2,9 +2,11 @@
 it left each of them, and so finds what somebody else changed."""
 
 import contextlib
+import csv
 import errno
 import gzip
 import hashlib
+import io
 import json
 import os
 import re
@@ -16,6 +18,8 @@ import time
 import zlib
 from datetime import datetime
 from urllib.parse import quote
+
+from press_results import certificate_of
 
 # As each compressed file of ours begins: it has no moment. What a board compressed itself has one.
 BEGINS = gzip.compress(b"", 6, mtime=0)[:8]
@@ -88,7 +92,8 @@ def is_as(file, data):
 
 
 def is_folder(file):
-    return file.is_dir() and not file.is_symlink()
+    # (of a link that leads where this program may not look even that cannot be asked)
+    return not file.is_symlink() and file.is_dir()
 
 
 def is_named_folder(file):
@@ -206,7 +211,6 @@ def withdraw_of_all(folder, editions, setup, are_next=False):
     they say: pages say how old they are, and these files do not. By constituency the edition that
     is certified, or None; the setup may be None. Pages of these editions may be written next.
     Copies of a database go alike."""
-    withdraw_databases(folder, editions)
     try:
         cons = json.loads(text_of(folder / "index.json"))["constituencies"]
         before = {con["con"]: con["edition"] for con in cons if con["certified"]}
@@ -219,37 +223,68 @@ def withdraw_of_all(folder, editions, setup, are_next=False):
             remove(folder, name)
     elif are_next and before != {code: edition for code, edition in editions.items() if edition}:
         put_bytes(folder / begun(None), b"")
+    withdraw_databases(folder, editions)
 
 
 def withdraw_databases(folder, editions):
     """Removes each copy of a database that an office published, and that says of one of these
     constituencies that it is certified as it is no more. By constituency the edition that is
     certified, or None. One that cannot be read is perhaps being put there; and of one that was put
-    there lately a round that began before it knows nothing."""
+    there lately a round that began before it knows nothing. A link is none: the proxy does not serve
+    it."""
     for file in folder.glob("office*.db"):
-        if 0 <= time.time() - file.stat().st_mtime < LATELY:
-            continue
-        with contextlib.suppress(sqlite3.Error, ValueError), contextlib.closing(sqlite3.connect(
+        if withdrawn_in(file, editions):
+            print(f"failed: {file}: a certificate that it has is withdrawn: removed", file=sys.stderr)
+            remove(folder, file.name)
+
+
+def withdrawn_in(file, editions):
+    """Whether a copy of a database has a certificate that is withdrawn by these editions."""
+    with contextlib.suppress(OSError, sqlite3.Error, ValueError):
+        found = os.lstat(file)
+        if not stat.S_ISREG(found.st_mode) or 0 <= time.time() - found.st_mtime < LATELY:
+            return False
+        with contextlib.closing(sqlite3.connect(
                 f"file:{quote(str(file.absolute()))}?mode=ro&immutable=1", uri=True)) as it:
             says = it.execute("SELECT con, edition FROM cons WHERE certified").fetchall()
-            if any(editions.get(code, edition) != edition for code, edition in says):
-                print(f"failed: {file}: a certificate that it has is withdrawn: removed",
-                      file=sys.stderr)
-                remove(folder, file.name)
+        return any(editions.get(code, edition) != edition for code, edition in says)
+    return False
 
 
-def withdraw_of_con(folder, code, edition, are_next=False):
-    """Removes the files for programs of a constituency that say the same of it, or of which nobody
-    knows what they say. Pages of this edition may be written next."""
+def withdraw_holders(folder, elected):
+    """Removes the list of the elected where a constituency has other holders of its seats by this
+    text of it, and all files for programs of all constituencies where it has other seats: of the
+    same edition, as where a copy from before took the office's place."""
+    before, now = rows_by_con(text_of(folder / "elected.csv")), rows_by_con(elected)
+    for code in before.keys() & now.keys():
+        if before[code] != now[code]:
+            seats, seats_now = ([row[:4] for row in rows[code]] for rows in (before, now))
+            for name in ("elected.csv",) if seats == seats_now else OF_ALL:
+                remove(folder, name)
+
+
+def rows_by_con(text):
+    """The rows of a table by their first field; none where it is no table."""
+    found = {}
+    with contextlib.suppress(csv.Error):
+        for row in csv.reader(io.StringIO(text, newline="")):
+            found.setdefault("".join(row[:1]), []).append(row)
+    return found
+
+
+def withdraw_of_con(folder, code, certificate, are_next=False):
+    """Removes the files for programs of a constituency that have another certificate than this, or
+    of which nobody knows what they say. Pages of this certificate may be written next."""
     try:
-        view = json.loads(text_of(folder / f"con-{code}.json"))["view"]
-        before = view["edition"] if view["certified"] else None
+        before = certificate_of(json.loads(text_of(folder / f"con-{code}.json")))
     except (ValueError, KeyError, TypeError, RecursionError):
-        before = 0  # (which is no edition)
-    if before not in (None, edition):
-        for suffix in ("csv", "json"):
+        before = 0  # (which is no certificate)
+    if before not in (None, certificate):
+        # (the table has no holders)
+        has_table = before and certificate and before[:2] == certificate[:2]
+        for suffix in ("json",) if has_table else ("csv", "json"):
             remove(folder, f"con-{code}.{suffix}")
-    elif are_next and before != edition:
+    elif are_next and before != certificate:
         put_bytes(folder / begun(code), b"")
 
 
@@ -263,7 +298,7 @@ def are_withdrawn(folder, code):
     """Whether the pages of a constituency, or those of all, may have a certificate that is
     withdrawn: the file for programs that is written after them is removed, or may lack it."""
     last = f"con-{code}.json" if code else "elected.csv"
-    return not (folder / last).exists() or (folder / begun(code)).exists()
+    return not on_disk(folder / last) or bool(on_disk(folder / begun(code)))
 
 
 def keep_room(folder):
@@ -295,15 +330,16 @@ def use_room(folder):
 
 
 def published(folder, *left):
-    """The files of a folder that are for readers, but for those left."""
-    return [file for file in sorted(folder.iterdir()) if file.is_file() and file.suffix != ".gz"
+    """The files of a folder that are for readers, but for those left, and for links, which the proxy
+    does not serve."""
+    return [file for file in sorted(folder.iterdir()) if on_disk(file) and file.suffix != ".gz"
             and not file.name.startswith(".") and file.name not in left]
 
 
 def text_of(file):
     """The text of a file of ours, whatever somebody else made of it; an empty one where it cannot be
-    read."""
-    with contextlib.suppress(FileNotFoundError, PermissionError):
+    read, as from a disk with a fault: then it is written again."""
+    with contextlib.suppress(OSError):
         return file.read_text(encoding="utf-8", errors="replace") if file.is_file() else ""
     return ""
 

@@ -121,6 +121,12 @@ def lot_of(con):
     return (lot["group"], lot["question"]) if lot else None
 
 
+def certificate_of(con):
+    """The edition, the seats and the holders of a certificate; None where there is none."""
+    view = con["view"]
+    return [view["edition"], view["seats"], con["holders"]] if view["certified"] else None
+
+
 def of_certificate(result):
     """The reports of a certificate."""
     seats = {row["code"]: row["seats"] for row in result["lists"]}

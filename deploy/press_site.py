@@ -446,3 +446,16 @@ class Site:
                 many = int(seconds // size)
                 one, more = self.words[unit]
                 return f"{many} {one if many == 1 else more}"
+
+
+def without_folder(language):
+    """A site in this language that has no folder, with those of all others, in English where the
+    language has no texts."""
+    sites = {}
+    for one in LANGUAGES:
+        # (a board's own texts may be the fault)
+        with suppress(OSError, ValueError, TypeError, LookupError):
+            sites[one] = Site(language=one)
+    first = sites.get(language) or sites["en"]
+    first.others = [site for site in sites.values() if site is not first]
+    return first

@@ -5,7 +5,8 @@ from functools import partial
 from itertools import accumulate
 
 from press_con import colours
-from press_data import OPEN, returns_csv, returns_in
+from press_data import OPEN, adds_up, returns_csv, returns_in
+from press_files import on_disk, text_of
 from press_head import counted_line
 from press_parts import NOTHING, by_votes, framed, list_name, searched
 from press_places import added_up, place_pages, table_pages
@@ -103,3 +104,27 @@ def places_pages(site, code, con, entry, text, states=None):
 
     return (place_pages(site, code, con, entry, places, (seen, table_of), bool(returns)),
             table_pages(site, code, con, entry, places, len(returns)), places)
+
+
+def left_as_they_are(folder, name, pages, before):
+    """These pages, with None in the place of each that shows what it showed when it was made last.
+    `before` keeps what each shows."""
+    found = []
+    for place, (shows, written) in enumerate(pages, 1):
+        file = folder / f"{name}-{place}.html"
+        found.append(None if before.get(file) == shows and on_disk(file) else written)
+        before[file] = shows
+    return found
+
+
+def electors_counted(folder, con, entry, returns):
+    """The electors of the stations that are counted, by the setup and the file of closed returns;
+    None where they are not known, or that file is of another moment."""
+    tally = con["tally"]
+    if not entry or tally["closed"] == tally["stations"] or not tally["closed"]:
+        is_known = entry and tally["closed"]
+        return sum(station["electors"] for station in entry["stations"]) if is_known else None
+    text = text_of(folder / returns[OPEN]) if OPEN in returns else ""
+    closed = {row[0] for row in returns_in(text)[1]} if adds_up(text, con["view"]) else None
+    return closed and sum(station["electors"] for station in entry["stations"]
+                          if station["code"] in closed)

@@ -14,6 +14,8 @@ from typing import NamedTuple
 
 from record_commands import CLOSED, CORRECTED, LEAVES, OF_STATIONS, QUERIED, RECEIVED, answer_of, figures_of, said_in
 
+# The statuses of a return: one that is there has one of these.
+THERE = (RECEIVED, QUERIED, CORRECTED, CLOSED)
 # The statuses of a return on which each command is done.
 ON = {"query": (RECEIVED, CORRECTED, CLOSED), "correct": (QUERIED,), "close": (RECEIVED, CORRECTED), "confirm": (RECEIVED, CORRECTED)}
 

@@ -682,12 +682,13 @@ def main():
     elif given.shown and record.number and not shown:
         print(f"{given.shown} has no line that was shown: nobody knows whether {given.record}, of {record.number} lines, is as it "
               "was", file=sys.stderr, flush=True)
+    # Before the first command is taken: where it is ended right then, that one has its answer too.
+    signal.signal(signal.SIGTERM, lambda *_: threading.Thread(target=end, args=(record,), daemon=True).start())
     for office, (listener, address) in enumerate(zip(listeners, desks), 1):
         desk = Desk(address)
         for _ in range(THREADS):
             one = Recorder(record, desk, office, limit, given.two_of_board)
             threading.Thread(target=serve, args=(listener, one), daemon=True).start()
-    signal.signal(signal.SIGTERM, lambda *_: threading.Thread(target=end, args=(record,), daemon=True).start())
     show_head(given.folder, record)
 
 

@@ -140,8 +140,9 @@ class Known:
     """The record by now."""
 
     def __init__(self, cons, is_setup):
-        # By the office, the kind and the code; and the lines by which they came there.
-        self.states, self.lines = {}, {}
+        # By the office, the kind and the code; the lines by which they came there; and those that
+        # a command of their own was done on.
+        self.states, self.lines, self.own = {}, {}, set()
         # The lines of the files that were taken.
         self.files = set()
         # The stations of each constituency, with the most votes that each may have, by the setup.
@@ -192,6 +193,7 @@ class Known:
                 cleared = {(*state[:2], (), state[3]) for state in self.at(con)}
                 self.put(con, command, cleared, is_done)
             if found:
+                self.own.add(place)
                 self.put(place, command, found, is_done)
         return None
 

@@ -11,7 +11,7 @@ from urllib.parse import quote
 
 from chain import has_commands
 from site_machine import Fault
-from site_places import folders_of, ports_of, sites_of
+from site_places import folders_of, ports_of, sites_of, whose
 from staff import posts
 
 # How often a database is looked at that seems to have no setup.
@@ -38,11 +38,22 @@ def check_site(machine, site):
         raise Fault(f"{place} is the place of another file: choose another name for the site")
 
 
+def check_folders(machine, sites):
+    """None of these has the folders of another site, renamed or copied: the proxy would read that
+    site's files twice, and start for none."""
+    for site in sites:
+        if (other := whose(machine, site)) != site:
+            raise Fault(f"/etc/office/{site} is a copy of the folder of {other}, or was renamed: "
+                        f"move it and /etc/nginx/office/{site} out of /etc/office and "
+                        "/etc/nginx/office, to /root for instance")
+
+
 def check_ports(machine, site):
-    """No other site has the same ports, as a copy of its folder in /etc/office has."""
+    """No other site has the same ports, as a copy of its folder in /etc/office has. A folder that
+    is another site's by its files keeps no site from going on: check_folders names it."""
     pair = ports_of(machine, site)
     for other in sorted(sites_of(machine)):
-        if other != site and ports_of(machine, other) == pair:
+        if other != site and ports_of(machine, other) == pair and whose(machine, other) == other:
             raise Fault(f"{site} and {other} have the same ports: one is a copy of the other's "
                         "folder: move it out of /etc/office; or it is of another computer: remove "
                         f"/etc/office/{site}/ports, and it gets free ones")

@@ -122,6 +122,18 @@ class Machine:
         if self.has_services:
             run("systemctl", *words)
 
+    def reload_proxy(self):
+        """Has nginx read its files, and waits until it answers by these alone. Where it cannot use
+        them it goes on with those of before, and systemctl does not say so."""
+        said, _ = run("systemctl", "show", "--property=MainPID", "nginx")
+        main, end = said.partition("=")[2].strip(), time.monotonic() + 60
+        before = workers_of(main)
+        self.systemctl("reload", "nginx")
+        while before & workers_of(main):
+            if time.monotonic() > end:
+                raise Fault("nginx goes on with its files of before: journalctl -u nginx")
+            time.sleep(0.05)
+
     def reset_failed(self, *units):
         """Has systemd forget that units failed; of one that did not it has nothing to forget."""
         if self.has_services:
@@ -134,6 +146,17 @@ class Machine:
         said, _ = run("systemctl", "show", "--property=ActiveEnterTimestampMonotonic", unit)
         began = time.time() - time.monotonic() + int(said.partition("=")[2]) / 1e6
         return any(self.at(file).stat().st_mtime > began for file in files)
+
+    def words_of(self, unit):
+        """The words with which the process of a unit runs; None of one that does not run."""
+        if not self.is_active(unit):
+            return None
+        said, _ = run("systemctl", "show", "--property=MainPID", unit)
+        with suppress(OSError):
+            words = Path("/proc", said.partition("=")[2].strip(), "cmdline").read_bytes()
+            # (one that is just being begun has none yet)
+            return words.decode(errors="replace").split("\0") if words else None
+        return None
 
     def is_active(self, unit):
         return self.has_services and not subprocess.run(
@@ -185,6 +208,17 @@ def who_listens(sockets):
         except OSError:
             continue
     return "another program"
+
+
+def workers_of(main):
+    """The processes of an nginx that take requests; one that has only to finish some says so."""
+    found = set()
+    for folder in Path("/proc").glob("[0-9]*"):
+        with suppress(OSError):
+            parent = (folder / "stat").read_text(errors="replace").rpartition(")")[2].split()[1]
+            if parent == main and b"is shutting down" not in (folder / "cmdline").read_bytes():
+                found.add(folder.name)
+    return found
 
 
 def has_ipv6():

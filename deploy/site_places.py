@@ -15,6 +15,7 @@ FOLDERS = ("/var/lib/office-status", "/var/lib/office", "/var/log/office", "/var
            "/etc/nginx/office", "/etc/office", "/run/office-recorder", "/run/office-reader")
 UNITS = ("office", "office-reader", "office-recorder", "office-press", "office-backup",
          "office-status", "office-alarm")
+TWO = "--two-of-board"
 MADE_BY = {"StateDirectory", "RuntimeDirectory", "LogsDirectory"}
 
 
@@ -74,6 +75,53 @@ def sites_of(machine):
     """The sites of this computer, in the order of their ports."""
     files = machine.at("/etc/office").glob("*/ports")
     return sorted((file.parent.name for file in files), key=lambda name: ports_of(machine, name))
+
+
+def whose(machine, site):
+    """The site whose files a folder has, by its part of the proxy and by its looks: another one
+    where somebody renamed or copied it, and none of them is its own."""
+    names = []
+    for place, its in ((f"/etc/nginx/office/{site}/site.conf", r"(?m)^ *server_name (\S+);"),
+                       (f"/etc/office/{site}/status.toml", r'"/var/log/office/([^/"]+)/')):
+        file = machine.at(place)
+        names += re.findall(its, file.read_text("utf-8", "replace")) if file.is_file() else []
+    return site if site in names or not names else names[0]
+
+
+def board_of(machine, site):
+    """Whether the recorder of a site asks for two of the board: the one that runs, or if none does
+    the one that would be started."""
+    words = machine.words_of(f"office-recorder@{site}")
+    is_two = would_ask(machine, site) if words is None else TWO in words
+    if not is_two and words is not None and is_asked_for(machine, site):
+        return "one of the board: recorder.env asks for two, and the recorder that runs does not"
+    return f"{'two' if is_two else 'one'} of the board"
+
+
+def asks_otherwise(machine, site):
+    """Whether the recorder of a site that runs asks for another number of the board than one that
+    would be started."""
+    words = machine.words_of(f"office-recorder@{site}")
+    return words is not None and (TWO in words) != would_ask(machine, site)
+
+
+def would_ask(machine, site):
+    """Whether a recorder that is started asks for two of the board, by its unit, if there is one in
+    the place of the package's, and by recorder.env."""
+    files = (machine.at(f"/etc/systemd/system/office-recorder@{name}.service")
+             for name in (site, ""))
+    unit = next((file.read_text("utf-8", "replace") for file in files if file.is_file()),
+                "$RECORDER")
+    return bool(re.search(f"^[^#;]*{TWO}", unit, re.M)) or (
+        "$RECORDER" in unit and is_asked_for(machine, site))
+
+
+def is_asked_for(machine, site):
+    """Whether recorder.env asks for two of the board. Of several lines systemd takes the last."""
+    file = machine.at(f"/etc/office/{site}/recorder.env")
+    text = file.read_text("utf-8", "replace") if file.is_file() else ""
+    lines = re.findall(r"^[ \t]*RECORDER[ \t]*=(.*)", text, re.M)
+    return bool(lines) and TWO in re.sub("[\"']", " ", lines[-1]).split()
 
 
 def folders_of(site):

@@ -25,8 +25,8 @@ HERE = Path(__file__).resolve().parent
 RECOUNTS = (HERE / "recount.py", HERE.parent / "examples/recount.py")
 # Seconds that an answer may take, and a day and a megabyte.
 PATIENCE, DAY, MEGABYTE = 10, 86_400, 1 << 20
-# Where the proxy listens.
-PROXY = "127.0.0.1", 443
+# Where the proxy listens, and the file with the number of its process.
+PROXY = ("127.0.0.1", 443)
 # How many seconds a moment may be ahead of the clock. One that is farther ahead is from before the
 # clock was put back: nobody knows how old it is.
 AHEAD = 60
@@ -69,6 +69,20 @@ class ToSocket(http.client.HTTPConnection):
         self.sock = socket.socket(socket.AF_UNIX)
         self.sock.settimeout(self.timeout)
         self.sock.connect(self.file)
+
+
+class ToProxy(http.client.HTTPConnection):
+    """A connection to the proxy under the name of a site."""
+
+    def connect(self):
+        self.sock = shown_as(self.host)
+
+
+def shown_as(site):
+    """A connection over TLS to the proxy under the name of a site, whatever its certificate."""
+    context = ssl.create_default_context()
+    context.check_hostname, context.verify_mode = False, ssl.CERT_NONE
+    return context.wrap_socket(socket.create_connection(PROXY, PATIENCE), server_hostname=site)
 
 
 def answered(connection, target, fields=None):
@@ -241,6 +255,35 @@ def does_agree(copy, seen):
     return True
 
 
+def elsewhere_in(file):
+    """Where copies are sent, by the words of office-backup.service; nothing where they are not."""
+    with suppress(FileNotFoundError):
+        # (systemd takes the last line)
+        text = Path(file).read_text(encoding="utf-8")
+        said = ["", *re.findall("^ *ELSEWHERE=(.*)", text, re.M)][-1]
+        return said.strip().strip("'\"")
+    return ""
+
+
+def look_at_sent(file, folder, most, of):
+    """When the copies and the record were all on the other computer, by the file that send-copies
+    leaves beside the copies, and removes where it fails."""
+    try:
+        there = elsewhere_in(file)
+    except (OSError, ValueError) as error:
+        return Found("sent", False, f"{file} cannot be read: {error}", of)
+    if not there:
+        return Found("sent", True, "no copy is sent to another computer", of)
+    try:
+        age = time.time() - (Path(folder) / ".sent").lstat().st_mtime
+    except OSError:
+        says = f"not all of it is at {there}: journalctl -u 'office-backup*' says why"
+        return Found("sent", False, says, of)
+    is_ahead = ahead(age)
+    says = f"all of it was at {there} {is_ahead or spoken(age) + ' ago'}"
+    return Found("sent", age <= most and not is_ahead, says, of, {"age_seconds": age})
+
+
 def look_at_room(folder, least):
     """How much is free on the disk of a folder."""
     try:
@@ -270,16 +313,46 @@ def look_at_certificate(file, days, site=""):
 
 def not_shown(file, site):
     """That the proxy does not show this certificate under the name of the site, or nothing."""
-    context = ssl.create_default_context()
-    context.check_hostname, context.verify_mode = False, ssl.CERT_NONE
     try:
         first = re.search("-----BEGIN (TRUSTED )?CERT.*?-----END[^\n]*", Path(file).read_text("latin-1"), re.S)[0]
-        with socket.create_connection(PROXY, PATIENCE) as plain, \
-                context.wrap_socket(plain, server_hostname=site) as it:
+        with shown_as(site) as it:
             is_shown = it.getpeercert(binary_form=True) == ssl.PEM_cert_to_DER_cert(first)
     except (OSError, ValueError, TypeError) as error:
         return f"; the proxy does not show it to {site}: {error}"
     return "" if is_shown else "; the proxy shows another one: nginx -t && systemctl reload nginx"
+
+
+def is_early(text):
+    """Whether the hour of embargo.conf is to come: the proxy looks at the same seconds."""
+    found = re.search('^ *"~(.*)" office;$', text, re.M)
+    return bool(found and re.match(found[1], f"{time.time():.3f}"))
+
+
+def look_at_hour(file, site):
+    """Whether the proxy goes by the hour of this file: it goes on with the one before until it is
+    told to read the new one. Before the hour it refuses a table to whoever has no name, and after
+    it knows none of a constituency that the setup lacks: no office is asked."""
+    try:
+        text = Path(file).read_text(encoding="utf-8")
+        # (the hour may come meanwhile)
+        may_be = {is_early(text)}
+        status, said = answered(ToProxy(site), "/con/-")
+        may_be.add(is_early(text))
+    except (OSError, ValueError, re.error) as error:
+        return Found("hour", False, f"{file} cannot be read: {error}")
+    if status not in (403, 404):
+        wrong = said if status is None else f"it answers with status {status}"
+        return Found("hour", False, f"the proxy does not answer as {site}: {wrong}")
+    is_closed = status == 403
+    says = "nothing is public yet" if is_closed else "everything is public"
+    found = re.search(r"for everybody: (.*)\. deploy/embargo", text)
+    if found:
+        says += f"; by {file}, if the proxy has read it, it is for everybody: {found[1]}"
+    if is_closed in may_be:
+        return Found("hour", True, says)
+    # (whoever has the proxy read a wrong file opens everything)
+    return Found("hour", False, f"{says}; the proxy goes by another hour: look at the file, then "
+                                "nginx -t && systemctl reload nginx")
 
 
 # ---- the acts of the record, and the office as it is now

@@ -98,6 +98,8 @@ let siteAgain = 0;
 // that were listed, and whether somebody asked for the list of this constituency.
 const revisions = {};
 let listed = [], isListed = false;
+// The edition for which an order of a lot is chosen.
+let typedFor = null;
 
 const element = (id) => document.getElementById(id);
 const blind = () => person.role === "second";
@@ -181,13 +183,14 @@ function sentence(answer, statuses = STATUSES) {
 
 const unread = (answer) => sentence(answer, UNREAD);
 
-// What a form does, given as what returns an answer, or nothing where it was not sent. The form of
-// a command that was accepted is emptied, and so is one whose answer was lost, where what was typed
-// is recorded now; of one that was refused the field to look at gets the focus.
+// What a form does by the button that was pressed, given as what returns an answer, or nothing
+// where it was not sent. The form of a command that was accepted is emptied, and so is one whose
+// answer was lost, where what was typed is recorded now; of one that was refused the field to look
+// at gets the focus.
 function onSubmit(id, act) {
   element(id).addEventListener("submit", async (event) => {
     event.preventDefault();
-    const form = event.target, answer = busy ? null : await act(form);
+    const form = event.target, answer = busy ? null : await act(form, event.submitter);
     if (!answer) return;
     if (answer.ok || (!answer.value && isRecorded(form))) form.reset();
     if (answer.ok) goOn(true);
@@ -201,7 +204,8 @@ function onSubmit(id, act) {
 let stopped = null;
 
 function stop(form) {
-  stopped = { form, typed: false };
+  // (the next key of who does not look up is Enter, for the next station)
+  stopped = { form, typed: true };
   element("stopped-said").textContent = element("alert").textContent;
   element("stopped-typed").textContent = "";
   element("stopped-next").hidden = !allowed(element("stopped-next"));
@@ -217,9 +221,10 @@ function leaveStopped(act) {
 }
 
 const compareNow = () => leaveStopped((form) => {
-  // A first entry is hidden where somebody else's is recorded: that can be queried.
+  // A first entry is hidden where somebody else's is recorded: that can be queried. The next figure
+  // of who does not look up is no note.
   if (!form.hidden) focusOn(form, "differs");
-  else (element("query").hidden ? element("station") : element("query").elements.note).focus();
+  else element(element("query").hidden ? "station" : "return").focus();
 });
 // The figures that differ are those of the paper that is put aside.
 const nextNow = () => person.role === "station" ? compareNow() : leaveStopped((form) => {
@@ -229,10 +234,11 @@ const nextNow = () => person.role === "station" ? compareNow() : leaveStopped((f
   element("station").select();
 });
 
-// Who types on without looking up types nothing, and the end of what was typed presses no button.
+// Who types on without looking up types nothing, and neither the end of what was typed nor a key
+// that is held down presses a button.
 element("stopped").addEventListener("keydown", (event) => {
   const isTyped = event.key.length === 1 && event.key !== " ";
-  if (!isTyped && !([" ", "Enter"].includes(event.key) && stopped.typed)) return;
+  if (!isTyped && !([" ", "Enter"].includes(event.key) && (stopped.typed || event.repeat))) return;
   event.preventDefault();
   stopped.typed = isTyped;
   element("stopped-typed").textContent = T.typed_for_nothing;
@@ -252,9 +258,11 @@ function isRecorded(form) {
 function focusOn(form, word) {
   const large = [...form.querySelectorAll(".counts input")].find((one) => Number(one.value) > 1000000);
   const field = word === "bad_counts" ? large : word === "lot_wrong_group" ? form.querySelector("select") : form.elements[WRONG[word]];
-  if (!field || form.hidden) return;
-  field.focus();
-  if (field.select) field.select();
+  if (form.hidden) return;
+  // Where there is none, who types on without looking up types nothing, and Enter sends the same.
+  const next = field || form.querySelector("fieldset > button");
+  next.focus();
+  if (next.select) next.select();
 }
 
 // Sends a command, says what came of it, and asks again; its answer. The receipt has what it is
@@ -262,6 +270,8 @@ function focusOn(form, word) {
 async function command(target, body, done, receipt, isLook = () => false) {
   setBusy(true);
   say(T.sent);
+  // The receipt of an earlier command says nothing of this one.
+  element("receipt").open = false;
   try {
     const answer = await ask("POST", target, body), value = answer.value || {};
     // A request of the board that waits for a second name is not done.
@@ -276,6 +286,7 @@ async function command(target, body, done, receipt, isLook = () => false) {
     // (what the command came to is not said twice)
     say(`${what}${trouble.replace(` ${unread(answer)}`, "")}`, waits || value.word === "lot_missing" || (answer.ok && isLook(value)) ? "look" : answer.ok ? "done" : "refused");
     if (answer.ok && !waits) showReceipt(done(value), receipt);
+    else element("receipt").hidden = true;
     return answer;
   } finally {
     setBusy(false);
@@ -474,6 +485,11 @@ function showView() {
   shows("vacate", holders.length);
   shows("reopen", view && view.certified);
   shows("import", view);
+  // What was done, though its answer was lost, is not to be sent again, nor what comes too late. A
+  // lot that is needed at another edition is another lot.
+  if (view && (!lot || view.edition !== typedFor)) element("draw").reset();
+  if (view && !view.certified) element("reopen").reset();
+  if (view) typedFor = view.edition;
   if (lot) showDraw(lot);
   if (view) showHolders(holders);
 }
@@ -712,7 +728,9 @@ function checked(form) {
   if (!wrong && !open.length) return true;
   say(wrong ? T.wrong_total({ sum, typed: Number(typed.value) }) :
     T.unusual({ figures: T.figures({ number: open.length }) }), "refused");
-  (wrong ? fields(form, "votes")[0] : open[0]).select();
+  // Where a slip is entered twice, who types on without looking up replaces the total alone. Else
+  // nothing compares the figures but who looks at each of them.
+  (!wrong ? open[0] : double() ? typed : fields(form, "votes")[0]).select();
   return false;
 }
 
@@ -945,18 +963,16 @@ async function readRefused(form, answer) {
   });
 }
 
-// What the trial of a file came to, with a line for each row that would not be accepted. The file
-// is imported once this is shown, and asks for that; with another file there is nothing to import.
+// What the trial of a file came to, with a line for each row that would not be accepted, and below
+// these the button that imports it. Who presses the one that tries twice, or holds Enter down, has
+// not seen this, and imports nothing. With another file there is nothing to import.
 function showTrial(text) {
   const lines = text.split("\n").filter(Boolean).map((line) => line.split(" "));
   const names = [T.trial_lodged, T.trial_same, T.trial_differs, T.trial_refused, T.trial_unread];
   element("trial").hidden = !text;
-  element("trial").replaceChildren(...(text ? [
-    rowsOf(names.map((name, place) => [name, Number(lines[place][1])])),
-    refusedRows(),
-    made("p", T.import_question({ con: constituency().name })),
-  ] : []));
-  element("import").querySelector("button").textContent = text ? T.import_button : T.try_file;
+  element("trial-figures").replaceChildren(...(text ? [rowsOf(names.map((name, place) => [name, Number(lines[place][1])]))] : []));
+  element("trial-rows").replaceChildren(...(text ? [refusedRows()] : []));
+  element("trial-question").textContent = text ? T.import_question({ con: constituency().name }) : "";
 }
 
 // What was tried: the file that was chosen, and a copy of what it said then. That is imported.
@@ -965,9 +981,9 @@ let tried = { file: null, copy: null };
 async function tryFile(form) {
   setBusy(true);
   say(T.sent);
+  showTrial("");
   const file = form.elements.file.files[0], bytes = await file.arrayBuffer().catch(() => null);
   if (!bytes) {
-    showTrial("");
     say(T.file_unread, "refused");
     setBusy(false);
     return;
@@ -980,6 +996,10 @@ async function tryFile(form) {
   }
   say(answer.ok ? T.trial_said : sentence(answer), answer.ok ? "" : "refused");
   setBusy(false);
+  if (!answer.ok) return;
+  // The page moves no further than to these, so that what imports comes under nobody's pointer.
+  element("trial-figures").focus({ preventScroll: true });
+  element("trial-figures").scrollIntoView({ block: "nearest" });
 }
 
 // The first line that was not accepted, with the reason of the trial, which says more, where it is
@@ -998,11 +1018,13 @@ function importFile(form) {
     element("not-accepted").replaceChildren(...(refusedLines.length ? [made("h3", T.not_accepted({ name: file.name })), refusedRows()] : []));
     return [[T.file_label, T.file_value({ name: file.name, size: file.size })], ...refusedLines.map(({ line, reason }) => [T.line_label({ line }), reason])];
   };
+  // (of what was sent the trial says nothing any more, whatever the answer is)
+  showTrial("");
   return command(`/con/${shown.con}/import${form.elements.separator.value}`, file, done, { title: T.receipt_import, open: true, rows },
     (value) => notAccepted(value) > 0);
 }
 
-onSubmit("import", (form) => element("trial").hidden || form.elements.file.files[0] !== tried.file ? tryFile(form) : importFile(form));
+onSubmit("import", (form, button) => button === element("trial-import") && form.elements.file.files[0] === tried.file ? importFile(form) : tryFile(form));
 for (const event of ["change", "cancel", "reset"]) element("import").addEventListener(event, () => showTrial(""));
 
 // ---- who did what to a station

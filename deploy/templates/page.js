@@ -21,7 +21,7 @@ function searchTable() {
     const wanted = plain(field.value);
     const found = wanted ? all.filter((row) => plain(row.textContent).includes(wanted)) : own;
     body.replaceChildren(...found);
-    search.querySelector("output").textContent = wanted ? found.length : "";
+    search.querySelector("output").value = wanted ? found.length : "";
   });
 }
 
@@ -60,7 +60,7 @@ function findNames(search) {
     const found = wanted ? all.filter((one) => one.plain.includes(wanted)) : [];
     if (field.value !== typed) return;
     list.replaceChildren(...found.slice(0, 30).map(row));
-    said.textContent = wanted && (found.length || search.dataset.none);
+    said.value = wanted && (found.length || search.dataset.none);
   });
   field.addEventListener("keydown", (event) => {
     if (event.key === "Enter") list.querySelector("a")?.click();
@@ -68,45 +68,56 @@ function findNames(search) {
   search.hidden = false;
 }
 
-// The page renews itself, unless that is not wanted, or somebody types or selects something.
+// The page renews itself, unless that is not wanted. While somebody types or selects something it
+// says that something changed, and only its header is renewed: its state and its age.
 function renewItself(control) {
   const tick = control.querySelector("input"), said = control.querySelector("output");
-  const waits = () => !tick.checked || document.hidden || !getSelection().isCollapsed
+  const { renewed, kept, lost, gone } = said.dataset;
+  const rests = () => !tick.checked || document.hidden;
+  const waits = () => !getSelection().isCollapsed
     || parts("input[type=search]").some((field) => field.value);
   const reached = () => parts("a[href], input, [tabindex]");
   const keep = (write) => { try { return write(localStorage); } catch { return null; } };
-  let shown = part("main").innerHTML;
+  let shown = part("main").innerHTML, asked = 0, answered = 0;
   tick.checked = keep((kept) => kept.getItem("renew")) !== "no";
-  function show(page) {
+  function show(page, main) {
     const focus = reached().indexOf(document.activeElement);
     const moved = parts(".scroll").map((e) => e.scrollLeft);
-    const isNew = page.querySelector("main").innerHTML !== shown;
-    shown = page.querySelector("main").innerHTML;
-    for (const of of isNew ? ["title", "style", "header", "main"] : ["header"])
-      part(of).replaceWith(page.querySelector(of));
+    const isNew = main !== shown;
+    shown = main;
+    for (const of of isNew ? ["title", "style", "header", "main"] : ["header"]) {
+      const now = page.querySelector(of);
+      if (!part(of).isEqualNode(now)) part(of).replaceWith(now);
+    }
     if (isNew) {
       parts(".scroll").forEach((e, n) => { e.scrollLeft = moved[n] ?? 0; });
       searchTable();
-      said.textContent = `${said.dataset.renewed} ${part("header time")?.textContent ?? ""}`;
-    } else if (said.textContent === said.dataset.lost) said.textContent = "";
+      said.value = `${renewed} ${part("header time")?.textContent ?? ""}`;
+    } else if ([lost, kept].includes(said.value)) said.value = "";
     if (focus >= 0) reached()[focus]?.focus({ preventScroll: true });
   }
   // What it said may be a certificate that is withdrawn. The page may come back. (A folder without
   // its first page, and a site before its hour, answer 403.)
   function leave() {
-    const kept = [part("header a[href='index.html']"), part("h1")];
-    part("header").replaceChildren(...kept.filter(Boolean));
+    const stays = [part("header a[href='index.html']"), part("h1")];
+    part("header").replaceChildren(...stays.filter(Boolean));
     part("main").replaceChildren();
     shown = "";
-    said.textContent = said.dataset.gone;
+    said.value = gone;
   }
   async function renew() {
-    if (waits()) return;
+    if (rests()) return;
+    const mine = ++asked;
     const answer = await fetch(location.pathname, { cache: "no-cache" }).catch(Response.error);
     const page = parsed(answer.ok ? await answer.text().catch(() => "") : "");
-    if ([403, 404].includes(answer.status)) waits() || leave();
-    else if (!page.querySelector("main")) said.textContent = said.dataset.lost;
-    else if (!waits()) show(page);
+    // (one that is late may be of before what is shown)
+    if (rests() || mine < answered) return;
+    answered = mine;
+    const main = page.querySelector("main")?.innerHTML ?? "";
+    const isGone = [403, 404].includes(answer.status);
+    if (!isGone && !main) said.value = lost;
+    else if (waits() && main !== shown) said.value = kept;
+    else isGone ? leave() : show(page, main);
   }
   tick.addEventListener("change", () => {
     keep((kept) => kept.setItem("renew", tick.checked ? "yes" : "no"));

@@ -27,7 +27,7 @@ addresses of its own (127.0.0.0/8).
 - The package and the sites of a computer: test_package, test_office_site, test_folders_of_others,
   for which root gets a machine of its own in memory; test_functions_of_the_package,
   test_functions_of_sites, test_changes_of_a_machine, test_sites_begun_again,
-  test_interrupted_sites.
+  test_restored_sites, test_interrupted_sites, test_folders_and_names_of_sites.
 - Setups and the words of tools: test_setup_from_tables, test_setup_table_faults, test_large_setups,
   test_setups_as_saved, test_words_of_tools, test_files_of_tools, test_functions_of_tools,
   test_setup_table_limits, test_setup_limits, test_odd_rows_of_tables.
@@ -38,8 +38,8 @@ addresses of its own (127.0.0.0/8).
   test_another_column, test_first_screen, test_pages_of_an_evening, test_places, test_languages,
   test_functions_of_the_pages, test_settings_of_the_site, test_figures, test_sums_of_the_country,
   test_lines_under_the_title, test_parts_of_the_pages, test_answers_of_offices,
-  test_files_of_the_pages, test_parts_of_the_country, test_rounds, test_sections_of_the_pages. In a
-  browser: test_shown_pages, test_renewed_pages, test_pictures.
+  test_files_of_the_pages, test_parts_of_the_country, test_rounds, test_sections_of_the_pages,
+  test_ended_rounds. In a browser: test_shown_pages, test_renewed_pages, test_pictures.
 - The published data: test_data, test_station_files, test_published, test_changed_files, test_feed,
   test_site_openapi, test_export, test_export_fields, test_data_in_process.
 - The clerks' page: test_clerks_page, test_clerk_page, test_slips, test_typed_slips,

@@ -7,6 +7,7 @@ import json
 
 from tests.support.case import Case, needs
 from tests.support.page_alone import NOW, page_alone, recorded, result
+from tests.support.typed_slips import ENTER, TAB
 
 UNSEEN = "What the office has now is not known: it did not answer. Ask it again."
 VIEW, AGAIN = "GET /now/con/c1/result", "element('again').click()"
@@ -33,6 +34,7 @@ REASONS = ["Line 4: station s2: another return of its station is recorded. s2,p2
 GIVE = """const data = new DataTransfer(), { file } = element('import').elements;
   data.items.add(new File([arguments[0]], 'rows.csv')); file.files = data.files;
   file.dispatchEvent(new Event('change', { bubbles: true }));"""
+IMPORT = "element('trial-import').focus(); element('trial-import').click()"
 
 
 def command(n, act, answer, name="clara", role="clerk", status=200, **body):
@@ -155,6 +157,67 @@ class Acts(Case):
             self.assertEqual(page.run(orders), ["", ""])
 
     @needs("chromium")
+    def test_a_lot_and_a_reopening_whose_answers_were_lost(self):
+        """The next lot or reopening finds its form empty."""
+        orders = "return [...element('order').querySelectorAll('select')].map((e) => e.value)"
+        note = "return element('reopen').elements.note.value"
+        with page_alone() as page:
+            # After the command it sees the lot, or nothing, or that a return was queried already.
+            lot, void = CLOSED | {"lot": ["B", "A"], "edition": 5}, LOT | {"edition": 5}
+            for before in ([200, lot], [502, ""], [200, LOT | {"edition": 5, "closed": 3}]):
+                with self.subTest(before=before):
+                    page.open("board", "berta", {VIEW: [[200, LOT], before],
+                                                 "POST /con/c1/draw": [[0, ""]]})
+                    page.run(CHOSEN, ["B", "A"])
+                    page.send("draw")
+                    page.tell({VIEW: [[200, void]]})
+                    self.assertEqual((page.does(AGAIN)["forms"], page.run(orders)),
+                                     (["certify", "draw"], ["", ""]))
+            # One that was not done stays chosen.
+            page.open("board", "berta", {VIEW: [[200, LOT]], "POST /con/c1/draw": [[0, ""]]})
+            page.run(CHOSEN, ["B", "A"])
+            page.send("draw")
+            self.assertEqual(page.run(orders), ["B", "A"])
+            for view, typed in ((CLOSED | {"edition": 6}, ""), (CERTIFIED, "sum")):
+                page.open("board", "berta", {VIEW: [[200, CERTIFIED], [200, view]],
+                                             "POST /con/c1/reopen": [[0, ""]]})
+                page.run("element('reopen').elements.note.value = 'sum'")
+                page.send("reopen")
+                self.assertEqual(page.run(note), typed)
+
+    @needs("chromium")
+    def test_a_lot_and_a_reopening_that_somebody_else_did(self):
+        """The reason of a reopening stays as long as there is a certificate; an order of lists as
+        long as it may be that of the lot."""
+        orders = "return [...element('order').querySelectorAll('select')].map((e) => e.value)"
+        note = "return element('reopen').elements.note.value"
+        with page_alone() as page:
+            for edition, answer in ((7, [409, {"word": "stale", "now": 7}]), (7, [502, ""]),
+                                    (5, [429, ""])):
+                with self.subTest(answer=answer):
+                    page.open("board", "berta", {
+                        VIEW: [[200, CERTIFIED], [200, CERTIFIED | {"edition": edition}]],
+                        "POST /con/c1/reopen": [answer]})
+                    page.run("element('reopen').elements.note.value = 'sum'")
+                    page.send("reopen")
+                    self.assertEqual(page.run(note), "sum")
+                    page.does(AGAIN)
+                    self.assertEqual(page.run(note), "sum")
+            page.tell({VIEW: [[200, CLOSED | {"edition": 6}]]})
+            page.does(AGAIN)
+            self.assertEqual(page.run(note), "")
+            for views, left in (([LOT], "B"), ([LOT | {"blank": 4}], "B"),
+                                ([LOT | {"closed": 3, "queried": 1}, LOT], ""),
+                                ([LOT | {"edition": 6}], "")):
+                with self.subTest(views=views):
+                    page.open("board", "berta", {VIEW: [[200, LOT]]})
+                    page.run(CHOSEN, ["B", "A"])
+                    for view in views:
+                        page.tell({VIEW: [[200, view]]})
+                        page.does(AGAIN)
+                    self.assertEqual(page.run(orders)[0], left)
+
+    @needs("chromium")
     def test_a_reopening_and_a_vacancy(self):
         with page_alone() as page:
             for form, question, sent, answer, said, rows in (
@@ -250,36 +313,50 @@ class Acts(Case):
         trial, imported = "POST /con/c1/trial", "POST /con/c1/import"
         done = {"ok": "import", "lodged": 1, "same": 2, "differs": 0, "refused": 0, "bad": 0,
                 "first": None}
-        shown = ("return [element('trial').hidden, element('import').querySelector('fieldset > "
-                 "button').textContent]")
+        shown = "return element('trial').hidden"
         with page_alone() as page:
             page.open(answers={trial: [[400, {"word": "bad_header"}]]})
             page.run(GIVE, FILE)
             seen = page.send("import")
-            self.assertEqual((seen["kind"], seen["alert"][:31], page.run(shown)),
-                             ("refused", "The first line of the file is n",
-                              [True, "Try this file"]))
+            self.assertEqual((seen["kind"], seen["alert"][:31], seen["focus"], page.run(shown)),
+                             ("refused", "The first line of the file is n", "BUTTON", True))
             page.tell({trial: [[200, TRIAL]], imported: [[200, done]]})
             page.asked()
             seen = page.send("import")
-            self.assertEqual((seen["said"], seen["kind"], page.asked()), (
-                "This is what an import of this file would come to now.", "",
+            self.assertEqual((seen["said"], seen["kind"], seen["focus"], page.asked()), (
+                "This is what an import of this file would come to now.", "", "trial-figures",
                 [f"{trial} rows.csv"]))
-            self.assertEqual(page.run(shown), [False, "Import this file"])
+            self.assertFalse(page.run(shown))
             self.assertEqual(page.run(TEXTS, "#trial td"), ["1", "2", "3", "1,200", "5"])
             self.assertEqual(page.run(TEXTS, "#trial li"), REASONS)
             # Another file that was chosen by the same name is tried too, and what was tried is
             # imported; one that cannot be read is said to be so.
-            page.run(GIVE.replace("input.dispatchEvent", "void"), FILE)
+            page.run(GIVE.replace("file.dispatchEvent", "void"), FILE)
             page.tell({trial: [[200, TRIAL], [200, TRIAL]]})
+            page.does(IMPORT)
+            self.assertEqual((page.asked(), page.run(shown)), ([f"{trial} rows.csv"], False))
+            # Once it was sent, the figures of the trial say nothing any more.
+            for answer in ([0, ""], [502, ""], [503, {"word": "unavailable"}]):
+                page.tell({imported: [answer]})
+                seen = page.does(IMPORT)
+                self.assertEqual((page.asked()[0], page.run(shown), seen["kind"], seen["focus"]), (
+                    f"{imported} rows.csv", True, "refused", "BUTTON"))
+                page.send("import")
+                self.assertEqual((page.asked(), page.run(shown)), ([f"{trial} rows.csv"], False))
+            page.tell({imported: [[200, done]]})
+            # Of one that is tried once more, and refused, nothing is left to import.
+            page.tell({trial: [[429, ""]]})
             page.send("import")
-            self.assertEqual(page.asked(), [f"{trial} rows.csv"])
+            self.assertEqual((page.asked(), page.run(shown)), ([f"{trial} rows.csv"], True))
+            page.tell({trial: [[200, TRIAL]]})
+            page.send("import")
+            page.asked()
             page.run("const [file] = document.querySelector('#import [type=file]').files;"
                      "file.arrayBuffer = () => Promise.reject(new DOMException('gone'));"
                      "document.querySelector('#import').dispatchEvent(new Event('cancel'));")
             seen = page.send("import")
             self.assertEqual((page.asked(), seen["kind"], seen["alert"][:26], page.run(shown)),
-                             ([], "refused", "This file was changed, or ", [True, "Try this file"]))
+                             ([], "refused", "This file was changed, or ", True))
             # Each thing that was not accepted is to be looked at, of whatever kind.
             for more, said, kind in (
                     ({}, "", "done"), ({"differs": 1, "first": [2, 7]},
@@ -301,13 +378,13 @@ class Acts(Case):
                     page.send("import")
                     page.tell({imported: [[200, done | more]]})
                     page.asked()
-                    seen = page.send("import")
+                    seen = page.does(IMPORT)
                     value = done | more
                     self.assertEqual((seen["said"], seen["kind"], seen["focus"], page.asked()[0]), (
                         f"Lodged 1, the same 2, differing {value['differs']}, refused "
-                        f"{value['refused']}, unreadable {value['bad']}.{said}", kind, "BUTTON",
+                        f"{value['refused']}, unreadable {value['bad']}.{said}", kind, "SUMMARY",
                         f"{imported} rows.csv"))
-                    self.assertEqual(page.run(shown), [True, "Try this file"])
+                    self.assertTrue(page.run(shown))
             self.assertEqual(page.run(TEXTS, "#not-accepted h3, #not-accepted li"),
                              ["Lines of rows.csv that were not accepted", *REASONS])
             size = len(FILE)
@@ -329,8 +406,95 @@ class Acts(Case):
                        f"{imported}/semicolon": [[200, done]]})
             page.run(GIVE, FILE)
             page.send("import")
-            page.send("import")
+            page.does(IMPORT)
             self.assertEqual(page.run(TEXTS, "#not-accepted *"), [])
+
+    @needs("chromium")
+    def test_a_button_that_is_pressed_twice(self):
+        """Nobody has seen the trial by then: the file is tried, and not imported. By keys alone it
+        is imported with the next button."""
+        trial, imported = "POST /con/c1/trial", "POST /con/c1/import"
+        done = {"ok": "import", "lodged": 1, "same": 2, "differs": 0, "refused": 0, "bad": 0,
+                "first": None}
+        figures = TRIAL[:TRIAL.index("row")]
+        mouse = [{"type": kind, "button": 0} for kind in ("pointerDown", "pointerUp")]
+        enter = [{"type": kind, "value": ENTER} for kind in ("keyDown", "keyUp")]
+        later = {"type": "pause", "duration": 150}
+        at = """const e = document.querySelector('#import fieldset > button'); e.focus();
+          e.scrollIntoView({ block: arguments[0] }); const [box] = e.getClientRects();
+          return [Math.floor(box.x + box.width / 2), Math.floor(box.y + box.height / 2)]"""
+        under = ("return element('trial-import').contains("
+                 "document.elementFromPoint(...arguments))")
+        with page_alone() as page:
+            page.open(answers={imported: [[200, done]]})
+
+            def tries(kind, actions, block, text):
+                page.run("element('import').reset()")
+                page.run(GIVE, FILE)
+                page.tell({trial: [[200, text]]})
+                page.asked()
+                x, y = page.run(at, block)
+                if kind == "pointer":
+                    actions = [{"type": "pointerMove", "x": x, "y": y}, *actions]
+                page.it.act(kind, actions)
+                seen = page.settled()
+                self.assertEqual((set(page.asked()), seen["said"], page.run(under, x, y)), (
+                    {f"{trial} rows.csv"},
+                    "This is what an import of this file would come to now.", False))
+
+            for width, height in ((1200, 800), (360, 640)):
+                page.it.size(width, height)
+                for block in ("start", "center", "end"):
+                    for rows in (0, 1, 5):
+                        with self.subTest(width=width, block=block, rows=rows):
+                            text = figures + "row 2 7 differs s2\n" * rows
+                            tries("pointer", [*mouse, later, *mouse], block, text)
+            for actions in ([*enter, later, *enter], [enter[0], later] * 5 + [enter[1]]):
+                with self.subTest(actions=actions):
+                    tries("key", actions, "center", TRIAL)
+                    self.assertEqual(page.settled()["focus"], "trial-figures")
+            # The figures are read aloud, and the question.
+            self.assertIn(("group", "Lodged 1 The same 2 Differing 3 Refused 1,200 Unreadable 5 "
+                           "Nothing is lodged yet. Import this file into Twin Town?"),
+                          page.it.named("group"))
+            # Enter in the form is the button that tries, also while the trial is shown.
+            page.it.command("Emulation.clearDeviceMetricsOverride")
+            page.does("element('import').requestSubmit()")
+            self.assertEqual(page.asked(), [f"{trial} rows.csv"])
+            page.it.keys(TAB)
+            self.assertEqual(page.settled()["focus"], "trial-import")
+            page.it.keys(ENTER)
+            self.assertEqual((page.settled()["said"][:9], page.asked()[0]),
+                             ("Lodged 1,", f"{imported} rows.csv"))
+
+    @needs("chromium")
+    def test_a_receipt_of_an_earlier_command(self):
+        """It is not under what is said of a later one that was not done."""
+        vacate, reopen = "POST /con/c1/vacate", "POST /con/c1/reopen"
+        shown = ("const { hidden, open } = element('receipt'); return [hidden, open, "
+                 "element('receipt').querySelector('summary').textContent]")
+        choose = ("const { holder, note } = element('vacate').elements; note.value = 'resigned'; "
+                  "holder.selectedIndex = 1; element('reopen').elements.note.value = 'sum'")
+        with page_alone() as page:
+            for answer, kind in (([0, ""], "refused"), ([409, {"word": "not_holder"}], "refused"),
+                                 ([202, {"until": "2026-11-29T21:00:00+00:00", "others": []}],
+                                  "look")):
+                with self.subTest(answer=answer):
+                    page.open("board", "berta", {VIEW: [[200, CERTIFIED]], vacate: [answer],
+                                                 reopen: [[200, {"ok": "moved", "edition": 6}]]})
+                    page.run(choose)
+                    page.send("reopen")
+                    withdrawn = "Receipt: a certificate withdrawn"
+                    self.assertEqual(page.run(shown), [False, True, withdrawn])
+                    page.run("office.isHeld = true; element('vacate').requestSubmit()")
+                    self.assertFalse(page.run(shown)[1])
+                    page.run("office.isHeld = false")
+                    self.assertEqual((page.settled()["kind"], page.run(shown)[0]), (kind, True))
+                    # One that is done has its own.
+                    page.tell({vacate: [[200, {"ok": "vacated", "next": None}]]})
+                    page.run(choose)
+                    page.send("vacate")
+                    self.assertEqual(page.run(shown), [False, True, "Receipt: a holder gone"])
 
     @needs("chromium")
     def test_a_history(self):

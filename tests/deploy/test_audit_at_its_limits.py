@@ -117,6 +117,30 @@ class Lots(Case):
                 self.assertTrue(ran.out.endswith(said), ran.out)
                 self.assertEqual(ran.out.count("A lot has to decide"), int(said is same))
 
+    def test_the_same_lot_beside_other_seats(self):
+        """By the returns and by the papers a lot decides between A and B. It is the whole question
+        only where all other lists have the same seats."""
+        same, other, no_such = (
+            "By the returns the same lot decides: the certified seats have to be those of the lot "
+            "that was drawn.", "The papers give other seats: correct the returns, and certify "
+            "again.", "By the returns no such lot decides: correct them, and certify again.")
+        returns, lot = [100, 100, 120, 50, 0, 0], "A's seat 1 and B's seat 1"
+        for method in METHODS:
+            con = con_of(method, 2, 4, [1000])
+            for papers, seats, said in (
+                    (returns, ["lot", "lot", "1", "0"], same),
+                    ([100, 100, 110, 60, 0, 0], ["lot", "lot", "1", "0"], same),
+                    ([100, 100, 50, 120, 0, 0], ["lot", "lot", "0", "1"], other),
+                    ([100, 50, 120, 100, 0, 0], ["lot", "0", "1", "lot"], no_such)):
+                with self.subTest(method=method, papers=papers):
+                    with redirect_stdout(io.StringIO()) as out:
+                        status = tool.count_of_all(audit_of(con, [returns]),
+                                                   audit_of(con, [papers]))
+                    lines = out.getvalue().splitlines()
+                    self.assertEqual((status, [line.split()[2] for line in lines[3:7]], lines[-1]),
+                                     (1, seats, said))
+                    self.assertIn(lot.replace("B", "D") if said is no_such else lot, lines[-2])
+
 
 class Rules(Case):
     def test_divisors_of_a_method_that_is_not_known(self):

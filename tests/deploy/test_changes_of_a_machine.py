@@ -1,5 +1,6 @@
 """The changes that office-site makes to a computer with services: units, ports, files and their
-owners, the files of the proxy and the places of sites. In a folder; nothing is started.
+owners, the files of the proxy and the places of sites. In a folder; nothing is started but an
+nginx of its own.
 """
 
 import argparse
@@ -8,13 +9,19 @@ import io
 import json
 import os
 import pwd
+import signal
+import socket
 import stat
+import subprocess
 import sys
+import time
+import urllib.request
 from pathlib import Path
 from types import SimpleNamespace
 from unittest import mock
 
-from tests.support.case import Case
+from tests.support.case import Case, needs
+from tests.support.running import PATIENCE, free_port, until
 from tests.support.scripts import loaded, module
 from tests.support.sites import OfSites
 
@@ -30,6 +37,16 @@ class OnAComputer(OfSites):
         self.machine.has_services = True
         self.machine.systemctl = lambda *words: self.calls.append(" ".join(words))
         self.machine.is_older = lambda unit, *files: unit in self.older
+        self.machine.words_of = lambda unit: None
+        self.machine.reload_proxy = lambda: self.calls.append("reload nginx")
+        program = self.site.run
+
+        def run(*words):
+            if words[0] == "nginx":
+                self.calls.append(" ".join(words))
+            return program(*words)
+
+        self.site.run = run
         self.site.await_page = self.waits.append
         self.site.listeners = lambda: {443: {"1"}}
         self.put(f"var/lib/office/{ONE}/backup/office-1.db")
@@ -43,23 +60,22 @@ class OnAComputer(OfSites):
 
     def test_what_is_started(self):
         """A unit that does not run, and once more one that is older than its files. The rules of
-        the ports are loaded each time."""
+        the ports are loaded each time, and then the files of the proxy, before any unit starts."""
         units = [f"{unit}@{ONE}.service" for unit in ("office", "office-reader", "office-recorder",
                                                       "office-press")]
         units += [f"{unit}@{ONE}.timer" for unit in ("office-backup", "office-status")]
         enable = f"enable --quiet office-ports {' '.join(units)} nginx"
-        begin = ["daemon-reload", "reload-or-restart office-ports", enable]
+        begin = ["daemon-reload", "nginx -t", "reload-or-restart office-ports", enable]
         well = [*begin, "reload nginx"]
         self.assertEqual(self.started(), (well, ""))
         self.assertEqual((self.waits, self.ran), ([ONE], [["nginx", "-t"]]))
         nginx = "restart nginx"
         for older, again, wanted, printed in (
-                ({units[0], units[5]}, False, [*begin, f"restart {units[0]} {units[5]}",
-                                               "reload nginx"],
+                ({units[0], units[5]}, False, [*well, f"restart {units[0]} {units[5]}"],
                  f"started {units[0]} {units[5]}\n"),
                 ({"nginx"}, False, [*begin, nginx], "started nginx.service\n"),
-                (set(), True, [*begin, f"restart {' '.join(units)}", nginx],
-                 f"started {' '.join(units)}\nstarted nginx.service\n")):
+                (set(), True, [*begin, nginx, f"restart {' '.join(units)}"],
+                 f"started nginx.service\nstarted {' '.join(units)}\n")):
             with self.subTest(older=older, again=again):
                 self.older = older
                 self.assertEqual(self.started(again), (wanted, printed))
@@ -74,6 +90,24 @@ class OnAComputer(OfSites):
         self.assertEqual(self.calls[-1], f"start office-backup@{ONE}")
         self.machine.has_services = False
         self.assertEqual(self.started(), ([], ""))
+
+    def test_a_proxy_whose_files_are_wrong(self):
+        """No unit is started, nor is one that runs restarted, and no page is waited for; also where
+        it does not read them."""
+        self.older = {"nginx", f"office@{ONE}.service"}
+        self.fails = {"nginx": "duplicate upstream"}
+        for again in (False, True):
+            with self.subTest(again=again):
+                self.calls.clear()
+                self.refused("nginx: duplicate upstream", self.site.start, self.machine, ONE, again)
+                self.assertEqual(self.calls, ["daemon-reload", "nginx -t"])
+        self.fails, self.older = {}, {f"office@{ONE}.service"}
+        self.machine.reload_proxy = mock.Mock(side_effect=self.site.Fault("its files of before"))
+        self.calls.clear()
+        self.refused("its files of before", self.site.start, self.machine, ONE, False)
+        self.assertEqual([call.split()[0] for call in self.calls],
+                         ["daemon-reload", "nginx", "reload-or-restart", "enable"])
+        self.assertEqual(self.waits, [])
 
     def test_logs_that_have_just_got_a_place(self):
         """The proxy writes there once it is started again."""
@@ -96,7 +130,7 @@ class OnAComputer(OfSites):
             return found(clock[0] - 1000) if callable(found) else found
 
         site.time = SimpleNamespace(monotonic=lambda: clock[0], sleep=sleep)
-        site.status_of = status_of
+        site.status_of, site.head_of = status_of, lambda _: {"n": 1, "hash": "a"}
         for health, page, seconds in ((204, 200, 0), (204, 403, 0),
                                       (204, lambda took: 200 if took > 59.5 else 404, 59.6)):
             clock[0] = 1000.0
@@ -117,6 +151,36 @@ class OnAComputer(OfSites):
                 f"office-recorder@{ONE}.service office-press@{ONE}.service "
                 f"office-backup@{ONE}.timer office-status@{ONE}.timer nginx"))
             self.assertAlmostEqual(clock[0] - 1000, 60, delta=0.21)
+
+    def test_how_long_a_recorder_is_waited_for(self):
+        """A minute, until it has read the record. One that does no command says why."""
+        clock, site = [1000.0], loaded("office-site")
+        site.time = SimpleNamespace(monotonic=lambda: clock[0],
+                                    sleep=lambda seconds: clock.append(clock.pop() + seconds))
+        site.status_of = lambda _, target: 204 if target == "/health" else 200
+        wrong, where = {"n": 1, "hash": "a", "fault": "line 2 was cut"}, []
+        for head, after, seconds, said in (
+                ({"n": 0, "hash": "a"}, 0, 0, None), ({"n": 1, "hash": "a"}, 59.5, 59.6, None),
+                (wrong, 0, 0, "line 2 was cut"), (wrong, 3, 3, "line 2 was cut"),
+                ({"n": 1, "hash": "a"}, 61, 60, "it has not begun"),
+                (None, 0, 60, "it has not begun"), ([], 0, 60, "it has not begun")):
+            with self.subTest(head=head, after=after):
+                clock[0] = 1000.0
+
+                def head_in(file, head=head, after=after):
+                    where.append(file)
+                    if clock[0] - 1000 < after:
+                        raise FileNotFoundError
+                    return head
+
+                with mock.patch.object(site.status_looks, "head_in", head_in):
+                    if said:
+                        self.refused(f"the recorder of {ONE} does no command ({said}): "
+                                     f"journalctl -u office-recorder@{ONE}", site.await_page, ONE)
+                    else:
+                        site.await_page(ONE)
+                self.assertAlmostEqual(clock[0] - 1000, seconds, delta=0.21)
+        self.assertEqual({*where}, {f"/run/office-recorder/{ONE}/head"})
 
     def test_a_file_system_for_the_logs(self):
         """With the first site, where they are beside the record and nobody wants them there."""
@@ -172,17 +236,41 @@ class OnAComputer(OfSites):
         self.assertEqual(done, [0o600, ("unlink", True)])
 
     def test_each_site_again(self):
+        """The files of all are written before anything is started: the proxy reads those of all."""
         given = argparse.Namespace(site=None, again=True, list=False, remove=False)
         sites = []
         self.site.set_up = lambda _, words: sites.append((words.site, words.again))
+        self.site.start = lambda _, site, again: sites.append(("start", site, again))
         for place, site in enumerate((ONE, OTHER)):
             self.ports(site, 8080 + place)
         with contextlib.redirect_stdout(io.StringIO()) as printed:
             self.site.act(self.machine, given)
             self.machine.changed.append("x")
             self.site.act(self.machine, given)
-        self.assertEqual((sites, printed.getvalue()),
-                         (2 * [(ONE, True), (OTHER, True)], "nothing was changed\n"))
+        self.assertEqual((sites, printed.getvalue()), (
+            2 * [(ONE, True), (OTHER, True), ("start", ONE, True), ("start", OTHER, True)],
+            "nothing was changed\n"))
+
+    def test_an_upgrade_with_a_fault_of_one_site(self):
+        """It is not started, and the others are; a site that does not start keeps no other from
+        it."""
+        sites = (ONE, OTHER, "c.example")
+        for place, site in enumerate(sites):
+            self.ports(site, 8080 + place)
+        started = []
+
+        def fails_for(wrong, said):
+            def step(_, words, again=None):
+                if (site := getattr(words, "site", words)) == wrong:
+                    raise self.site.Fault(said)
+                if again:
+                    started.append(site)
+            return step
+
+        self.site.set_up, self.site.start = fails_for(ONE, "no key"), fails_for(OTHER, "no page")
+        self.refused(f"{ONE}: no key\noffice-site: {OTHER}: no page", self.site.all_once_more,
+                     self.machine, argparse.Namespace(again=True))
+        self.assertEqual(started, ["c.example"])
 
     def test_the_record_that_a_site_has_begun(self):
         self.assertEqual(self.site.begun_with(self.machine, ONE), None)
@@ -316,6 +404,19 @@ class Services(OfAMachine):
                 ("systemctl", "stop", "a"), ("systemctl", "reset-failed", "a", "b"),
                 *2 * [("systemctl", "is-active", "--quiet", "a")]] if has_services else [])
 
+    def test_the_words_of_a_unit(self):
+        """Those of its process, while it has one."""
+        process = subprocess.Popen(["sleep", "600", "1"])
+        self.addCleanup(process.wait)
+        self.addCleanup(process.kill)
+        until(lambda: Path(f"/proc/{process.pid}/cmdline").read_bytes().startswith(b"sleep"))
+        for active, number, wanted in ((True, process.pid, ["sleep", "600", "1", ""]),
+                                       (False, process.pid, None), (True, 0, None)):
+            self.machine.is_active = lambda unit, active=active: unit == "a" and active
+            self.site_machine.run = lambda *words, number=number: (
+                f"MainPID={number * (words[1:] == ('show', '--property=MainPID', 'a'))}\n", "")
+            self.assertEqual(self.machine.words_of("a"), wanted)
+
     def test_what_is_older_than_its_files(self):
         """A unit that does not run, or began before one of them was written."""
         self.site_machine.time = SimpleNamespace(time=lambda: 5000.0, monotonic=lambda: 700.0)
@@ -332,6 +433,53 @@ class Services(OfAMachine):
                     os.utime(self.root / str(number), (moment, moment))
                 files = [f"/{number}" for number in range(len(times))]
                 self.assertEqual(self.machine.is_older("a", *files), wanted)
+
+    @needs("nginx")
+    def test_a_proxy_that_reads_its_files(self):
+        """Whoever asks after it gets an answer by these, also where a request of before is not over
+        yet; a proxy that cannot use them is a fault."""
+        conf, port = Path("nginx.conf").resolve(), free_port()
+
+        def write(word, more=""):
+            # (a map as large as that of many stations, which takes a while to read)
+            many = "".join(f"x{number} 1;" for number in range(60_000))
+            conf.write_text(f"""
+                daemon off; pid {conf.parent}/pid; error_log {conf.parent}/said;
+                worker_processes 4; events {{}} {more}
+                http {{
+                    access_log off; client_body_temp_path {conf.parent}/body;
+                    map_hash_max_size 2000000; map $uri $x {{ {many} }}
+                    server {{ listen 127.0.0.1:{port}; return 200 {word}; }}
+                }}""", encoding="utf-8")
+
+        def answer():
+            with urllib.request.urlopen(f"http://127.0.0.1:{port}/", timeout=PATIENCE) as found:
+                return found.read().decode()
+
+        def is_there():
+            with contextlib.suppress(OSError):
+                return answer() == "one"
+
+        write("one")
+        process = subprocess.Popen(["nginx", "-c", conf, "-p", conf.parent])
+        self.addCleanup(process.wait)
+        self.addCleanup(process.terminate)
+        until(is_there)
+        self.site_machine.run = lambda *words: (f"MainPID={process.pid}\n", "")
+        self.machine.systemctl = lambda *words: process.send_signal(signal.SIGHUP)
+        self.assertEqual(len(self.site_machine.workers_of(str(process.pid))), 4)
+        with contextlib.closing(socket.create_connection(("127.0.0.1", port), PATIENCE)) as slow:
+            slow.sendall(b"GET / HTTP/1.1\r\n")
+            for word in ("two", "three"):
+                write(word)
+                self.machine.reload_proxy()
+                self.assertEqual([answer() for _ in range(20)], [word] * 20)
+        write("four", "no such directive;")
+        clock = iter((0.0, 59.9, 60.1))
+        self.site_machine.time = SimpleNamespace(monotonic=lambda: next(clock), sleep=time.sleep)
+        with self.assertRaisesRegex(self.site_machine.Fault, "^nginx goes on with its files of "
+                                                             "before: journalctl -u nginx$"):
+            self.machine.reload_proxy()
 
     def test_a_program_and_its_fault(self):
         """Its words are on standard error, or else on the other output; a number where it has

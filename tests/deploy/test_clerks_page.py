@@ -67,7 +67,7 @@ class ClerksPage(SiteCase):
                       {"text": str(ROOT / "examples/returns.csv")})
         it.click("#import button")
         said(it, "This is what an import of this file would come to now.")
-        it.click("#import button")
+        it.click("#trial-import")
         said(it,
              "Lodged 13, the same 1, differing 2, refused 2, unreadable 2. The first that was not "
              "accepted is line 12 of the file: station 01-002-A: "

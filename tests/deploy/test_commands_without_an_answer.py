@@ -30,6 +30,7 @@ STATUSES = {"received": 1, "queried": 2, "corrected": 3, "closed": 4}
 ONE, SAME = {"ok": "lodged", "rev": 1}, {"ok": "same", "rev": 1}
 moved = "{{\"ok\":\"moved\",\"rev\":{}}}".format
 edition = "{{\"ok\":\"edition\",\"edition\":{}}}".format
+NO_RETURN = '{"refused":8,"word":"no_return"}'
 stale = "{{\"now\":{},\"refused\":11,\"word\":\"stale\"}}".format
 
 
@@ -44,7 +45,7 @@ def lines_of(*acts):
             lines.append({"to": len(lines), "status": answer, "answer": ""})
         elif answer:
             said = answer if isinstance(answer, str) else json.dumps(answer)
-            status = 409 if '"word"' in said else 200
+            status = 404 if said == NO_RETURN else 409 if '"word"' in said else 200
             lines.append({"to": len(lines), "status": status, "answer": said})
     return lines
 
@@ -181,8 +182,7 @@ class BorneOut(Case):
         self.assertEqual([it.returns[code].first[0] for code in ("s1", "s2")], ["clara", "ivo"])
 
     def test_a_file_of_which_nobody_knows_what_it_lodged(self):
-        """It may have lodged what the lost command was to lodge. So may a lodge that was sent
-        twice."""
+        """It may have lodged what the lost command was to lodge."""
         rows = HEAD + "s1,p1,0,0,2,1\ns2,p1,0,0,2,1\ns3,p1,0,0,2,1\n"
         counts = {"ok": "import", "bad": 0, "refused": 0, "lodged": 1, "same": 1, "differs": 1}
         for first in ([2, 7], [3, 7]):
@@ -191,10 +191,105 @@ class BorneOut(Case):
                 ("ivo", "/con/c1/import", rows, counts | {"first": first}),
                 ("bruno", "/station/s1/query", {"rev": 1, "note": "3?"}, moved(2))))
             self.assertEqual((remarks, it.returns["s1"].first), ([], None))
-        lines = lines_of(lodge(None, "carl"), lodge(SAME))
+
+    def test_what_was_there_when_a_command_was_sent_again(self):
+        """It was done the first time, or a lost command of another name lodged it: then nobody
+        knows whose the first entry is."""
+        s1 = lambda name, answer, votes=(1, 2): (
+            name, "/station/s1/lodge", LODGED | {"votes": votes}, answer)
+        row, more = "s1,p1,0,0,1,2\n", "s1,p1,0,0,1,2\ns2,p1,0,0,1,2\n"
+        file = lambda name, rows, answer: (name, "/con/c1/import", HEAD + rows, answer)
+        counts = {"ok": "import", "bad": 0, "refused": 0, "differs": 0, "first": None}
+        there, new = counts | {"lodged": 0, "same": 2}, counts | {"lodged": 2, "same": 0}
+        close = "carl", "/station/s1/close", {"rev": 1}, NO_RETURN
+        for before, last, firsts in (
+                ([s1("carl", 504)], s1("clara", SAME), [None]),
+                ([s1("carl", None)], s1("clara", SAME), [None]),
+                ([file("carl", row, 502)], s1("clara", SAME), [None]),
+                ([s1("clara", 504), s1("carl", 504)], s1("clara", SAME), [None]),
+                ([s1("carl", 504)], file("clara", more, there), [None, "clara"]),
+                ([file("carl", row, None)], file("clara", more, there), [None, "clara"]),
+                # No such command is there; or it was not done, as its figures or an answer show.
+                ([], s1("clara", SAME), ["clara"]),
+                ([s1("clara", 504)], s1("clara", SAME), ["clara"]),
+                ([s1("carl", 504, (2, 1))], s1("clara", SAME), ["clara"]),
+                ([s1("carl", 504), close], s1("clara", SAME), ["clara"]),
+                ([s1("carl", 504)], s1("clara", ONE), ["clara"]),
+                ([s1("carl", 504)], file("clara", more, new), ["clara"] * 2),
+                ([file("clara", row, 504)], file("clara", more, there), ["clara"] * 2),
+                # The record says who lodged it.
+                ([s1("ivo", ONE), s1("carl", 504)], s1("clara", SAME), ["ivo"])):
+            with self.subTest(before=before, last=last):
+                lines = lines_of(*before, last)
+                lines[-1]["again"] = True
+                number = len(lines)
+                confirm, _ = lines_of(("sara", "/station/s1/confirm", {"rev": 1} | LODGED, 1))
+                lines += [confirm, {"to": number + 1, "status": 200, "answer": moved(2)}]
+                named, remarks, it = looked(lines)
+                found = [it.returns[code] for code in ("s1", "s2") if code in it.returns]
+                self.assertEqual([one.first and one.first[0] for one in found], firsts)
+                self.assertEqual([one.addresses[0] is None for one in found],
+                                 [one is None for one in firsts])
+                self.assertEqual((len(named), remarks), (firsts.count(None), []))
+                self.assertTrue(all(one.startswith("s1: its second entry is by sara")
+                                    and one.endswith("and its first is not in this record")
+                                    for one in named), named)
+
+    def test_a_return_past_the_record_that_a_file_shows(self):
+        """It is nobody's: no command that is lost later lodged it. Where one was lost before, and
+        leads there alone, it did."""
+        lodged = lambda name, answer, code="s1", votes=(1, 2): (
+            name, f"/station/{code}/lodge", LODGED | {"votes": votes}, answer)
+        row = "{},p1,0,0,{},{}\n".format
+        s1, s2, other = row("s1", 1, 2), row("s2", 1, 2), row("s1", 2, 1)
+        counts = {"ok": "import", "bad": 0, "refused": 0, "lodged": 0, "same": 0, "differs": 0,
+                  "first": None}
+        file = lambda rows, **answer: ("ivo", "/con/c1/import", HEAD + rows, counts | answer)
+        differs = '{"refused":7,"rev":1,"word":"differs"}'
+        lost, same = lodged("dana", 504), file(s1, same=1)
+        confirm = "sara", "/station/s1/confirm", {"rev": 1} | LODGED, moved(2)
+        for acts, first, remarks in (
+                # An answer before the lost command shows it.
+                ([same, lost], None, 0), ([file(other, differs=1, first=[1, 7]), lost], None, 0),
+                ([file(s1 + s2, same=1, differs=1, first=[2, 7]), lost], None, 0),
+                ([lodged("carl", SAME), lost, same], None, 0),
+                ([lodged("carl", SAME), lost, file(s1 + s2, same=1, lodged=1)], None, 0),
+                ([lodged("clara", None), lodged("anna", None), lodged("carl", SAME), lost, same],
+                 None, 0),
+                # Two lead to the other station, or to this one.
+                ([lodged("clara", None, "s2"), lodged("anna", None, "s2"), lost,
+                  file(s1 + s2, lodged=1, same=1)], None, 0),
+                ([lodged("clara", None), lost, same], None, 0),
+                ([lost, same], "dana", 1), ([lost, lost, same], "dana", 1),
+                ([lodged("clara", None, votes=(2, 1)), lost, same], "dana", 1),
+                ([lost, file(s1 + s2, lodged=1, same=1)], "dana", 1),
+                ([lost, file(other, differs=1, first=[1, 7])], "dana", 1),
+                # A later row of a station differs from the first one of the file.
+                ([file(s1 + other, lodged=1, differs=1, first=[2, 7])], "ivo", 0)):
+            with self.subTest(acts=acts):
+                named, found, it = looked(lines_of(*acts, confirm))
+                known = it.returns["s1"].first
+                self.assertEqual((known and known[0], len(found), len(named)),
+                                 (first, remarks, first is None))
+        # Of a return that the record has, a later answer says which of two corrections was done.
+        correct = lambda name, votes: (
+            name, "/station/s1/correct", {"rev": 2} | LODGED | {"votes": votes}, None)
+        named, found, it = looked(lines_of(
+            lodged("clara", ONE),
+            ("bruno", "/station/s1/query", {"rev": 1, "note": "3?"}, moved(2)),
+            correct("carl", (2, 1)), correct("dana", (1, 1)),
+            file(s1, differs=1, first=[1, 7]),
+            ("sara", "/station/s1/confirm", {"rev": 3} | LODGED | {"votes": (2, 1)}, moved(4))))
+        self.assertEqual((named, len(found), it.returns["s1"].first[0]), ([], 1, "carl"))
+        # A return past the record is not hers either whose lodge was the same, sent again.
+        lines = lines_of(lodged("carl", differs, votes=(2, 1)), lodged("dana", SAME))
         lines[-1]["again"] = True
-        _, remarks, it = looked(lines)
-        self.assertEqual((remarks, it.returns["t1"].first[0]), ([], "clara"))
+        self.assertIsNone(looked(lines)[2].returns["s1"].first)
+        # What a file lodged is no return past the record: a lost command over it may be done.
+        _, remarks, it = looked(lines_of(
+            file(s1 + other, lodged=1, differs=1, first=[2, 7]), (*confirm[:3], None),
+            ("bruno", "/station/s1/query", {"rev": 2, "note": "3?"}, moved(3))))
+        self.assertEqual((len(remarks), len(it.returns["s1"].revisions)), (1, 3))
 
     def test_what_a_lost_certificate_or_reopening_led_to(self):
         """A later edition bears it out, or an answer that the constituency is certified."""
@@ -297,6 +392,33 @@ class NotBorneOut(Case):
                                     copy_with([("t1", 2, 4, "")]))
         self.assertEqual((named, remarks), ([], [said(1, LODGE_T1, "line 6")]))
         self.assertEqual(it.returns["t1"].first, ("clara", "2026-11-26T22:14:01.000+00:00"))
+
+    def test_one_name_that_sends_the_same_figures_otherwise(self):
+        """They are the same return: in another file, or with the keys in another order."""
+        files = [("clara", "/con/c2/import", HEAD + rows, 504)
+                 for rows in ("t1,p1,0,0,1,2\n", "t9,p1,0,0,1,2\nt1,p1,0,0,1,2\n")]
+        keys = [lodge(503), lodge(503, body=dict(reversed(LODGED.items())))]
+        for acts in (files, keys):
+            with self.subTest(acts=acts):
+                named, remarks, it = looked(lines_of(*acts, close(1, moved(2))),
+                                            copy_with([("t1", 2, 4, "")]))
+                self.assertEqual((named, len(remarks)), ([], 1))
+                self.assertEqual(it.returns["t1"].first[0], "clara")
+
+    def test_one_name_that_asks_for_different_things(self):
+        """Its queries have other notes: nobody knows which of them was done."""
+        lines = lines_of(lodge(ONE), query(1, None), query(1, 504, "8?"), close(3, stale(2)),
+                         ("clara", "/station/t1/correct", {"rev": 2} | LODGED, moved(3)))
+        named, remarks, _ = looked(lines, copy_with([("t1", 3, 3, "8?")]))
+        self.assertEqual((named, remarks), ([self.NEVER.format(3)], []))
+
+    def test_what_was_lodged_by_hand_after_an_answer_that_there_was_nothing(self):
+        """A lost command that was sent before the answer was not done, and no lodge is its work."""
+        for lost in (None, 504):
+            with self.subTest(lost=lost):
+                named, remarks, it = looked(lines_of(lodge(lost), close(1, NO_RETURN)),
+                                            copy_with([("t1", 1, 1, "")]))
+                self.assertEqual((named, remarks, it.returns), ([self.NEVER.format(1)], [], {}))
 
     def test_bodies_and_answers_that_nobody_can_read(self):
         for body, answer in (("", moved(2)), ("[]", moved(2)), ("{", moved(2)), (LODGED, "?"),

@@ -248,6 +248,47 @@ class Copies(Case):
                 self.assertEqual(loaded("send-copies").main(words), 2)
                 self.assertTrue(said.getvalue().startswith("usage: send-copies RECORD FOLDER"))
 
+    def test_when_all_of_it_was_sent(self):
+        """A file beside the copies has that time, and is gone where not all of it is there: where
+        nobody answers, a copy is refused or is another one, or a new record is not the last one."""
+        mark = Path("copies/.sent")
+
+        def sent():
+            """The status, and whether the time is that of this run; None where there is none."""
+            if mark.exists():
+                os.utime(mark, (1000, 1000))
+            status, _, _ = self.sends()
+            return status, mark.stat().st_mtime > 1000 if mark.exists() else None
+
+        Path("copies", COPY).write_bytes(b"a copy")
+        Path("commands.log").write_bytes(b"one\n")
+        for _ in range(2):
+            self.assertEqual(sent(), (0, True))
+        Path("kept").rename("away")
+        self.assertEqual(sent(), (1, None))
+        Path("away").rename("kept")
+        self.assertEqual(sent(), (0, True))
+        Path("copies", LATER).write_bytes(b"a later copy")
+        with mock.patch.object(self.keep, "ROOM", 1 << 60):
+            self.assertEqual(sent(), (1, None))
+        self.assertEqual(sent(), (0, True))
+        Path("copies", LATER).write_bytes(b"another")
+        for _ in range(2):
+            self.assertEqual(sent(), (1, None))
+        Path("copies", LATER).unlink()
+        self.assertEqual(sent(), (0, True))
+        [record] = Path("kept").glob("commands-*.log")
+        record.rename(f"kept/{RECORD}")
+        Path("kept/commands-99991231T235959Z.log").write_bytes(b"forged\n")
+        Path("commands.log").write_bytes(b"ONE\n")
+        self.assertEqual(sent(), (1, None))
+        # A run that is ended says nothing.
+        self.assertEqual(sent(), (0, True))
+        os.utime(mark, (1000, 1000))
+        with mock.patch.object(self, "asks", side_effect=KeyboardInterrupt):
+            self.assertRaises(KeyboardInterrupt, self.sends)
+        self.assertEqual(mark.stat().st_mtime, 1000)
+
     def test_words_that_it_does_not_know(self):
         for words in ((), ("kept", "kept"), ("--again", "kept"), ("--kept",), ("",) * 4):
             with self.subTest(words=words), contextlib.redirect_stderr(io.StringIO()) as said:

@@ -505,6 +505,74 @@ class TheLifeOfADesk(unittest.TestCase):
         self.assertIn('"path": "/station/s1/close"',
                       (self.folder / "evening.bak.commands.log").read_text(encoding="utf-8"))
 
+    def test_a_copy_that_lacks_what_its_record_has_is_not_opened_before_it_is_sent(self):
+        desk = self.started().opened()
+        desk.ask("clerk-1", "POST", "/station/s1/lodge", SLIP)
+        self.assertEqual(desk.ended(signal.SIGINT)[0], 0)
+        shutil.copy(desk.db, self.folder / "older")
+        desk = self.started().opened()
+        desk.ask("clerk-1", "POST", "/station/s2/lodge", SLIP)
+        desk.ask("clerk-1", "POST", "/station/s1/close", {"rev": 1})
+        self.assertEqual(desk.ended(signal.SIGINT)[0], 0)
+        shutil.copy(self.folder / "older", desk.db)
+        # (what a crash leaves at its end, a line without its end, is not why)
+        record = desk.db.with_suffix(".commands.log")
+        before = record.read_bytes()
+        status, said, fault = self.started().ended()
+        self.assertEqual((status, said), (1, ""))
+        lines = fault.splitlines()
+        self.assertEqual(lines[0], f"desk: {desk.db} is not what its record {record} leads to:")
+        self.assertEqual(lines[1:3], [
+            "station s1: the office has something else than line 6 left",
+            "station s2: the office has something else than line 4 left"])
+        self.assertIn("deploy/README.md", lines[3])
+        self.assertEqual(record.read_bytes(), before)
+        port = free_ports(1)
+        words = ("setup.toml", ".", "codes.conf")
+        subprocess.run([DESK.parent / "setup-json", *words], cwd=self.folder, check=True)
+        serve = [PROGRAM, "serve", "--db", desk.db, "--port", str(port), "--count", "1000000"]
+        with subprocess.Popen(serve, stderr=subprocess.PIPE) as office:
+            office.stderr.readline()
+            words = ("--after", "3", "--setup", "setup.json", f"http://127.0.0.1:{port}")
+            sent = subprocess.run([DESK.parent / "replay", *words], cwd=self.folder,
+                                  input=before, capture_output=True)
+            office.terminate()
+        self.assertEqual(sent.returncode, 0, sent.stdout)
+        self.assertEqual(self.started().opened().ended(signal.SIGINT)[0], 0)
+        shutil.copy(self.folder / "older", desk.db)
+        it = self.started("--as-it-is").opened()
+        self.assertEqual(it.ask("clerk-1", "GET", "/station/s2").status, 404)
+
+    def test_a_record_that_a_crash_has_cut_opens_with_its_database(self):
+        desk = self.started().opened()
+        desk.ask("clerk-1", "POST", "/station/s1/lodge", SLIP)
+        self.assertEqual(desk.ended(signal.SIGINT)[0], 0)
+        record = desk.db.with_suffix(".commands.log")
+        answer = record.read_bytes().splitlines(True)[-1]
+        for cut in (len(answer), 40):
+            with self.subTest(cut=cut):
+                os.truncate(record, record.stat().st_size - cut)
+                self.assertEqual(self.started().opened().ended(signal.SIGINT)[0], 0)
+
+    def test_a_copy_whose_record_begins_in_the_middle(self):
+        """It says nothing of what was there before: that is no reason not to open it."""
+        desk = self.started().opened()
+        for name in ("s1", "s2"):
+            desk.ask("clerk-1", "POST", f"/station/{name}/lodge", SLIP)
+            desk.ask("clerk-1", "POST", f"/station/{name}/close", {"rev": 1})
+        found = desk.ask("board-1", "POST", "/con/c1/certify", {"edition": 1})
+        self.assertEqual(found.status, 200, found.text)
+        self.assertEqual(desk.ended(signal.SIGINT)[0], 0)
+        shutil.copy(desk.db, self.folder / "evening.bak")
+        acts = ("/station/s1/lodge", SLIP), ("/con/c1/reopen", {"edition": 2, "note": "n"}), (
+            "/station/s1/query", {"rev": 2, "note": "n"})
+        for path, body in acts:
+            copy = self.started(db="evening.bak").opened()
+            name = "board-1" if path.startswith("/con") else "clerk-1"
+            self.assertEqual(copy.ask(name, "POST", path, body).status, 200)
+            self.assertEqual(copy.ended(signal.SIGINT)[0], 0)
+        self.assertEqual(self.started(db="evening.bak").opened().ended(signal.SIGINT)[0], 0)
+
     def test_a_port_that_is_taken_is_named(self):
         first = free_ports(3)
         with socket.create_server(("127.0.0.1", first + 1)):

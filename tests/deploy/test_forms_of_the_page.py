@@ -7,6 +7,7 @@ import json
 
 from tests.support.case import Case, needs
 from tests.support.page_alone import LISTS, NO_RETURN, NOW, TYPED, page_alone, recorded, result
+from tests.support.typed_slips import ENTER, TAB
 
 VIEW, OF_S1, AGAIN = "GET /now/con/c1/result", "GET /now/station/s1", "element('again').click()"
 LODGE, CONFIRM = "POST /station/s1/lodge", "POST /station/s1/confirm"
@@ -209,6 +210,20 @@ class Forms(Case):
                     " 'This field is empty.'", event), False)
 
     @needs("chromium")
+    def test_a_wrong_total_of_a_slip_that_is_entered_twice(self):
+        """Who types on without looking up replaces the total alone, which is never right then."""
+        with page_alone() as page:
+            page.open(answers={"GET /now/con/c1/result": [[200, result(entry="double")]]})
+            page.station("s1")
+            page.asked()
+            self.assertEqual(page.send("lodge", *TYPED[:5], "302")["focus"], "lodge total")
+            for keys in ("5", "104", "50", "1", "1", "156"):
+                page.it.keys(f"{keys}{ENTER}")
+                self.assertEqual(page.settled()["focus"], "lodge total")
+                self.assertEqual(page.run("return office.typed('lodge')"), [*TYPED[:5], keys])
+            self.assertEqual([one for one in page.asked() if "POST" in one], [])
+
+    @needs("chromium")
     def test_what_is_looked_at_before_it_is_sent(self):
         """The total, and what is unusual: its field has the focus, and says why."""
         state = ("const total = office.fields('lodge')[5]; return [total.ariaInvalid, total"
@@ -320,7 +335,7 @@ class Forms(Case):
         compare, after = "element('stopped-compare').click()", "element('stopped-next').click()"
         cancel = "element('stopped').dispatchEvent(new Event('cancel', { cancelable: true }))"
         cases = (("clerk", LODGE, "none", compare, "lodge slip", TYPED),
-                 ("clerk", LODGE, "received", compare, "query note", TYPED),
+                 ("clerk", LODGE, "received", compare, "return", TYPED),
                  ("clerk", LODGE, "none", after, "station", [""] * 6),
                  ("clerk", LODGE, "none", cancel, "station", [""] * 6),
                  ("second", CONFIRM, "none", compare, "confirm slip", TYPED),
@@ -342,15 +357,38 @@ class Forms(Case):
                             "ng, query and correct it."}.get(role, "ice: a clerk corrects it.")
                     self.assertEqual((page.run(state, form), seen["focus"]), (
                         [True, said, role == "station", TYPED], "stopped-compare"))
-                    # Enter presses the button, as nothing was typed yet.
-                    self.assertTrue(page.run(
+                    # Enter presses the button only once the page has said that it takes nothing.
+                    self.assertEqual([page.run(
                         "return element('stopped').dispatchEvent(new KeyboardEvent('keydown', "
-                        "{ key: 'Enter', cancelable: true }))"))
+                        "{ key: 'Enter', repeat: arguments[0], cancelable: true }))", held)
+                                      for held in (False, True, False)], [False, False, True])
                     seen = page.does(act)
                     self.assertEqual((page.run(state, form)[0], seen["focus"],
                                       page.run(state, form)[3]), (False, focus, typed))
                     self.assertEqual(page.run("return localStorage.length"),
                                      0 if typed != TYPED else kept)
+
+    @needs("chromium")
+    def test_a_slip_that_differs_and_the_next_one(self):
+        """Who types on from the next paper presses and sends nothing, also where the return of
+        somebody else is shown by then."""
+        state = "return [element('stopped').open, element('query').elements.note.value]"
+        with page_alone() as page:
+            page.open(answers={LODGE: [DIFFERS], OF_S1: [NO_RETURN, status_of("received")]})
+            page.station("s1")
+            page.send("lodge", *TYPED)
+            page.asked()
+            for keys, is_open, focus in ((ENTER, True, "stopped-compare"),
+                                         (f"5{ENTER}200{ENTER}", True, "stopped-compare"),
+                                         (ENTER, False, "return"),
+                                         (f"5{ENTER}200{ENTER}", False, "return")):
+                page.it.keys(keys)
+                self.assertEqual((page.settled()["focus"], page.run(state), page.asked()),
+                                 (focus, [is_open, ""], []))
+            # The query comes next, for who wants it.
+            page.it.keys(TAB, TAB, "5", ENTER)
+            page.settled()
+            self.assertEqual(page.asked()[0], 'POST /station/s1/query {"rev":1,"note":"5"}')
 
     @needs("chromium")
     def test_the_codes_of_stations(self):

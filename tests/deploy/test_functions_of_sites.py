@@ -320,8 +320,9 @@ class Made(OfSites):
                      f"link /var/lib/office-site/{ONE}/clerk.html"):
             self.assertEqual(lines.count(line), 1, line)
         self.assertNotIn("site.conf", printed)
-        self.assertEqual(said, "of setup-json\neverything is public at once; until an hour: "
-                               f"office-site {ONE} --hour TIME\n")
+        each = f"of setup-json\n{ONE}: port 8080, one of the board\n"
+        self.assertEqual(said, f"{each}everything is public at once; until an hour: office-site "
+                               f"{ONE} --hour TIME\n")
         modes = {place: (self.root / place).stat().st_mode & 0o7777 for place in (
             f"etc/office/{ONE}", "etc/nginx/office", f"etc/nginx/office/{ONE}",
             f"var/lib/office/{ONE}", f"var/log/office/{ONE}", f"var/www/office/{ONE}",
@@ -336,7 +337,7 @@ class Made(OfSites):
         self.assertEqual(drop_in.read_bytes(), (DEPLOY / "nginx-office.conf").read_bytes())
         # Once more, and nothing is changed.
         for words in ((ONE,), (ONE, "setup.toml"), ("--again",)):
-            self.assertEqual(self.did(*words), (0, "nothing was changed\n", "of setup-json\n"))
+            self.assertEqual(self.did(*words), (0, "nothing was changed\n", each))
             self.assertEqual([words[0] for words in self.ran], ["setup-json"])
         # A file of the proxy that is not as the package has it is written again.
         file = self.root / f"etc/nginx/office/{ONE}/typed.conf"
@@ -348,7 +349,9 @@ class Made(OfSites):
     def test_an_hour_and_a_language(self):
         status, _, said = self.did(ONE, "setup.toml", "--hour", "2099-11-29T20:00:00+01:00",
                                    "--language", "es", "--port", "8101")
-        self.assertEqual((status, said), (0, "of setup-json\nuntil 2099-11-29T20:00:00+01:00\n"))
+        more = f"{ONE}: port 8101, one of the board\n"
+        self.assertEqual((status, said), (
+            0, f"of setup-json\nuntil 2099-11-29T20:00:00+01:00\n{more}"))
         embargo = self.root / f"etc/nginx/office/{ONE}/embargo.conf"
         text = embargo.read_text(encoding="utf-8")
         self.assertIn("for everybody: 2099-", text)
@@ -363,7 +366,8 @@ class Made(OfSites):
         self.assertIn("# more", embargo.read_text(encoding="utf-8"))
         self.assertEqual(os.readlink(page), "/usr/share/office/www/clerk_es.html")
         status, printed, said = self.did(ONE, "--language", "en", "--hour", "now")
-        self.assertEqual((status, said), (0, "of setup-json\nuntil 2020-01-01T00:00:00Z\n"))
+        self.assertEqual((status, said),
+                         (0, f"of setup-json\nuntil 2020-01-01T00:00:00Z\n{more}"))
         self.assertEqual(os.readlink(page), "/usr/share/office/www/clerk.html")
         self.assertNotIn("# more", embargo.read_text(encoding="utf-8"))
         self.assertEqual(self.did(ONE, "--language", "xx")[2].splitlines()[-1],
@@ -411,16 +415,16 @@ class Made(OfSites):
             def is_active(self, unit):
                 return False
 
-        self.site.Machine, ran = Booted, []
+        ran = []
+        self.assertEqual(self.did(ONE, "setup.toml")[0], 0)
+        self.assertEqual([words for words in self.ran if words[0] == "nginx"], [])
+        self.assertTrue((self.root / f"etc/nginx/office/{ONE}/site.conf").exists())
+        self.site.Machine, self.site.await_page = Booted, lambda _: None
         does = {"run": lambda *words: ran.append(words)}
         with mock.patch.dict(Booted.systemctl.__globals__, does):
-            self.assertEqual(self.did(ONE, "setup.toml", "--start-nothing")[0], 0)
-            self.assertEqual((ran, [words for words in self.ran if words[0] == "nginx"]), ([], []))
-            self.assertTrue((self.root / f"etc/nginx/office/{ONE}/site.conf").exists())
-            self.site.await_page = lambda _: None
             self.assertEqual(self.did(ONE)[0], 0)
-            self.assertIn(("systemctl", "daemon-reload"), ran)
-            self.assertIn(["nginx", "-t"], self.ran)
+        self.assertIn(("systemctl", "daemon-reload"), ran)
+        self.assertIn(["nginx", "-t"], self.ran)
 
     def test_the_hour_of_a_site_that_gets_another_port(self):
         """The file of its hour stays, and is of its own port: not that of the site that has the
@@ -532,7 +536,9 @@ class Made(OfSites):
         looks = self.root / f"etc/office/{ONE}/status.toml"
         text = looks.read_text(encoding="utf-8")
         for line in ('desk = "127.0.0.1:8101"', 'reader_port = "127.0.0.1:8201"',
-                     'closed_to = "www-data"\nrules = "/etc/office/ports.nft"\n'):
+                     'closed_to = "www-data"\nrules = "/etc/office/ports.nft"\n',
+                     f'elsewhere = "/etc/office/{ONE}/backup.env"',
+                     f'[hour]\nfile = "/etc/nginx/office/{ONE}/embargo.conf"\nsite = "{ONE}"'):
             self.assertIn(line, text)
         for other, is_said in ((text + "# more\n", False), (text.replace("8101", "8102"), True)):
             looks.write_text(other, encoding="utf-8")
@@ -664,12 +670,13 @@ class Ended(OfSites):
         self.ports(ONE, 8090)
         self.ports(OTHER, 8080)
         self.assertEqual(self.did("--list"), (
-            0, f"{OTHER}: port 8080, does not run\n{ONE}: port 8090, does not run\n", ""))
+            0, f"{OTHER}: port 8080, does not run, one of the board\n"
+               f"{ONE}: port 8090, does not run, one of the board\n", ""))
         self.machine.is_active = lambda unit: unit == f"office@{ONE}"
         with contextlib.redirect_stdout(io.StringIO()) as printed:
             self.site.show(self.machine)
-        self.assertEqual(printed.getvalue(), f"{OTHER}: port 8080, does not run\n"
-                                             f"{ONE}: port 8090, runs\n")
+        self.assertEqual(printed.getvalue(), f"{OTHER}: port 8080, does not run, one of the "
+                                             f"board\n{ONE}: port 8090, runs, one of the board\n")
 
     def test_who_may_do_it(self):
         """On the computer itself root alone, and in a new folder anybody; one at a time."""

@@ -242,6 +242,39 @@ class AgesAndRoom(OfStatus):
         with self.assertRaisesRegex(FileNotFoundError, "^no.py is not there$"):
             self.looks.does_agree(Path("copy.db"), {})
 
+    def test_what_was_sent_elsewhere(self):
+        """All of it, as long ago as the newest copy may be old; each office has its own."""
+        for folder in ("a", "b"):
+            Path(folder).mkdir()
+        look = lambda: self.said_by(self.looks.look_at_sent("backup.env", "a", 1800, "1"))
+        for text in (None, "", "# ELSEWHERE=x\nOTHER=y\n", "ELSEWHERE=\n",
+                     "ELSEWHERE=x\nELSEWHERE=''"):
+            with self.subTest(text=text):
+                if text is not None:
+                    Path("backup.env").write_text(text, encoding="utf-8")
+                self.assertEqual(look(), (True, "no copy is sent to another computer"))
+        lacks = "not all of it is at copies@HOST: journalctl -u 'office-backup*' says why"
+        for text in ("ELSEWHERE=copies@HOST\n", '# x\n ELSEWHERE="copies@HOST" ',
+                     "ELSEWHERE=other\nELSEWHERE='copies@HOST'\nOTHER=x"):
+            Path("backup.env").write_text(text, encoding="utf-8")
+            self.assertEqual(look(), (False, lacks))
+        Path("b/.sent").touch()
+        self.assertEqual(look(), (False, lacks))
+        Path("a/.sent").touch()
+        for age, is_well, said in ((0, True, "0 seconds ago"), (1800, True, "30 minutes ago"),
+                                   (1801, False, "30 minutes ago"), (-60, True, "-60 seconds ago"),
+                                   (-61, False, "61 seconds ahead of the clock, which was put "
+                                                "back")):
+            with self.subTest(age=age):
+                os.utime("a/.sent", (NOW - age, NOW - age))
+                found = self.looks.look_at_sent("backup.env", "a", 1800, "1")
+                self.assertEqual(self.said_by(found),
+                                 (is_well, f"all of it was at copies@HOST {said}"))
+                self.assertEqual((found.part, found.of, found.numbers),
+                                 ("sent", "1", {"age_seconds": age}))
+        Path("backup.env").write_bytes(b"\xff")
+        self.assertIn("backup.env cannot be read: ", look()[1])
+
     def test_how_much_room_is_enough(self):
         for free, is_well, said in ((7 << 20, True, 7), ((7 << 20) - 1, False, 6),
                                     ((8 << 20) - 1, True, 7)):

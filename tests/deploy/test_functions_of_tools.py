@@ -184,7 +184,8 @@ class Sites(Case):
                 (["--remove", "--all", "a.example"], "name none"), ([], "name a site"),
                 (["--remove"], "name a site"), (["A.example"], "no name of a site"),
                 (["10.0.0.5"], "and no address"), (["a.5"], "and no address"),
-                (["--remove", "a.example", "--start-nothing"], "is for a site that is set up"),
+                (["--restore", "a.db"], "name a site"), (["--restore", "a.db", "a.example"], None),
+                (["--restore", "a.db", "--again", "a.example"], "not allowed with"),
                 (["a..example"], "no name of a site"), (["a" * 65], "no name of a site"),
                 (["a" * 64], None)):
             with self.subTest(words=words):

@@ -2,12 +2,16 @@
 
 import re
 from datetime import datetime, timedelta
+from pathlib import Path
+from unittest import mock
 
 from tests.support.case import needs
 from tests.support.desks import recording_desk
+from tests.support.office import with_stations
 from tests.support.proxy import errors, proxy
 from tests.support.running import until
-from tests.support.site import DEPLOY, SiteCase, printed, ran
+from tests.support.scripts import loaded
+from tests.support.site import DEPLOY, NAME, SiteCase, printed, ran
 
 
 class Hour(SiteCase):
@@ -64,6 +68,53 @@ class Hour(SiteCase):
                                   for more in (-1, 0, 1)], [True, True, False])
         self.assertEqual(printed(DEPLOY / "embargo", "now"),
                          (DEPLOY / "nginx/embargo.conf").read_text(encoding="utf-8"))
+
+    @needs("nginx", "openssl")
+    def test_an_hour_that_the_proxy_does_not_have_yet(self):
+        """It goes by the one before until it is told to read the new one: `status` says so, and
+        asks no office."""
+        looks, later = loaded("status_looks.py"), "2100-01-01T00:00:00+00:00"
+        Path("setup.toml").write_text(with_stations(2), encoding="utf-8")
+        with recording_desk() as (port, messages), proxy(port) as front:
+            looks.PROXY, file = ("127.0.0.1", front.port), front.folder / "office/embargo.conf"
+            found = lambda: looks.look_at_hour(file, NAME)
+            past, public, closed = "2020-01-01T00:00:00+00:00", "everything is public", (
+                "nothing is public yet")
+            for hour, before, after in (("now", public, public), (later, public, closed),
+                                        ("now", closed, public), (past, public, public)):
+                with self.subTest(hour=hour):
+                    front.put("embargo.conf", printed(DEPLOY / "embargo", hour, "--past"))
+                    by = (f"; by {file}, if the proxy has read it, it is for everybody: "
+                          f"{'at once' if hour == 'now' else hour}")
+                    other = ("; the proxy goes by another hour: look at the file, then nginx -t && "
+                             "systemctl reload nginx") * (before != after)
+                    said = found()
+                    self.assertEqual((said.is_well, said.says), (
+                        before == after, before + by + other))
+                    front.end()
+                    front.start()
+                    self.assertEqual(found(), looks.Found("hour", True, after + by))
+            self.assertEqual(messages, [])
+            for status, said, wrong in ((500, 0.1, "it answers with status 500"),
+                                        (None, "away", "away")):
+                with self.subTest(status=status), mock.patch.object(
+                        looks, "answered", lambda *_, it=(status, said): it):
+                    self.assertEqual(found(), looks.Found(
+                        "hour", False, f"the proxy does not answer as {NAME}: {wrong}"))
+            # (the hour comes while the proxy is asked)
+            moments = iter((False, True))
+            looks.is_early = lambda _: next(moments)
+            self.assertTrue(found().is_well)
+            looks.is_early = lambda _: True
+            self.assertFalse(looks.look_at_hour(file, "other.example").is_well)
+        for text in (None, b"\xff", b'    "~^(" office;\n'):
+            with self.subTest(text=text):
+                looks = loaded("status_looks.py")
+                if text:
+                    Path("embargo.conf").write_bytes(text)
+                said = looks.look_at_hour("embargo.conf", NAME)
+                self.assertIn("embargo.conf cannot be read: ", said.says)
+                self.assertFalse(said.is_well)
 
     @needs("nginx", "openssl")
     def test_names_before_the_hour(self):

@@ -118,7 +118,7 @@ class OtherSites(SiteCase):
             answers["/results"] = 503
             press(port, status=1)
             for name in names:
-                self.assertIn("The office gave no answer that could be used", read(name))
+                self.assertIn("This page could not be renewed at ", read(name))
             answers["/results"] = TWIN["/results"]
             press(port)
             self.assertEqual([read(name) for name in names], before)

@@ -87,7 +87,8 @@ class InAFolder(Case):
         (root / pages).chmod(0o755)
         self.assertEqual(office_site(root, "--again")[:2], (0, f"folder /{pages}\n"))
         self.assertEqual(tree(root), before)
-        self.assertEqual(office_site(root, "--list")[1], f"{ONE}: port 8101, does not run\n")
+        self.assertEqual(office_site(root, "--list")[1],
+                         f"{ONE}: port 8101, does not run, one of the board\n")
 
         status, said, _ = office_site(root, "--remove", ONE)
         left = [f"{place}/{ONE}" for place in DATA]

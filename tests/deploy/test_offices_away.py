@@ -167,6 +167,26 @@ class PagesOfOneAway(SiteCase):
             a_round()
             self.assertEqual(there(), both)
 
+    def test_a_link_in_the_place_of_a_file(self):
+        """Whether it leads nowhere or where nobody may look, it ends no round, and no certificate
+        that is withdrawn stays beside it. The manifest has none: the proxy does not serve it."""
+        with certified("c1") as (office, port), self.rounds(port, ["c1"]) as a_round:
+            a_round()
+            links = [Path("pages", name) for name in ("office.db", "office-2.db", "act.pdf")]
+            for link, to in zip(links, ("nowhere", "x" * 300, "x" * 300)):
+                link.symlink_to(to)
+            self.assertRaises(OSError, links[1].is_file)
+            done(office, "/con/c1/reopen", {"edition": 2, "note": "mistake"})
+            with mock.patch.object(rounds, "write_con", side_effect=FULL):
+                self.assertRaises(OSError, a_round)
+            self.assertEqual(of_all(), [])
+            a_round.seen.forget()
+            a_round()
+            self.assertEqual([row.split(",")[5] for row in read("results.csv").splitlines()[1:]],
+                             ["false", "false"])
+            self.assertEqual((without_age("index"), vouched_for().keys() & {
+                link.name for link in links}), (["index.html"], set()))
+
     def test_a_file_that_was_changed_before(self):
         """The manifest does not vouch for it, whichever it is, as long as an office is away; and
         it does for what is as it was."""

@@ -44,7 +44,7 @@ def record_of(con, *acts):
         at = f"2026-11-29T20:{n:02}:00+00:00"
         for number, line in ((2 * n + 1, {
                 "name": name, "role": "clerk", "office": 1, "method": "POST", "path": path,
-                "body": json.dumps(body)}), (2 * n + 2, {
+                "body": body if isinstance(body, str) else json.dumps(body)}), (2 * n + 2, {
                     "to": 2 * n + 1, "status": 200, "answer": json.dumps(*answer or [{}])})
                 )[:1 if answer == [None] else 2]:
             found.take(number, json.dumps({"n": number, "time": at} | line))
@@ -186,7 +186,7 @@ class Lacks(Case):
         self.assertEqual(record.typed(con.returns[1])[:2], (None, None))
 
     def test_who_entered_a_return_of_an_office_that_was_put_back(self):
-        """Whoever lodged it last. What was done to it before stays an incident."""
+        """Whoever lodged it last."""
         con = certified()
         con.returns[0].note, (clara, closed, *others) = "3 or 8?", FIRST
         carl = ("carl", *clara[1:], {"ok": "lodged", "rev": 1})
@@ -194,10 +194,75 @@ class Lacks(Case):
         record = record_of(con, clara, closed, query, *others, carl, closed)
         self.assertEqual((record.left, record.typed(con.returns[0])), (0, (
             ("carl", "2026-11-29T20:05:00+00:00"), ("bruno", "2026-11-29T20:06:00+00:00"), False)))
-        # The same query led to a revision that it had before.
-        record = record_of(con, clara, closed, query, query)
-        self.assertEqual([len(record.events_of(con, "query")),
-                          len(record.returns["s1"].revisions)], [2, 3])
+
+    def test_what_was_undone_as_the_office_was_put_back(self):
+        """It is no incident: neither a query nor a correction of a return after the revision to
+        which this went back. What was done before it, and since, is one."""
+        con, (clara, closed, *others) = certified(), FIRST
+        moved = lambda path, rev, name, **more: (
+            name, f"/station/s1/{path}", {"rev": rev} | more, {"ok": "moved", "rev": rev + 1})
+        query, again = (moved("query", 2, name, note="3 or 8?") for name in ("clara", "carl"))
+        correct, later = (moved("correct", 3, name, **SLIPS["s1"]) for name in ("clara", "carl"))
+        lodge = *clara[:3], {"ok": "lodged", "rev": 1}
+        file = ("ivo", "/con/c1/import", "station,slip,blank,spoiled,A,B\ns1,p1,1,2,3,2\n",
+                {"ok": "import", "bad": 0, "refused": 0, "lodged": 1, "same": 0, "differs": 0,
+                 "first": None})
+        for acts, queries, corrections in (
+                ([query, correct], ["clara"], ["clara"]),
+                ([query, again], ["carl"], []),
+                ([query, correct, later], ["clara"], ["carl"]),
+                ([query, correct, again, later], ["carl"], ["carl"]),
+                ([query, correct, lodge], [], []), ([query, correct, file], [], []),
+                ([query, correct, lodge, closed, again], ["carl"], []),
+                # A lost query is taken as done by the correction, and undone with it.
+                ([(*query[:3], None), correct], ["clara"], ["clara"]),
+                ([(*query[:3], None), correct, again], ["carl"], [])):
+            with self.subTest(acts=acts):
+                record = record_of(con, clara, closed, *others, *acts)
+                self.assertEqual([[one.name for one in record.events_of(con, what)]
+                                  for what in ("query", "correct")], [queries, corrections])
+
+    def test_the_figures_before_a_correction_as_the_office_was_put_back(self):
+        """Those of the revision to which it went back; of a return that came past the record
+        nobody knows them."""
+        slips = [SLIPS["s1"] | {"slip": slip} for slip in ("p1", "p7", "p8")]
+        lodge = ("clara", "/station/s1/lodge", slips[0], {"ok": "lodged", "rev": 1})
+        acts = [("clara", f"/station/s1/{path}", {"rev": rev} | more, {"ok": "moved",
+                                                                      "rev": rev + 1})
+                for path, rev, more in (("query", 1, {"note": "3 or 8?"}), ("correct", 2, slips[1]),
+                                        ("correct", 2, slips[2]))]
+        for before, wanted in (([lodge], "p1"), ([], None)):
+            with self.subTest(before=before):
+                record = record_of(con_of(), *before, *acts)
+                [last] = [one for one in record.corrections if one == 2 * len([*before, *acts]) - 1]
+                found, after = record.corrections[last]
+                self.assertEqual((found and found[0], after[0]), (wanted, "p8"))
+
+    def test_what_a_file_lodged_otherwise_as_the_office_was_put_back(self):
+        """Of a return that may have other figures since then the record lacks an act, and nobody
+        knows the figures before its correction. One that the file leaves as it was stays."""
+        con, (clara, _, carla, sara) = con_of(edition=1), FIRST
+        con.returns[0].revision, con.returns[0].note = 4, "3 or 8?"
+        query = ("ivo", "/station/s1/query", {"rev": 1, "note": "3 or 8?"})
+        correct = ("ivo", "/station/s1/correct", {"rev": 2, **SLIPS["s1"]})
+        last = ("bruno", "/station/s1/close", {"rev": 3})
+        for row, counts, lost, before, first in (
+                ("s1,p9,1,2,2,3", {"lodged": 1, "same": 1}, ["s1"], None, None),
+                ("s1,p1,1,2,3,2", {"lodged": 1, "same": 1}, [], "p1", None),
+                # What differs was there, and all else was lodged.
+                ("s1,p9,1,2,2,3", {"lodged": 1, "differs": 1, "first": [1, 7]}, [], "p1",
+                 ("ivo", "2026-11-29T20:02:00+00:00"))):
+            with self.subTest(row=row, counts=counts):
+                file = ("ivo", "/con/c1/import",
+                        f"station,slip,blank,spoiled,A,B\n{row}\ns2,p2,1,2,4,1\n",
+                        {"ok": "import", "bad": 0, "refused": 0, "same": 0, "differs": 0,
+                         "first": None} | counts)
+                record = record_of(con, clara, carla, file, sara, query, correct, last)
+                self.assertEqual((record.lost_of(con), record.typed(con.returns[1])[0]),
+                                 (lost, first))
+                [(found, _)] = record.corrections.values()
+                self.assertEqual(found and found[0], before)
+                record.meet(con)
 
     def test_incidents(self):
         """Those of a constituency and those of its stations, in their order; what is no command of
@@ -221,7 +286,7 @@ class Lacks(Case):
                                           ).corrections.values()
             self.assertEqual((before, dict(after[1])), (None, {1: 3, 2: 2, 61: 2}))
         wrong = record_of(con, *[("clara", "/station/s9/query", {"rev": 1, "note": ""})] * 2)
-        self.assertEqual((wrong.left, wrong.events), (2, []))
+        self.assertEqual((wrong.left, wrong.events), (2, {}))
 
     def test_incidents_that_no_office_has(self):
         """A query or a reopening without a note that is a text is none, and stops no paper."""

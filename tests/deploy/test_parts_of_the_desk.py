@@ -288,8 +288,7 @@ class Opened(OfTheDesk):
                 "  s1     station       http://s1\n\nCtrl-C ends the office.\n"))
 
     def test_what_is_started(self):
-        """The parts in their order, then the doors and the browser; each part is looked at twice a
-        second."""
+        """The office, a look at its record, the rest; each part is looked at twice a second."""
         done, waited = [], []
 
         class Pipe(io.StringIO):
@@ -315,16 +314,35 @@ class Opened(OfTheDesk):
         self.desk.time, self.desk.threading = SimpleNamespace(sleep=sleep), SimpleNamespace(
             Thread=Thread)
         self.desk.show_open = lambda *_: done.append("open")
+        self.desk.check_record = lambda *_: done.append(_)
         for browser, more in ((None, []), (SimpleNamespace(stdin=Pipe()),
                                            [("browser", "http://ana\n")])):
             done.clear()
             waited.clear()
-            self.assertRaises(self.desk.Ended, self.desk.serve, None, None,
+            self.assertRaises(self.desk.Ended, self.desk.serve, "given", "files", 80,
                               [part("a"), part("b")], doors, browser)
             self.assertEqual(done, [
-                "start a", "start b", ("ana", (0.1,), True), ("bea", (0.1,), True), "open", *more,
+                "start a", ("given", "files", "127.0.0.1:80"), "start b",
+                ("ana", (0.1,), True), ("bea", (0.1,), True), "open", *more,
                 *2 * ["look at a", "look at b"]])
             self.assertEqual(waited, [0.5] * 3)
+
+    def test_what_its_record_says_otherwise(self):
+        """Twenty are named; a record that is not there, or is not to be looked at, says nothing."""
+        files = SimpleNamespace(db=Path("a.db"), record=Path("a.log"), share=Path("share"))
+        self.desk.others_of = others = mock.Mock(return_value=[])
+        given = argparse.Namespace(as_it_is=False)
+        self.desk.check_record(given, files, "")
+        files.record.touch()
+        self.desk.check_record(argparse.Namespace(as_it_is=True), files, "")
+        others.assert_not_called()
+        for found, named in ((1, ()), (20, ()), (21, ("and 1 more",))):
+            others.return_value = [f"station s{n}" for n in range(found)]
+            with self.assertRaises(self.desk.Fault) as fault:
+                self.desk.check_record(given, files, "there")
+            self.assertEqual(str(fault.exception).splitlines()[:-1], [
+                "a.db is not what its record a.log leads to:", *others.return_value[:20], *named])
+        others.assert_called_with(Path("a.log"), Path("share/setup.json"), "there")
 
     def test_from_its_start_to_its_end(self):
         """Commands that are under way have half a minute; the parts end in the other order, and the

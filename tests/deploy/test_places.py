@@ -157,9 +157,9 @@ class Places(SiteCase):
                     self.assertEqual(made.count("place.html"), 4)
             nobody = press_rounds.Office("http://127.0.0.1:1")
             self.assertEqual(round_of(nobody)[1], 2 * many)
-            self.assertIn("The office gave no answer", read("place-c1-7.html"))
+            self.assertIn("This page could not be renewed", read("place-c1-7.html"))
             self.assertEqual(round_of(office)[1:], (2 * many, []))
-            self.assertNotIn("The office gave no answer", read("place-c1-7.html"))
+            self.assertNotIn("This page could not be renewed", read("place-c1-7.html"))
 
     def test_a_constituency_that_is_none_of_the_election(self):
         """Its pages say that they are withdrawn, in each language, and show no result; its files
@@ -228,8 +228,8 @@ class Places(SiteCase):
             Path("pages", name).write_bytes(data)
         with answering_desk({"/results": 503}) as (port, _):
             press(port, status=1)
-        self.assertIn("The office gave no answer", read("con-c1.html"))
-        self.assertIn("The office gave no answer", read("index.html"))
+        self.assertIn("This page could not be renewed", read("con-c1.html"))
+        self.assertIn("This page could not be renewed", read("index.html"))
         self.assertEqual({name: Path("pages", name).read_bytes() for name in own}, own)
 
     def test_lists_with_as_many_votes_in_a_place(self):

@@ -314,10 +314,9 @@ class PressPages(SiteCase):
                     answers[target] = REOPENED[target]
                     old = read("con-c1.html")
                     self.assertRegex(old,
-                                     r'<!--age--><p class="old" role="status"><b>The office gave '
-                                     r'no answer that could be used at '
-                                     r"\d\d:\d\d \w+\.</b> This page stays as it is until "
-                                     r"there is one; it last changed \d+ "
+                                     r'<!--age--><p class="old" role="status"><b>This page could '
+                                     r"not be renewed at \d\d:\d\d \w+\.</b> It stays as it is "
+                                     r"until it can be; it last changed \d+ "
                                      r"(second|minute)s? earlier\.</p>",
                                      old[:9000])
                     self.assertEqual('class="old"' in read("index.html"), target == "/results")

@@ -288,11 +288,39 @@ class OfTheRecord(Case):
         led = imported(1, lodged=number, same=3 - number)["answer"]
         return name, "import", f"station,slip,blank,spoiled,A,B\n{rows}", json.loads(led)
 
+    def test_a_return_that_came_past_the_record(self):
+        """The record has fewer revisions of it than the office: by their numbers it is seen all the
+        same. Nobody knows then what the return was."""
+        one, other = [120, 71], [71, 120]
+        acts = [self.moved("clara", "query", 1), self.moved("clara", "correct", 2, other),
+                self.moved("sara", "confirm", 3, other)]
+        confirm, correct = acts[2], self.moved("carl", "correct", 2, one)
+        for more, wanted, known in (
+                ((), [], 3), ((confirm,), ["confirm 4"], 1),
+                ((correct, self.moved("sara", "confirm", 3, one)), ["correct 3"], 2),
+                ((confirm, confirm), ["confirm 4", "confirm 4"], 1)):
+            with self.subTest(more=more):
+                it, said = self.reading(*acts, *more)
+                self.assertEqual([f"{line.split()[1]} {line.split()[-1]}" for line in said], wanted)
+                self.assertEqual(len(it.returns["s1"].revisions), known)
+
+    def test_a_return_that_was_corrected_and_is_lodged_again_so(self):
+        """A file has it as it was corrected: its first revision was otherwise, so nothing is known
+        of it."""
+        one, other = [71, 120], [120, 71]
+        acts = [self.lodged("anna", one, self.LODGED), self.moved("bea", "query", 1),
+                self.moved("carl", "correct", 2, other)]
+        for before, revisions in ((acts, 0), ([self.lodged("anna", other, self.LODGED)], 1)):
+            it, said = self.reading(*before, self.imported("ivo", 2), self.imported("ivo", 1))
+            self.assertEqual((len(said), len(it.returns["s1"].revisions), it.returns["s1"].first),
+                             (1, revisions, None))
+
     def test_who_imported_what_was_gone(self):
         """A file of which all rows were lodged is its clerk's; where only some were nobody knows
         which, nor who entered a return that was put back to its first revision afterwards."""
         figures = [120, 71]
         lodge = self.lodged("anna", figures, self.LODGED)
+        otherwise = self.lodged("anna", figures[::-1], self.LODGED)
         confirm, all_three = self.moved("carl", "confirm", 1, figures), self.imported("anna", 3)
         of_file = ("c1: line {}: an import lodged {}, also returns that this record has already: "
                    "the office was put back to an earlier moment")
@@ -304,6 +332,12 @@ class OfTheRecord(Case):
                 ([all_three], 0, [], [], ["anna"] * 3),
                 ([all_three], 2, [], [of_file.format(4, 2)], [None] * 3),
                 ([all_three, confirm], 1, [], [of_file.format(6, 1)], ["anna", None, None]),
+                # Of one that may have other figures nothing is known, but that it was there.
+                ([otherwise, self.imported("anna", 2)], 1, [], [of_file.format(6, 1)],
+                 [None] * 3),
+                ([otherwise, self.imported("anna", 2)], 1, [lodge],
+                 [of_file.format(6, 1), "s1: lodge by anna (2026-11-26T22:14:07.000+00:00) led to "
+                  "revision 1"], ["anna", None, None]),
                 ([all_three, confirm], 1, [confirm], [of_file.format(6, 1), again], [None] * 3)):
             with self.subTest(before=before, number=number, after=after):
                 it, lines = self.reading(*before, self.imported("carl", number), *after)

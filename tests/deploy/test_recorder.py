@@ -9,6 +9,7 @@ import resource
 import socket
 import stat
 import subprocess
+import sys
 import threading
 import time
 from datetime import datetime
@@ -24,7 +25,7 @@ from tests.support.proxy import proxy
 from tests.support.record import a_command, replayed
 from tests.support.recorder import FAILING, command, recorder_alone
 from tests.support.running import PATIENCE, until
-from tests.support.scripts import loaded
+from tests.support.scripts import PROGRAMS, loaded
 from tests.support.site import DEPLOY, SiteCase
 
 
@@ -377,6 +378,26 @@ class Recorder(SiteCase):
         self.assertEqual([(line.get("path"), line.get("status")) for line in lines],
                          [("/station/s1/close", None), (None, 200)])
         self.assertEqual(len(messages), 1)
+
+    def test_a_recorder_that_is_to_end_as_it_starts(self):
+        """The first command that it takes has its answer and its line too."""
+        def is_listened_to():
+            with socket.socket(socket.AF_UNIX) as it:
+                return not it.connect_ex("recorder/1.sock")
+
+        with recording_desk(wait=0.5) as (port, messages), \
+                concurrent.futures.ThreadPoolExecutor(1) as pool, subprocess.Popen(
+                    [sys.executable, PROGRAMS / "late_signals.py", DEPLOY / "recorder.py",
+                     "recorder", "commands.log", "--room", "0", "--desk", f"127.0.0.1:{port}"],
+                    stdout=subprocess.DEVNULL) as process:
+            until(is_listened_to)
+            first = pool.submit(command, "/station/s1/close")
+            until(lambda: messages)
+            process.terminate()
+            self.assertEqual((first.result(), process.wait(timeout=PATIENCE)), (200, 0))
+        lines = [json.loads(line) for line in Path("commands.log").read_text().splitlines()]
+        self.assertEqual([(line.get("path"), line.get("status")) for line in lines],
+                         [("/station/s1/close", None), (None, 200)])
 
     def test_answers_that_are_no_http(self):
         """As of another program that has the port of the office: each command is without an answer,

@@ -1,5 +1,6 @@
 """The search of the first page and the page that renews itself, in a browser."""
 
+import contextlib
 from pathlib import Path
 
 from tests.deploy.test_places import PLACES
@@ -20,6 +21,20 @@ localStorage.setItem("a", "b");
 document.cookie = "c=d";
 return known;"""
 SAID = "return document.querySelector('.renew output').textContent.includes(arguments[0])"
+
+
+@contextlib.contextmanager
+def certified_pages():
+    """An office whose constituency is certified, on its port, a tab, and the site of its pages."""
+    Path("setup.toml").write_text(with_stations(1), encoding="utf-8")
+    with modelled(with_stations(1)) as (office, port), browser.tab() as it, \
+            web_server(Path.cwd()) as site:
+        done(office, "/station/s1/lodge",
+             {"slip": "p1", "votes": [20, 10], "blank": 0, "spoiled": 0})
+        done(office, "/station/s1/close", {"rev": 1})
+        done(office, "/con/c1/certify", {"edition": 1})
+        press(port, "--setup", "setup.toml")
+        yield office, port, it, site
 
 
 class RenewedPages(SiteCase):
@@ -87,14 +102,7 @@ class RenewedPages(SiteCase):
     def test_a_page_that_is_taken_away(self):
         """Its title stays, with the way to all results, and nothing else: its certificate may be
         withdrawn. Once the page is there again it is shown."""
-        Path("setup.toml").write_text(with_stations(1), encoding="utf-8")
-        with modelled(with_stations(1)) as (office, port), browser.tab() as it, \
-                web_server(Path.cwd()) as site:
-            done(office, "/station/s1/lodge",
-                 {"slip": "p1", "votes": [20, 10], "blank": 0, "spoiled": 0})
-            done(office, "/station/s1/close", {"rev": 1})
-            done(office, "/con/c1/certify", {"edition": 1})
-            press(port, "--setup", "setup.toml")
+        with certified_pages() as (office, port, it, site):
             it.open(f"{site}/pages/elected-1.html")
             self.assertIn("Final", it.text("header .state"))
             done(office, "/con/c1/reopen", {"edition": 2, "note": "mistake"})
@@ -133,6 +141,92 @@ class RenewedPages(SiteCase):
             it.wait(SAID, "no longer there")
             self.assertNotIn("Not final", it.text("header"))
             self.assertEqual(it.text("main"), "")
+
+    @needs("chromium")
+    def test_a_page_on_which_something_is_selected(self):
+        """It stays as it is, and says that something changed: its certificate may be withdrawn. An
+        answer that is late does not take the place of a later one."""
+        renew = "document.dispatchEvent(new Event('visibilitychange'))"
+        with certified_pages() as (office, port, it, site):
+            it.open(f"{site}/pages/con-c1.html")
+            it.run("getSelection().selectAllChildren(document.querySelector('h1'))")
+            done(office, "/con/c1/reopen", {"edition": 2, "note": "mistake"})
+            final, page = Path("pages/con-c1.html").read_bytes(), Path("pages/con-c1.html")
+            press(port, "--setup", "setup.toml")
+            withdrawn = page.read_bytes()
+            it.run(renew)
+            it.wait(SAID, "Something changed; clear the selection or search to see it.")
+            self.assertIn("Final", it.text("header .state"))
+            page.unlink()
+            it.run("document.querySelector('.renew output').textContent = ''")
+            it.run(renew)
+            it.wait(SAID, "Something changed; clear")
+            page.write_bytes(withdrawn)
+            it.run("getSelection().removeAllRanges()")
+            it.run(renew)
+            it.wait(SAID, "Something changed: renewed")
+            self.assertIn("Not final", it.text("header .state"))
+            page.write_bytes(final)
+            it.run("const real = window.fetch; window.late = []; window.fetch = async (...of) => {"
+                   "const text = await (await real(...of)).text();"
+                   "await new Promise((go) => window.late.push(go)); return new Response(text); }")
+            it.run(renew)
+            it.wait("return window.late.length === 1")
+            page.write_bytes(withdrawn.replace(b"<main>", b"<main><p>Later</p>"))
+            it.run(renew)
+            it.wait("return window.late.length === 2")
+            it.run("window.late[1]()")
+            it.wait("return document.querySelector('main').textContent.includes('Later')")
+            it.run("window.late[0]()")
+            it.wait("return new Promise((go) => setTimeout(() => go(true), 200))")
+            self.assertIn("Later", it.text("main"))
+            self.assertIn("Not final", it.text("header .state"))
+
+    @needs("chromium")
+    def test_a_page_that_became_old_while_something_is_selected(self):
+        """Its header is renewed, with a line that says how old it is, or with its state; and a
+        selection in a header that is as it was stays. Once nothing differs it says nothing more
+        of a change. A page that is gone says so, whatever is selected."""
+        renew = "document.dispatchEvent(new Event('visibilitychange'))"
+        select = "getSelection().selectAllChildren(document.querySelector('{}'))"
+        typed = "document.querySelector('.search input').value = 'A'"
+        output = "document.querySelector('.renew output').textContent"
+        header = "return document.querySelector('header').textContent.includes(arguments[0])"
+        kept = "Something changed; clear the selection or search to see it."
+        with certified_pages() as (office, port, it, site):
+            for name, act in (("con-c1.html", select.format("main")), ("elected-1.html", typed)):
+                with self.subTest(name=name):
+                    page = Path("pages", name)
+                    it.open(f"{site}/pages/{name}")
+                    it.run(act)
+                    press(1, "--setup", "setup.toml", status=1)
+                    it.run(renew)
+                    it.wait(header, "This page could not be renewed")
+                    press(port, "--setup", "setup.toml")
+                    new = page.read_bytes()
+                    page.write_bytes(new.replace(b">Final: ", b">Not final: ", 1))
+                    it.run(renew)
+                    it.wait(header, "Not final: ")
+                    page.write_bytes(new.replace(b"<main>", b"<main>Later"))
+                    it.run(renew)
+                    it.wait(f"return {output} === arguments[0]", kept)
+                    self.assertNotIn("Later", it.text("main"))
+                    page.write_bytes(new)
+                    it.run(renew)
+                    it.wait(f"return {output} === ''")
+                    self.assertIn("Final: ", it.text("header .state"))
+            it.open(f"{site}/pages/con-c1.html")
+            it.run(select.format("h1"))
+            it.run(f"{output} = arguments[0]; {renew}", kept)
+            it.wait(f"return {output} === ''")
+            self.assertEqual(it.run("return getSelection().toString().trim()"), it.text("h1"))
+            page = Path("pages/con-c1.html")
+            page.unlink()
+            it.run("getSelection().removeAllRanges()")
+            it.run(renew)
+            it.wait(SAID, "no longer there")
+            it.run(f"{select.format('h1')}; {output} = ''; {renew}")
+            it.wait(SAID, "no longer there")
 
     @needs("chromium")
     def test_a_browser_that_a_test_used_before(self):

@@ -10,6 +10,7 @@ from tests.support.case import Case, needs
 from tests.support.page_alone import (
     NO_RETURN, NOW, SETUP, SLIP, TYPED, page_alone, recorded, result,
 )
+from tests.support.typed_slips import ENTER
 
 NO_ANSWER = "There was no answer. It may have been done."
 UNSEEN = "What the office has now is not known: it did not answer. Ask it again."
@@ -353,6 +354,33 @@ class Requests(Case):
                     self.assertEqual(page.run("return office.questions"), [])
 
     @needs("chromium")
+    def test_who_types_on_after_a_slip_without_an_answer(self):
+        """Nothing of the next papers is taken: each Enter sends the slip again, as it was typed."""
+        at, entry = "GET /now/station/s1", {"GET /now/con/c1/result": [[200, result(
+            entry="double")]]}
+        with page_alone() as page:
+            for role, form in (("clerk", "lodge"), ("second", "confirm"), ("clerk", "correct")):
+                target, now = f"POST /station/s1/{form}", [200, recorded("queried", slip="p2")]
+                for answer in ([0, ""], [502, ""], [503, {"word": "unavailable"}], [504, ""],
+                               [429, ""]):
+                    with self.subTest(form=form, answer=answer):
+                        page.open(role, "nora", entry | {target: [answer], at: [
+                            now if form == "correct" else NO_RETURN]})
+                        page.run("localStorage.clear()")
+                        page.station("s1")
+                        page.asked()
+                        page.it.keys(*[f"{one}{ENTER}" for one in TYPED])
+                        for keys in (ENTER, f"5{ENTER}", f"104{ENTER}", f"50{ENTER}", f"1{ENTER}",
+                                     f"1{ENTER}", f"156{ENTER}"):
+                            self.assertEqual(page.settled()["focus"], "BUTTON")
+                            self.assertEqual(page.run("return office.typed(arguments[0])", form),
+                                             TYPED)
+                            page.it.keys(keys)
+                        page.settled()
+                        sent = [one for one in page.asked() if "POST" in one]
+                        self.assertEqual((len(sent), len(set(sent))), (8, 1))
+
+    @needs("chromium")
     def test_a_second_entry(self):
         """It is of the revision that an answer named last, and nothing is asked of the return."""
         confirm = "POST /station/s1/confirm"
@@ -387,6 +415,11 @@ class Requests(Case):
                 page.station("s1")
                 self.assertEqual(page.run("return element('confirm-rev').textContent"), said)
                 page.send("confirm", *TYPED)
+            # A query that is sent again is compared with nothing.
+            page.tell({"POST /station/s1/query": [stale]})
+            page.run("element('query').elements.note.value = 'sum'")
+            self.assertTrue(page.send("query")["alert"].endswith(
+                "Before you query the return again, look at who did what to this station."))
 
     @needs("chromium")
     def test_what_a_clerk_sends(self):

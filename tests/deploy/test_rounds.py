@@ -221,12 +221,17 @@ class Stations(Case):
         self.assertEqual((rounds.go(0)[2], sorted(rounds.go(1e9)[2])), ([], tables))
 
     def test_whose_stations_are_first(self):
-        """Those of a certificate, then those never asked for, then those that waited longest."""
+        """Where pages of stations are of a certificate that is withdrawn; then those of a
+        certificate, then those never asked for, then those that waited longest."""
         it = SimpleNamespace(
-            cons={code: {"view": {"certified": code == "c4"}} for code in ("c1", "c2", "c3", "c4")},
-            seen=SimpleNamespace(stations={"c1": ("key", 70.0, ""), "c2": ("key", 60.0, "")}))
+            folder=Path(), has_stations=lambda code: code in ("c4", "c5", "c6"),
+            cons={f"c{n}": {"progress": {"certified": n == 4, "missing": 0, "stations": 1}}
+                  for n in range(1, 7)},
+            seen=SimpleNamespace(stations={"c1": ("key", 70.0, ""), "c2": ("key", 60.0, ""),
+                                           "c5": ("key", 80.0, ""), "c6": ("key", 90.0, "")}))
+        files_of("stations-c5-open.csv", text="")
         self.assertEqual(sorted(it.cons, key=lambda code: press.Round.waits(it, code)),
-                         ["c4", "c3", "c2", "c1"])
+                         ["c6", "c4", "c3", "c2", "c1", "c5"])
 
     def test_a_constituency_has_a_table_of_stations_while_it_is_counted(self):
         for certified, missing, wanted in ((False, 0, True), (False, 2, True), (False, 3, False),
@@ -557,7 +562,7 @@ class WithFailures(Case):
         # Two of three constituencies, and the country.
         self.assertEqual((many, failures), (3, [
             "/con/c2/returns: other stations or lists than those of the setup"]))
-        old = [n for n in (1, 2, 3) if "gave no answer" in rounds.read(f"con-c{n}.html")]
+        old = [n for n in (1, 2, 3) if "could not be renewed" in rounds.read(f"con-c{n}.html")]
         counted = [n for n in (1, 2, 3) if "Valid votes 40," in shown_text(
             rounds.read(f"con-c{n}.html"))]
         self.assertEqual((old, counted), ([2], [1, 3]))
@@ -568,7 +573,7 @@ class WithFailures(Case):
                          ["c1", "c2", "c3"])
         # 120 papers of 900 electors
         self.assertIn("13.33%", rounds.read("index.html"))
-        self.assertNotIn("gave no answer", rounds.read("con-c2.html"))
+        self.assertNotIn("could not be renewed", rounds.read("con-c2.html"))
 
     def test_how_many_pages_are_left_as_they_are(self):
         """Where no office answers: those of the country, of the constituencies and of the lists;
@@ -583,7 +588,7 @@ class WithFailures(Case):
         self.assertEqual((many, failures), (0, [
             "/results: status 503", "/results: status 503",
             f"/results: status 503; left as they are: {pages} pages"]))
-        self.assertEqual(sum("gave no answer" in file.read_text(encoding="utf-8")
+        self.assertEqual(sum("could not be renewed" in file.read_text(encoding="utf-8")
                              for file in rounds.folder.glob("*.html")), pages)
 
     def test_constituencies_that_no_office_has_now(self):

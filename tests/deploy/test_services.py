@@ -265,111 +265,6 @@ class Services(SiteCase):
                         (copying.stdout.read().splitlines()[-1], copying.wait(timeout=PATIENCE)),
                         ("c1 agrees", 0))
 
-    def test_a_lost_machine_by_the_lines_of_the_package(self):
-        """Only the desk is started before the record is sent again; the record that is there stays,
-        and what is left of a database is put aside. Nothing is removed."""
-        page = (DEPLOY / "README.md").read_text(encoding="utf-8").split(
-            "\n**When the machine is lost**")[1].split("\n## ")[0]
-        self.assertEqual(re.findall(r"\brm\b|-delete|stop nginx", page), [])
-        first, last = re.findall(r"(?:^    .*\n)+", page, re.M)
-        self.assertEqual(last, "    office-site results.example.org\n")
-        for place in ("/var/", "/etc/office"):
-            first = first.replace(place, f"$PWD/computer{place}")
-        first = first.replace("/usr/lib/office/replay", "replay").replace("-C / ", "-C computer ")
-        first = first.replace("ls -l", "ls >&2").replace("/$setup", "computer/$setup")
-        first = first.replace("/etc/nginx", "computer/etc/nginx")
-        Path("bin").mkdir()
-        for name, does in (
-                ("systemctl", ""), ("curl", ""), ("replay", "cat"),
-                ("install", 'eval last=\\${$#}; case "$1" in -d) mkdir -p "$last";; *) '
-                            'eval from=\\${$(($# - 1))}; cp "$from" "$last";; esac'),
-                ("office-site", "mkdir -p computer/var/log/office/$1 "
-                                "computer/etc/nginx/office/$1; "
-                                "echo DESK=8080 >> computer/etc/office/$1/ports; "
-                                "echo for everybody: now > "
-                                "computer/etc/nginx/office/$1/embargo.conf")):
-            file = Path("bin", name)
-            file.write_text(f'#!/bin/sh\necho "{name} $*" >> calls\n{does}\n', encoding="utf-8")
-            file.chmod(0o755)
-        site = "results.example.org"
-        Path(f"old/etc/office/{site}").mkdir(parents=True)
-        Path(f"old/etc/office/{site}/setup.toml").write_text("of the archive", encoding="utf-8")
-        Path(f"old/etc/office/{site}/ports").write_text("of another computer", encoding="utf-8")
-        Path(f"old/etc/office/{site}/names").write_text("of the archive", encoding="utf-8")
-        subprocess.run(["tar", "-C", "old", "-czf", f"office-{site}.tar.gz", "etc"], check=True)
-        Path("commands.log").write_text("of HOST", encoding="utf-8")
-        Path("office-20261126T221400Z-00001234.db").write_text("the copy", encoding="utf-8")
-        data, record = (Path(f"computer/var/{place}/office/{site}") for place in ("lib", "log"))
-        kept = Path(f"computer/etc/office/{site}/setup.toml")
-        for is_there in (False, True):
-            with self.subTest(is_there=is_there):
-                shutil.rmtree("computer", ignore_errors=True)
-                Path("computer").mkdir()
-                if is_there:
-                    for file, text in ((data / "office.db-wal", "a log"), (
-                            record / "commands.log", "of this computer"), (
-                            kept, "newer than the archive")):
-                        file.parent.mkdir(parents=True)
-                        file.write_text(text, encoding="utf-8")
-                Path("calls").unlink(missing_ok=True)
-                done = subprocess.run(["sh", "-c", first], text=True, capture_output=True, env={
-                    **os.environ, "PATH": f"{Path.cwd()}/bin:{os.environ['PATH']}"})
-                self.assertEqual((done.returncode, done.stderr),
-                                 (0, "office-20261126T221400Z-00001234.db\n"))
-                *said, hour, sent = done.stdout.split("\n")
-                self.assertEqual(hour, "for everybody: now")
-                self.assertEqual([line.split(":")[0] for line in said], [
-                    "nothing is unpacked", "of two records this one is used"] if is_there else [])
-                self.assertEqual(sent, (record / "commands.log").read_text())
-                self.assertEqual(sent, "of this computer" if is_there else "of HOST")
-                self.assertEqual((data / "office.db").read_text(), "the copy")
-                self.assertEqual(kept.read_text(),
-                                 "newer than the archive" if is_there else "of the archive")
-                # (those of another computer may be another site's here)
-                self.assertEqual(kept.with_name("ports").read_text(), "DESK=8080\n")
-                self.assertEqual([file.read_text() for file in data.glob("before-*/office.db-wal")],
-                                 ["a log"] * is_there)
-                self.assertFalse((data / "office.db-wal").exists())
-                calls = [line for line in Path("calls").read_text().splitlines()
-                         if "install" not in line and "curl" not in line]
-                Path("calls").unlink()
-                self.assertEqual([calls[0], *calls[2:5]], [
-                    "systemctl daemon-reload", f"office-site {site} --start-nothing",
-                    "systemctl reload-or-restart office-ports", f"systemctl start office@{site}"])
-                self.assertRegex(calls[1], f"^systemctl disable --now office-press@{site} ")
-                self.assertRegex(calls[5], "^replay --after 00001234 ")
-                self.assertEqual(len(calls), 6)
-        # An archive that is cut is unpacked again: the setup goes last.
-        shutil.rmtree("computer")
-        Path("computer").mkdir()
-        archive = Path(f"office-{site}.tar.gz")
-        whole = archive.read_bytes()
-        for data_of, is_unpacked in ((whole[:-len(whole) // 2], False), (whole, True)):
-            archive.write_bytes(data_of)
-            done = subprocess.run(["sh", "-c", first], capture_output=True, env={
-                **os.environ, "PATH": f"{Path.cwd()}/bin:{os.environ['PATH']}"})
-            self.assertEqual((done.returncode == 0, kept.exists()), (is_unpacked,) * 2)
-        self.assertEqual(kept.with_name("names").read_text(), "of the archive")
-        Path("calls").unlink()
-        # Wherever the lines end before the copy is in its place, the record is: office-site then
-        # makes no empty office beside it.
-        for place in ("", "bin/mv"):
-            with self.subTest(place=place):
-                shutil.rmtree("computer")
-                (data / "office.db").parent.mkdir(parents=True)
-                (data / "office.db").touch()
-                if place:
-                    Path(place).write_text("#!/bin/sh\nexit 1\n", encoding="utf-8")
-                    Path(place).chmod(0o755)
-                done = subprocess.run(
-                    ["sh", "-c", first if place else first.replace("copy=", "copy=not-")],
-                    text=True, capture_output=True, env={
-                        **os.environ, "PATH": f"{Path.cwd()}/bin:{os.environ['PATH']}"})
-                self.assertNotEqual(done.returncode, 0)
-                self.assertEqual((record / "commands.log").exists(), bool(place))
-                self.assertEqual(Path("calls").exists(), bool(place))
-                self.assertEqual((data / "office.db").read_text(), "")
-
     def test_another_machine_in_the_place_of_a_lost_one(self):
         """BY_HAND.md's steps for it, also over an office that step 3 has made: nothing is written
         into while it runs, what the copy lacks is sent once the office listens, and the names and
@@ -389,6 +284,9 @@ class Services(SiteCase):
         subprocess.run(["sh", "-c", keep.replace("tar -C /", "tar -C old")], check=True,
                        timeout=PATIENCE)
         self.assertEqual(stat.S_IMODE(os.stat("office-etc.tar.gz").st_mode), 0o600)
+        [unpack] = re.findall("`(tar -C / -xzf .*?)`", page)
+        ran("sh", "-c", unpack.replace("tar -C /", "tar -C new"))
+        Path("embargo.conf").write_text("# for everybody: at once\n", encoding="utf-8")
 
         bodies = {name: json.dumps({**LODGED, "slip": name}) for name in ("s1", "s2")}
         with serving(with_stations(2)) as lost:
@@ -411,7 +309,7 @@ class Services(SiteCase):
         shutil.copy(SYSTEMCTL, "bin")
         with serving(with_stations(2), "lib/office.db") as fresh:
             places = {"8080": fresh.port, "-o office -g office ": "",
-                      "-00001234.db": "-00000002.db", "tar -C /": "tar -C new",
+                      "-00001234.db": "-00000002.db",
                       "-o office-recorder -g office-recorder ": "",
                       "/usr/local/lib/office/": f"{DEPLOY}/", "/var/lib/office": "lib",
                       "/var/log/office": "log", "/etc/office/setup.toml": "setup.toml",
@@ -425,6 +323,7 @@ class Services(SiteCase):
                                        stdout=subprocess.PIPE, stderr=subprocess.STDOUT, text=True)
                 self.assertEqual((ended.returncode, "sent 1, to look at 0;" in ended.stdout),
                                  (0, True), ended.stdout)
+                self.assertIn("# for everybody: at once\n", ended.stdout)
             finally:
                 if Path("started").exists():
                     os.kill(int(Path("started").read_text()), signal.SIGTERM)

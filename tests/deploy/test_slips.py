@@ -261,49 +261,49 @@ class Slips(SiteCase):
         give = lambda it, name: it.of_session(
             "POST", f"/element/{it.find('#import input[type=file]')}/value",
             {"text": str(Path(name).resolve())})
-        state = lambda it: (it.visible("#trial"), it.text("#import button"),
+        state = lambda it: (it.text("#import button"), it.text("#trial-import"),
                             sorted(office.cons["c1"].returns))
         with desk_with(answered) as port, proxy(port) as front:
             press(port, "--setup", "setup.toml", folder=str(front.folder / "pages"))
             with clerks_browser(front, "clara") as it:
-                self.assertEqual(state(it), (False, "Try this file", ["s2"]))
+                self.assertEqual(state(it), ("Try this file", "", ["s2"]))
                 give(it, "other.csv")
                 it.click("#import button")
                 said(it,
                      "The first line of the file is not station,slip,blank,spoiled and this "
                      "constituency’s lists in order")
                 self.assertEqual((state(it), asked),
-                                 ((False, "Try this file", ["s2"]), ["/con/c1/trial"]))
+                                 (("Try this file", "", ["s2"]), ["/con/c1/trial"]))
                 give(it, "rows.csv")
                 it.click("#import button")
                 said(it, "This is what an import of this file would come to now.")
-                self.assertEqual(state(it), (True, "Import this file", ["s2"]))
+                self.assertEqual(state(it), ("Try this file", "Import this file", ["s2"]))
                 self.assertEqual(it.run("return [...document.querySelectorAll('#trial "
                                         "tr')].map((e) => e.textContent)"),
                                  ["Lodged2", "The same0", "Differing1", "Refused2", "Unreadable5"])
                 self.assertEqual(it.run("return [...document.querySelectorAll('#trial "
                                         "li')].map((e) => e.textContent)"), NAMED)
-                self.assertEqual(it.text("#trial > p"),
+                self.assertEqual(it.text("#trial-question"),
                                  "Nothing is lodged yet. Import this file into Twin Town?")
                 shows_well(it, "trial")
                 # Another separator or another file is to be tried first, too.
                 it.run("const e = document.querySelector('#import select'); e.value = "
                        "'/semicolon'; e.dispatchEvent(new Event('change', { bubbles: true }))")
-                self.assertEqual(state(it), (False, "Try this file", ["s2"]))
+                self.assertEqual(state(it), ("Try this file", "", ["s2"]))
                 it.run("const e = document.querySelector('#import select'); e.value = ''; "
                        "e.dispatchEvent(new Event('change', { bubbles: true }))")
                 it.click("#import button")
                 said(it, "This is what an import of this file would come to now.")
                 give(it, "good.csv")
-                self.assertEqual(state(it), (False, "Try this file", ["s2"]))
+                self.assertEqual(state(it), ("Try this file", "", ["s2"]))
                 it.click("#import button")
                 said(it, "This is what an import of this file would come to now.")
                 self.assertEqual(
                     (state(it), it.run("return document.querySelectorAll('#trial li').length")),
-                    ((True, "Import this file", ["s2"]), 0))
-                it.click("#import button")
+                    (("Try this file", "Import this file", ["s2"]), 0))
+                it.click("#trial-import")
                 said(it, "Lodged 2, the same 1, differing 0, refused 0, unreadable 0.")
-                self.assertEqual(state(it), (False, "Try this file", ["s1", "s2", "s3"]))
+                self.assertEqual(state(it), ("Try this file", "", ["s1", "s2", "s3"]))
             self.assertEqual(asked, ["/con/c1/trial"] * 4 + ["/con/c1/import"])
             self.assertEqual([line["path"] for line in front.record(1)], ["/con/c1/import"])
 

@@ -608,7 +608,7 @@ seconds = 1800
         [office] = said["office"]
         for place in (said["record"]["file"], said["record"]["head"], said["pages"]["folder"],
                       office["desk"], office["reader"], office["reader_port"], office["recorder"],
-                      office["backups"]):
+                      office["backups"], office["elsewhere"]):
             with self.subTest(place=place):
                 self.assertIn(place, services)
         # As it comes, it is taken.

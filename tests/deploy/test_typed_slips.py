@@ -377,6 +377,10 @@ class TypedSlips(TypedCase):
                     it.keys("r101", ENTER, *[f"{typed}{ENTER}" for typed in
                                               ["85", "120", *TYPED[2:]]])
                     said(it, texts["differs_blind"])
+                    # The first Enter may be that of the next slip.
+                    it.keys(ENTER)
+                    self.assertEqual((it.run(FIELD), it.text("#stopped-typed")),
+                                     ("stopped-compare", texts["typed_for_nothing"]))
                     it.keys(ENTER)
                     it.type("#query input[name=note]", "120 and 85")
                     it.keys(ENTER)
@@ -444,7 +448,7 @@ class TypedSlips(TypedCase):
                                   {"text": str(file)})
                     it.click("#import button")
                     said(it, texts["trial_said"])
-                    it.click("#import button")
+                    it.click("#trial-import")
                     reason = place(texts["row_bad_number"], column="spoiled")
                     said(it, place(texts["imported_first"], line=2, reason=reason).strip())
 

@@ -71,18 +71,21 @@ office_room_bytes{part="room",of="/var/ñ"} 7
 
     def test_what_is_usual(self):
         self.assertEqual(self.configured(""), {
-            "seen": "", "record": None, "pages": None, "certificate": None, "room": [],
-            "office": []})
+            "seen": "", "record": None, "pages": None, "certificate": None, "hour": None,
+            "room": [], "office": []})
         self.assertEqual(self.configured(
             'seen = "s"\n[record]\nfile = "r"\n[pages]\nfolder = "p"\n[certificate]\nfile = "c"\n'
-            '[[room]]\nfolder = "/"\n[[office]]\nname = "1"\n[[office]]\nname = "2"\nseconds = 0\n'
+            '[hour]\nfile = "h"\n[[room]]\nfolder = "/"\n'
+            '[[office]]\nname = "1"\n[[office]]\nname = "2"\nseconds = 0\n'
             ), {
                 "seen": "s", "record": {"file": "r", "head": ""},
                 "pages": {"folder": "p", "seconds": 120},
                 "certificate": {"file": "c", "days": 14, "site": ""},
+                "hour": {"file": "h", "site": ""},
                 "room": [{"folder": "/", "megabytes": 512}],
                 "office": [{"name": name, "desk": "", "closed_to": "", "rules": "", "reader": "",
-                            "reader_port": "", "recorder": "", "backups": "", "seconds": seconds}
+                            "reader_port": "", "recorder": "", "backups": "", "elsewhere": "",
+                            "seconds": seconds}
                            for name, seconds in (("1", 1800), ("2", 0))]})
 
     def test_faults_of_the_file(self):
@@ -105,8 +108,9 @@ office_room_bytes{part="room",of="/var/ñ"} 7
             self.status.read_config(Path("none.toml"))
 
     def test_what_of_an_office_is_looked_at(self):
-        """All that is named. A port is tried where somebody is named who may not reach it."""
-        names = ("desk", "port", "reader", "recorder", "backup")
+        """All that is named. A port is tried where somebody is named who may not reach it; what was
+        sent elsewhere is in a file beside the copies."""
+        names = ("desk", "port", "reader", "recorder", "backup", "sent")
         self.enterContext(mock.patch.multiple(self.status.looks, **{
             f"look_at_{name}": lambda *words, name=name: (name, *words) for name in names}))
         empty = self.configured('[[office]]\nname = "1"')["office"][0]
@@ -119,7 +123,9 @@ office_room_bytes{part="room",of="/var/ñ"} 7
                  [("port", "p", "u", "", "1", "reader_port")]),
                 ({"reader": "s"}, [("reader", "s", "1")]),
                 ({"recorder": "s"}, [("recorder", "s", "1")]),
-                ({"backups": "b"}, [("backup", "b", 1800, "1", {})])):
+                ({"elsewhere": "e"}, []), ({"backups": "b"}, [("backup", "b", 1800, "1", {})]),
+                ({"backups": "b", "elsewhere": "e", "seconds": 7},
+                 [("backup", "b", 7, "1", {}), ("sent", "e", "b", 7, "1")])):
             with self.subTest(changes=changes):
                 self.assertEqual(list(self.status.look_at_office(empty | changes, {})), wanted)
 
@@ -128,10 +134,11 @@ office_room_bytes{part="room",of="/var/ñ"} 7
         found = lambda part: lambda *words: looks.Found(part, True, "", numbers=words)
         self.enterContext(mock.patch.multiple(looks, **{
             f"look_at_{part}": found(part)
-            for part in ("desk", "recorder", "record", "pages", "room", "certificate", "acts")}))
+            for part in ("desk", "recorder", "record", "pages", "room", "certificate", "hour",
+                         "acts")}))
         config = self.configured(
             '[record]\nfile = "r"\n[pages]\nfolder = "p"\n'
-            '[certificate]\nfile = "c"\nsite = "s"\n'
+            '[certificate]\nfile = "c"\nsite = "s"\n[hour]\nfile = "h"\nsite = "s"\n'
             '[[room]]\nfolder = "/"\n[[room]]\nfolder = "/var"\n'
             '[[office]]\nname = "1"\ndesk = "d"\nrecorder = "/run/1.sock"\n'
             '[[office]]\nname = "2"\nrecorder = "/run/2.sock"\n'
@@ -140,8 +147,11 @@ office_room_bytes{part="room",of="/var/ñ"} 7
         parts = self.status.look(config, seen)
         self.assertEqual([one.part for one in parts], [
             "desk", "recorder", "recorder", "desk", "recorder", "record", "acts", "pages", "room",
-            "room", "certificate"])
-        self.assertEqual(parts[-1].numbers, ("c", 14, "s"))
+            "room", "certificate", "hour"])
+        self.assertEqual([one.numbers for one in parts[-2:]], [("c", 14, "s"), ("h", "s")])
+        # Under no name the proxy is asked for no hour.
+        config["hour"]["site"] = ""
+        self.assertNotIn("hour", [one.part for one in self.status.look(config, {"acts": {}})])
         # Of an office whose desk is named, and that has acts.
         self.assertEqual(parts[6].numbers[:2], ("d", "1"))
         self.assertEqual(seen["acts"], {"1": {"/station/s1": [1, 2]},

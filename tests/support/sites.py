@@ -85,6 +85,7 @@ class OfSites(Case):
         elif name == "password":
             with open(Path(env["PASSWORDS"]) / "staff.htpasswd", "a", encoding="utf-8") as file:
                 file.write(f"{words[2]}:x\n")
+                os.fchmod(file.fileno(), 0o640)
             return f"{words[2]} secret\n", ""
         elif name == "embargo":
             hour = "2099-11-29T20:00:00+01:00" if words[1] != "now" else "2020-01-01T00:00:00Z"
